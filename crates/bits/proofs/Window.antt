@@ -72,12 +72,13 @@ bitsAt-field s p w n r acc h en e =
 pub bitsAt-word : (s : List ℕ) (q a b c d : ℕ) → a ≡ getD s q 0 → b ≡ getD s (q + 1) 0 → c ≡ getD s (q + 2) 0 → d ≡ getD s (q + 3) 0 → a < 256 → b < 256 → c < 256 → d < 256
     → ((a * 256 + b) * 256 + c) * 256 + d ≡ bitsAt s (q * 8) 32
 bitsAt-word s q a b c d ea eb ec ed ha hb hc hd =
-    omega
-    (arith,
-    bitsAt-whole s q (omega arith),
-    bitsAt-more s q 1 16 (omega arith) (omega arith),
-    bitsAt-more s q 2 24 (omega arith) (omega arith),
-    bitsAt-more s q 3 32 (omega arith) (omega arith))
+    omega (
+      arith,
+      bitsAt-whole s q (omega arith),
+      bitsAt-more s q 1 16 (omega arith) (omega arith),
+      bitsAt-more s q 2 24 (omega arith) (omega arith),
+      bitsAt-more s q 3 32 (omega arith) (omega arith),
+    )
 
 pub bitsAt-same : (s : List ℕ) (p m n : ℕ) → m ≡ n → bitsAt s p m ≡ bitsAt s p n
 bitsAt-same s p m n e = rw e refl
