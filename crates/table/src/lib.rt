@@ -1,0 +1,1 @@
+// The action table of an accepted record, filled once.
