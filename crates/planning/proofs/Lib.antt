@@ -3,4 +3,7 @@ pub mod Tests
 pub mod Checks
 pub mod Below
 pub mod Graph
+pub mod Facts
 pub mod Steps
+pub mod Fields
+pub mod Formed

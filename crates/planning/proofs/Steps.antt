@@ -1,37 +1,14 @@
--- Lists of facts, steps and runs. A state is a test, so every law is pointwise; the mode (which variables act as black) is a
--- parameter, so that one law covers the relaxed, the red-black and the real run.
+-- Steps and runs. A state is a test, so every law is pointwise; the mode (which variables act as black) is a parameter, so that
+-- one law covers the relaxed, the red-black and the real run.
 use Prim.Native.Nat.{ℕ}
 use mathlib.Core.Logic.{_⊎_, inl, inr}
-use mathlib.Core.Bool.{not, _&&_, _||_}
+use mathlib.Core.Bool.{not, _&&_}
 use mathlib.Core.List.{List, [], _∷_}
-use lib.Dec.{T, eqb, eqb→eq, eqb-refl}
-use Rattle.planning.specs.Record.{Fact, Action}
+use lib.Dec.{T}
+use Rattle.planning.specs.Record.{Action}
 use Rattle.planning.specs.Runs.{State, has, touches, holds, Mode, step, run, runs}
 use Rattle.planning.proofs.Tests.{or-l, or-r, or-cases, and-l, and-r, and-i, not-and-i, not-and-e}
-abbrev pub _⊆_ : State → State → Type 0
-s ⊆ t = (v d : ℕ) → T (s v d) → T (t v d)
-
-infix 4 _⊆_
-
--- the list's test is inclusion
-pub holds→sub : (s : State) (fs : List Fact) → T (holds s fs) → has fs ⊆ s
-unfolding holds has
-holds→sub s [] h v d t = absurd t
-holds→sub s (f ∷ fs) h v d t = go (or-cases (eqb v (f .var) && eqb d (f .val)) (has fs v d) t) (holds→sub s fs (and-r (s (f .var) (f .val)) (holds s fs) h) v d)
-  where
-    go : T (eqb v (f .var) && eqb d (f .val)) ⊎ T (has fs v d) → (T (has fs v d) → T (s v d)) → T (s v d)
-    go (inl e) k =
-        let p = eqb→eq v (f .var) (search (and-l, and-r)) in
-        let q = eqb→eq d (f .val) (search (and-l, and-r)) in
-        rw (p, q) (search (and-l, and-r))
-    go (inr u) k = k u
-
-pub sub→holds : (s : State) (fs : List Fact) → has fs ⊆ s → T (holds s fs)
-unfolding holds has
-sub→holds s [] h = tt
-sub→holds s (f ∷ fs) h =
-    let k = sub→holds s fs (λ v d t. h v d (search (or-l, or-r))) in
-    search (and-i, or-l, or-r, eqb-refl, h)
+use Rattle.planning.proofs.Facts.{_⊆_, holds→sub, sub→holds}
 
 -- the three facts about a step
 pub step-eff : (m : Mode) (a : Action) (s : State) → has (a .eff) ⊆ step m a s
@@ -49,15 +26,6 @@ step-cases m a s v d t = go (or-cases (has (a .eff) v d) (s v d && not (m v && t
     go : T (has (a .eff) v d) ⊎ T (s v d && not (m v && touches (a .eff) v)) → T (has (a .eff) v d) ⊎ (T (s v d) × (T (m v) → T (touches (a .eff) v) → ⊥))
     go (inl e) = inl e
     go (inr e) = inr (search (and-l, and-r), not-and-e (m v) (touches (a .eff) v) (search (and-l, and-r)))
-
-pub has→touches : (fs : List Fact) (v d : ℕ) → T (has fs v d) → T (touches fs v)
-unfolding has touches
-has→touches [] v d t = t
-has→touches (f ∷ fs) v d t = go (or-cases (eqb v (f .var) && eqb d (f .val)) (has fs v d) t) (has→touches fs v d)
-  where
-    go : T (eqb v (f .var) && eqb d (f .val)) ⊎ T (has fs v d) → (T (has fs v d) → T (touches fs v)) → T (eqb v (f .var) || touches fs v)
-    go (inl e) k = search (or-l, and-l)
-    go (inr e) k = search (or-r, k)
 
 -- monotonicity, over the mode and the state at once
 pub step-at : (m n : Mode) (a : Action) (s t : State) (v d : ℕ) → (T (n v) → T (m v)) → (T (s v d) → T (t v d)) → T (step m a s v d) → T (step n a t v d)
