@@ -7,3 +7,4 @@ pub mod Facts
 pub mod Steps
 pub mod Fields
 pub mod Formed
+pub mod Plans
