@@ -6,14 +6,14 @@ use mathlib.Core.Logic.{_⊎_, inl, inr}
 use mathlib.Core.Bool.{_&&_}
 use mathlib.Core.List.{List, [], _∷_, _++_}
 use mathlib.Core.Option.{Option, none, some}
-use lib.Dec.{T, eqb, eqb→eq, leb, ltb, leb→le, ltb→lt}
+use lib.Dec.{T, eqb, eqb→eq, eqb-refl, leb, ltb, leb→le, ltb→lt, lt→ltb}
 use lib.ListN.{length, getD}
 use native.Mathlib.Omega.{arith}
 use native.Mathlib.Decide.{decLt}
 use Rattle.planning.specs.Basics.{Check, check, bitsAt}
 use Rattle.planning.specs.Record.{Fact, Action, Variable, Task, variablesIn, actionsIn, goalOf, variableAt, factsAt, preconditionsIn, effectsIn, effectsFrom, actionEnd, actionAt, actionsEnd, taskOf, headerChecks, goalFits, variableChecks, variablesChecks, countIn, factsChecks, actionChecks, actionsChecks, endsAt, recordEnd, recordChecks, recordCheck}
-use Rattle.planning.specs.Runs.{has, noVariable, noAction, variables, actions, variable, act, count, goalsFrom, goals}
-use Rattle.planning.proofs.Tests.{or-cases, and-l, and-r}
+use Rattle.planning.specs.Runs.{has, noVariable, noAction, variables, actions, variable, act, count, initial, goalsFrom, goals}
+use Rattle.planning.proofs.Tests.{or-cases, and-l, and-r, and-i}
 use Rattle.planning.proofs.Checks.{check-none, Passed, inOrder-passed, passed-++}
 use Rattle.planning.proofs.Facts.{Func}
 use Rattle.planning.proofs.Fields.{bitsAt-below, factsAt-length, actionStart, taskOf-variables, taskOf-actions, taskOf-variable, taskOf-act, taskOf-count, variable-past, act-past}
@@ -219,3 +219,12 @@ goalsFrom-sorted n count v low (x ∷ xs) h b f =
 pub goals-sorted : (t : Task) → Formed t → Sorted (variables t) (count t) 0 (goals t)
 unfolding goals variable
 goals-sorted t F = goalsFrom-sorted (variables t) (count t) 0 0 (t .vars) (omega arith) (omega arith) (λ k g _ e. subst (λ y. g < count t y) (omega arith) (F .goal-below k g e))
+
+-- the initial state holds the initial value of each variable, and nothing else
+pub initial-holds : (t : Task) (v : ℕ) → v < variables t → T (initial t v (variable t v .init))
+unfolding initial
+initial-holds t v b = and-i (ltb v (variables t)) (eqb (variable t v .init) (variable t v .init)) (lt→ltb v (variables t) b) (eqb-refl (variable t v .init))
+
+pub initial-elim : (t : Task) (v d : ℕ) → T (initial t v d) → (v < variables t) × (d ≡ variable t v .init)
+unfolding initial
+initial-elim t v d h = (ltb→lt v (variables t) (search and-l), eqb→eq d (variable t v .init) (search and-r))

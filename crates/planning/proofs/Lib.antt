@@ -8,3 +8,4 @@ pub mod Steps
 pub mod Fields
 pub mod Formed
 pub mod Plans
+pub mod Forward
