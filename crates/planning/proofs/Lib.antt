@@ -9,3 +9,4 @@ pub mod Fields
 pub mod Formed
 pub mod Plans
 pub mod Forward
+pub mod Achievers
