@@ -10,3 +10,10 @@ pub mod Formed
 pub mod Plans
 pub mod Forward
 pub mod Achievers
+pub mod Arcs
+pub mod Walks
+pub mod Pass
+pub mod Fill
+pub mod Short
+pub mod Conn
+pub mod Order
