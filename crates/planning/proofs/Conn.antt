@@ -10,21 +10,20 @@ use Rattle.planning.specs.Runs.{State, has, touches, Mode, step, relaxed
 use Rattle.planning.proofs.Tests.{T-cases}
 use Rattle.planning.proofs.Facts.{_⊆_, has→touches, touches→has}
 use Rattle.planning.proofs.Steps.{step-eff, step-keep, step-cases, step-mono}
+use Rattle.planning.proofs.Arcs.{Arc}
 use Rattle.planning.proofs.Walks.{Walk, walk-map, walk-append, Usable, stop, move}
 use Rattle.planning.proofs.Fill.{Sound}
-
-abbrev pub Arc : (ℕ → Action) → ℕ → ℕ → ℕ → ℕ → Type 0
-Arc act i v d e = T (has (act i .eff) v e) × ((x : ℕ) → T (has (act i .pre) v x) → x ≡ d)
+use Rattle.planning.proofs.Known.{_≈_}
 
 module _ (act : ℕ → Action) (A : ℕ) (m : Mode) (count : ℕ → ℕ) where
   pub record Returns (v i d e : ℕ) : Type 0 where
     pub by : ℕ
     pub below : by < A
-    pub arc : Arc act by v e d
+    pub arc : Arc act v by e d
     pub cond : (u x : ℕ) → u ≢ v → T (has (act by .pre) u x) → T (has (act i .pre) u x) ⊎ T (has (act i .eff) u x)
 
   abbrev pub Invertible : Type 0
-  Invertible = (v i d e : ℕ) → T (m v) → i < A → d < count v → d ≢ e → Arc act i v d e → Returns v i d e
+  Invertible = (v i d e : ℕ) → T (m v) → i < A → d < count v → Arc act v i d e → Returns v i d e
 
   pub record Inv (s W : State) : Type 0 where
     pub ins : s ⊆ W
@@ -35,6 +34,21 @@ module _ (act : ℕ → Action) (A : ℕ) (m : Mode) (count : ℕ → ℕ) where
 
   abbrev pub Conn : State → Type 0
   Conn W = (v c d : ℕ) → T (m v) → T (W v c) → T (W v d) → (p : List ℕ) × Walk act (Usable act A W v) v c p d
+
+  -- both speak of the facts of W only
+  pub inv-same : (s W X : State) → W ≈ X → Inv s W → Inv s X
+  inv-same s W X e I = record {
+    ins = λ v d h. e .0 v d (I .ins v d h);
+    reds = λ u x r h. I .reds u x r (e .1 u x h);
+    single = I .single;
+    ranged = λ v c h. I .ranged v c (e .1 v c h);
+    val = I .val;
+  }
+
+  pub conn-same : (W X : State) → W ≈ X → Conn W → Conn X
+  conn-same W X e C v c d mv h g =
+      let p = C v c d mv (e .1 v c h) (e .1 v d g) in
+      (p .0, walk-map (Usable act A X v) (λ i u. record { below = u .below; met = λ x y z. e .0 x y (u .met x y z); sets = u .sets }) (p .1))
 
   module _ (S : Sound act A m) (range : (i v e : ℕ) → i < A → T (has (act i .eff) v e) → e < count v) (i : ℕ) (below : i < A) (s W : State) (met : has (act i .pre) ⊆ s) (I : Inv s W) where
     pub inv-step : Inv (step m (act i) s) (step relaxed (act i) W)
@@ -73,15 +87,15 @@ module _ (act : ℕ → Action) (A : ℕ) (m : Mode) (count : ℕ → ℕ) where
 
       back-met : (v c e : ℕ) → T (has (act i .eff) v e) → (r : Returns v i c e) → (u x : ℕ) → T (has (act (r .by) .pre) u x) → Dec (u ≡ v) → T ((step relaxed (act i) W) u x)
       back-met v c e k r u x g (yes q) =
-          let y = r .arc .1 x (rw q at g) in
+          let y = r .arc .from x (rw q at g) in
           rw (q, y) (step-eff relaxed (act i) W v e k)
       back-met v c e k r u x g (no q) = elim (r .cond u x q g) [ inl h ↦ grow u x (I .ins u x (met u x h)) | inr h ↦ step-eff relaxed (act i) W u x h ]
 
       back : (v c e : ℕ) → T (m v) → T (s v c) → T (has (act i .eff) v e) → Dec (c ≡ e) → (p : List ℕ) × Walk act (Usable act A (step relaxed (act i) W) v) v e p c
       back v c e mv h k (yes q) = ([], subst (λ z. Walk act (Usable act A (step relaxed (act i) W) v) v z [] c) q stop)
       back v c e mv h k (no q) =
-          let r = R v i c e mv below (I .ranged v c (I .ins v c h)) q (k, λ x g. I .single v x c mv (met v x g) h) in
-          (r .by ∷ [], move (record { below = r .below; met = λ u x g. back-met v c e k r u x g (ℕ-discrete u v); sets = has→touches (act (r .by) .eff) v c (r .arc .0) }) (r .arc .1) (r .arc .0) stop)
+          let r = R v i c e mv below (I .ranged v c (I .ins v c h)) (record { from = λ x g. I .single v x c mv (met v x g) h; into = k; leaves′ = q }) in
+          (r .by ∷ [], move (record { below = r .below; met = λ u x g. back-met v c e k r u x g (ℕ-discrete u v); sets = has→touches (act (r .by) .eff) v c (r .arc .into) }) (r .arc .from) (r .arc .into) stop)
 
       Step : ℕ → ℕ → Type 0
       Step v c = T (has (act i .eff) v c) ⊎ T (W v c)

@@ -15,5 +15,7 @@ pub mod Walks
 pub mod Pass
 pub mod Fill
 pub mod Short
+pub mod Known
 pub mod Conn
 pub mod Order
+pub mod Repair
