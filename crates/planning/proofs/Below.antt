@@ -66,6 +66,9 @@ first-is (suc n) p = go (first n p) (first-is n p)
     go (some i) h = let b : i < n = h .below in record { below = omega arith; passes = h .passes; least = h .least }
     go none h = pick (p n) refl h
 
+pub first-none : (n : ℕ) (p : ℕ → Bool) → first n p ≡ none → (i : ℕ) → i < n → T (p i) → ⊥
+first-none n p e = subst (First? n p) e (first-is n p)
+
 pub oneIf-le : (b : Bool) → oneIf b ≤ 1
 unfolding oneIf
 oneIf-le true = omega arith

@@ -19,3 +19,4 @@ pub mod Known
 pub mod Conn
 pub mod Order
 pub mod Repair
+pub mod Painting
