@@ -20,3 +20,4 @@ pub mod Conn
 pub mod Order
 pub mod Repair
 pub mod Painting
+pub mod Demand3
