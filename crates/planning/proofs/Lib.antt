@@ -20,4 +20,5 @@ pub mod Conn
 pub mod Order
 pub mod Repair
 pub mod Painting
+pub mod Calls
 pub mod Demand3
