@@ -114,6 +114,11 @@ unfolding total
 total-le zero f g h = omega arith
 total-le (suc n) f g h = omega (arith, total-le n f g (λ v k. h v (omega arith)), h n (omega arith))
 
+pub total-max : (n c : ℕ) (f : ℕ → ℕ) → ((v : ℕ) → f v ≤ c) → total n f ≤ n * c
+unfolding total
+total-max zero c f h = omega arith
+total-max (suc n) c f h = omega (arith, total-max n c f h, h n)
+
 pub total-lt : (n : ℕ) (f g : ℕ → ℕ) → ((v : ℕ) → v < n → f v ≤ g v) → (v : ℕ) → v < n → f v < g v → total n f < total n g
 unfolding total
 total-lt zero f g h v k l = absurd (omega arith)

@@ -20,5 +20,6 @@ pub mod Conn
 pub mod Order
 pub mod Repair
 pub mod Painting
+pub mod Sizes
 pub mod Calls
 pub mod Demand3
