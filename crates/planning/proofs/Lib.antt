@@ -1,1 +1,12 @@
 pub mod Examples
+pub mod Tests
+pub mod Checks
+pub mod Below
+pub mod Graph
+pub mod Facts
+pub mod Steps
+pub mod Fields
+pub mod Formed
+pub mod Plans
+pub mod Forward
+pub mod Achievers
