@@ -3,6 +3,7 @@ ghost use mathlib.Core.Path.{_≡_};
 ghost use Prim.Native.Nat.{_+_, _-_, _*_, _<_, _≤_};
 ghost use lib.ListN.{length};
 ghost use Rattle.planning.specs.Basics.{bitsAt};
+ghost use Rattle.bits.specs.Answers.{refusalOf};
 
 fn wide(x: u8) -> u64
     ensures { λ r. ⌜ (r ≡ x) × (r < 256) ⌝ }
@@ -45,4 +46,29 @@ pub fn read_bits(bytes: &[u8], at: usize, width: usize) -> u64
     }
     let end = (at + width + 7) / 8;
     (bytes_between(bytes, j, end) >> (end * 8 - at - width)) % (1 << width)
+}
+
+// The number and the place of a refusal.
+pub struct Refusal {
+    pub number: u8,
+    pub place: u32,
+}
+
+// What a check finds: a number, or the refusal.
+pub enum Read {
+    Value(u32),
+    Refused(Refusal),
+}
+
+// The refusal of an answer that has one.
+pub fn refusal_of(r: Read) -> Refusal
+    ensures { λ f. ⌜ f ≡ refusalOf r ⌝ }
+{
+    let Read::Refused(f) = r else {
+        return Refusal {
+            number: 0,
+            place: 0,
+        };
+    };
+    f
 }

@@ -5,7 +5,7 @@ use mathlib.Core.Path.{_≡_, refl}
 use mathlib.Core.Bool.{Bool, true, false}
 use mathlib.Core.List.{List, [], _∷_}
 use Rattle.planning.specs.Basics.{Answer, refused, done, check, andThen, inOrder, answer, bitAt, bitsAt, holdsField, someBelow, oneIf, tally, first, total, refuseAt, reach}
-use Rattle.planning.specs.Record.{variablesIn, actionsIn, goalOf, variableAt, variablesAt, factsAt, preconditionsIn, effectsIn, effectsFrom, actionEnd, actionAt, actionsAt, actionsEnd, taskOf, fieldCheck, headerChecks, goalFits, variableChecks, variablesChecks, countIn, factsChecks, actionChecks, actionsChecks, endsAt, recordEnd, recordChecks, recordCheck}
+use Rattle.planning.specs.Record.{variablesIn, actionsIn, goalOf, variableAt, variablesAt, factsAt, preconditionsIn, effectsIn, effectsFrom, actionEnd, actionAt, actionsAt, actionsEnd, taskOf, fieldCheck, headerChecks, goalFits, variableChecks, variablesChecks, countIn, factChecks, factsChecks, actionChecks, actionsChecks, endsAt, recordEnd, recordChecks, recordCheck}
 use Rattle.planning.specs.Runs.{has, touches, look, holds, step, variable, act, count, black, initial, goalsFrom, goals, run, runs, stepsRun, allBelow, isPlan, size, factsIn, costOf}
 use Rattle.planning.specs.Relaxed.{adds, forward, addable, forwardRun, forwardEnd, solvable, factsReached, firstBy, is, reachedNeeded, keep, relaxedPlan}
 use Rattle.planning.specs.Painting.{causalArc, blackArc, onCycle, cyclic, fits, leaves, orZero, target, arcFrom, outside, returnBy, lacksReturn, unreturned, acyclicCheck, returnCheck}
@@ -75,5 +75,5 @@ pub starred :
     ∷ record { number = 1; place = 0; list = 65535 ∷ 65535 ∷ []; cost = 0; real = false; runs = 0 }
     ∷ record { number = 0; place = 0; list = 65535 ∷ 65535 ∷ []; cost = 0; real = true; runs = 0 }
     ∷ record { number = 0; place = 0; list = 0 ∷ 1 ∷ []; cost = 2; real = false; runs = 1 } ∷ [])
-unfolding called outcome check andThen inOrder answer bitAt bitsAt holdsField someBelow oneIf tally first total refuseAt reach variablesIn actionsIn goalOf variableAt variablesAt factsAt preconditionsIn effectsIn effectsFrom actionEnd actionAt actionsAt actionsEnd taskOf fieldCheck headerChecks goalFits variableChecks variablesChecks countIn factsChecks actionChecks actionsChecks endsAt recordEnd recordChecks recordCheck has touches look holds step variable act count black initial goalsFrom goals run runs stepsRun allBelow isPlan size factsIn costOf adds forward addable forwardRun forwardEnd solvable factsReached firstBy is reachedNeeded keep relaxedPlan causalArc blackArc onCycle cyclic fits leaves orZero target arcFrom outside returnBy lacksReturn unreturned acyclicCheck returnCheck known also everAfter hop adjacent pathIn shortest toward after pass fill ready clientsFirst order value blackMet moves repairFrom repaired lent capacity capacityOf roomCheck solvableCheck planned planOf planCall planList twoShelves withoutOne withoutTwo lampOne lampTwo bothBlack goalMet tray
+unfolding called outcome check andThen inOrder answer bitAt bitsAt holdsField someBelow oneIf tally first total refuseAt reach variablesIn actionsIn goalOf variableAt variablesAt factsAt preconditionsIn effectsIn effectsFrom actionEnd actionAt actionsAt actionsEnd taskOf fieldCheck headerChecks goalFits variableChecks variablesChecks countIn factChecks factsChecks actionChecks actionsChecks endsAt recordEnd recordChecks recordCheck has touches look holds step variable act count black initial goalsFrom goals run runs stepsRun allBelow isPlan size factsIn costOf adds forward addable forwardRun forwardEnd solvable factsReached firstBy is reachedNeeded keep relaxedPlan causalArc blackArc onCycle cyclic fits leaves orZero target arcFrom outside returnBy lacksReturn unreturned acyclicCheck returnCheck known also everAfter hop adjacent pathIn shortest toward after pass fill ready clientsFirst order value blackMet moves repairFrom repaired lent capacity capacityOf roomCheck solvableCheck planned planOf planCall planList twoShelves withoutOne withoutTwo lampOne lampTwo bothBlack goalMet tray
 starred = refl

@@ -126,13 +126,16 @@ unfoldable pub countIn : List ℕ → ℕ → ℕ
 countIn s v = bitsAt s (22 + 20 * v) 6 + 1
 
 -- "5, first bit: a fact's variable not below V, or not rising"; "Within either list variables rise strictly."
--- n facts from bit p on, whose variables are to be at least low
+-- the fact at bit p, whose variable is to be at least low
+unfoldable pub factChecks : List ℕ → ℕ → ℕ → List Check
+factChecks s p low =
+    fieldCheck s p 6 ∷ check (ltb (bitsAt s p 6) (variablesIn s) && leb low (bitsAt s p 6)) 5 p
+    ∷ fieldCheck s (p + 6) 6 ∷ check (ltb (bitsAt s (p + 6) 6) (countIn s (bitsAt s p 6))) 4 (p + 6) ∷ []
+
+-- n facts from bit p on
 unfoldable pub factsChecks : List ℕ → ℕ → ℕ → ℕ → List Check
 factsChecks s p low zero = []
-factsChecks s p low (suc n) =
-    fieldCheck s p 6 ∷ check (ltb (bitsAt s p 6) (variablesIn s) && leb low (bitsAt s p 6)) 5 p
-    ∷ fieldCheck s (p + 6) 6 ∷ check (ltb (bitsAt s (p + 6) 6) (countIn s (bitsAt s p 6))) 4 (p + 6)
-    ∷ factsChecks s (p + 12) (bitsAt s p 6 + 1) n
+factsChecks s p low (suc n) = factChecks s p low ++ factsChecks s (p + 12) (bitsAt s p 6 + 1) n
 
 unfoldable pub actionChecks : List ℕ → ℕ → List Check
 actionChecks s p =
