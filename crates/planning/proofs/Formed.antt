@@ -11,7 +11,7 @@ use lib.ListN.{length, getD}
 use native.Mathlib.Omega.{arith}
 use native.Mathlib.Decide.{decLt}
 use Rattle.planning.specs.Basics.{Check, check, bitsAt}
-use Rattle.planning.specs.Record.{Fact, Action, Variable, Task, variablesIn, actionsIn, goalOf, variableAt, factsAt, preconditionsIn, effectsIn, effectsFrom, actionEnd, actionAt, actionsEnd, taskOf, headerChecks, goalFits, variableChecks, variablesChecks, countIn, factsChecks, actionChecks, actionsChecks, endsAt, recordEnd, recordChecks, recordCheck}
+use Rattle.planning.specs.Record.{Fact, Action, Variable, Task, variablesIn, actionsIn, goalOf, variableAt, factsAt, preconditionsIn, effectsIn, effectsFrom, actionEnd, actionAt, actionsEnd, taskOf, headerChecks, goalFits, variableChecks, variablesChecks, countIn, factChecks, factsChecks, actionChecks, actionsChecks, endsAt, recordEnd, recordChecks, recordCheck}
 use Rattle.planning.specs.Runs.{has, noVariable, noAction, variables, actions, variable, act, count, initial, goalsFrom, goals}
 use Rattle.planning.proofs.Tests.{or-cases, and-l, and-r, and-i}
 use Rattle.planning.proofs.Checks.{check-none, Passed, inOrder-passed, passed-++}
@@ -83,7 +83,7 @@ sorted-map n f g h low (x ∷ fs) S = (S .0, S .1, rw (h (x .var) (S .1)) at (S 
 
 -- the facts of a record whose checks pass
 factsChecks-sorted : (s : List ℕ) (p low n : ℕ) → Passed (factsChecks s p low n) → Sorted (variablesIn s) (countIn s) low (factsAt s p n)
-unfolding factsChecks factsAt
+unfolding factChecks factsChecks factsAt
 factsChecks-sorted s p low zero P = tt
 factsChecks-sorted s p low (suc n) P =
     let a = check-none (ltb (bitsAt s p 6) (variablesIn s) && leb low (bitsAt s p 6)) 5 p (P .1 .0) in
