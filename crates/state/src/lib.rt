@@ -93,13 +93,7 @@ pub fn holds(masks: &[u64; 64], sets: &[u64; 64], v: usize, x: usize) -> bool
 }
 
 // Each fact from place `from` up to `to` is in the state.
-pub fn all_hold(
-    masks: &[u64; 64],
-    sets: &[u64; 64],
-    facts: &[u16],
-    from: usize,
-    to: usize,
-) -> bool
+pub fn all_hold(masks: &[u64; 64], sets: &[u64; 64], facts: &[u16], from: usize, to: usize) -> bool
     requires { ⌜ (from ≤ to) × (to ≤ length (now facts)) × (now masks ≡ singles) × ((k : ℕ) → from ≤ k → k < to → getD (now facts) k 0 < 4096) ⌝ }
     ensures { λ r. ⌜ r ≡ holds (setsOf (now (sets .entry))) (factsIn (now (facts .entry)) from to) ⌝ }
 {
