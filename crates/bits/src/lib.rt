@@ -27,6 +27,14 @@ fn word(bytes: &[u8], j: usize) -> u64
         + wide(bytes[j + 3])
 }
 
+// The six bytes from byte j as one number: room for four fields of ten bits at any bit of the first byte.
+pub fn read_six(bytes: &[u8], j: usize) -> u64
+    requires { ⌜ j + 6 ≤ length (now bytes) ⌝ }
+    ensures { λ r. ⌜ r ≡ bitsAt (now (bytes .entry)) (j * 8) 48 ⌝ }
+{
+    (word(bytes, j) * 256 + wide(bytes[j + 4])) * 256 + wide(bytes[j + 5])
+}
+
 // The bytes from j up to end as one number: at most four.
 fn bytes_between(bytes: &[u8], j: usize, end: usize) -> u64
     requires { ⌜ (j ≤ end) × (end ≤ length (now bytes)) × (end ≤ j + 4) ⌝ }

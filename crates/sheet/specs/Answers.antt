@@ -1,10 +1,11 @@
 -- The answers of writing and reading a sheet, as the paper's number, place and values.
 use Prim.Native.Nat.{ℕ}
 use mathlib.Core.Bool.{Bool}
-use mathlib.Core.List.{List}
+use mathlib.Core.List.{List, [], _∷_, _++_}
 use mathlib.Core.Option.{Option, none, some}
-use Rattle.planning.specs.Basics.{Answer, refused, done}
-use Rattle.planning.specs.Sheet.{Sheet}
+use Rattle.planning.specs.Basics.{Check, check, inOrder, Answer, refused, done}
+use Rattle.planning.specs.Record.{endsAt}
+use Rattle.planning.specs.Sheet.{Sheet, sheetOf, sheetEnd, stepsIn, stepsChecks}
 use Rattle.planning.specs.Calls.{Read}
 use Rattle.sheet.specs.declared.Written.{Written}
 use Rattle.sheet.specs.declared.Written.the-variants as written
@@ -32,3 +33,14 @@ readingAs (reading.Refused f) = refused (f .number) (f .place)
 unfoldable pub faultAs : Fault → Option ℕ
 faultAs (fault.Entry i) = some i
 faultAs fault.Nothing = none
+
+abbrev pub declined : ℕ → ℕ → Answer Read
+declined n p = refused n p
+
+-- what a sheet's fields before the steps say of its plan
+unfoldable pub headingOf : List ℕ → Read
+headingOf s = heading (stepsIn s) (sheetOf s .cost) (sheetOf s .real)
+
+-- the checks from the first step on
+unfoldable pub endCheck : List ℕ → Check
+endCheck s = inOrder (stepsChecks s 53 (stepsIn s) ++ (check (endsAt s (sheetEnd (stepsIn s))) 12 (sheetEnd (stepsIn s)) ∷ []))
