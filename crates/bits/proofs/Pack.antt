@@ -2,12 +2,12 @@
 use mathlib.Core.Path.{_≡_, refl, sym, ap, _∙_}
 use mathlib.Core.List.{List, [], _∷_, _++_, append-assoc, append-nil}
 use Prim.Native.Nat.{ℕ, zero, suc, _+_, _-_, _*_, _/_, _%_, _^_, _<_, _≤_}
-use native.Mathlib.Nat.{pow-suc, add-zero, add-suc, zero-add, suc-add, add-comm, add-assoc, mul-assoc, mul-suc, mul-add-div-right}
+use native.Mathlib.Nat.{pow-suc, add-zero, add-suc, zero-add, suc-add, add-comm, add-assoc, mul-assoc, mul-suc, mul-add-div-right, zero-div}
 use native.Mathlib.Numerals.{add-one}
 use native.Mathlib.Omega.{arith}
 use lib.Pow.{mod-pow-add, shr-shr, high, pow-pos}
 use lib.ListN.{length, getD, take, drop, set}
-use lib.Seq.{paste, paste-suc, take-all}
+use lib.Seq.{paste, paste-suc, take-all, getD-drop}
 use Rattle.planning.specs.Sheet.{bitsOf, numberIn, packed}
 
 pub length-bitsOf : (w v : ℕ) → length (bitsOf w v) ≡ w
@@ -96,3 +96,33 @@ module _ (d e : List ℕ) (at n w v i : ℕ) (g : e ≡ paste d at (packed n (bi
 
   pub write-end : i ≡ n → e ≡ take at d ++ packed n (bitsOf w v) ++ drop (at + n) d
   write-end z = g ∙ rw (z, take-all n (packed n (bitsOf w v)) (rw length-packed (omega arith))) refl
+
+-- Lists of bits that agree at every place, a missing bit being 0: the same bytes are packed from both.
+abbrev pub Same : List ℕ → List ℕ → Type 0
+Same xs bs = (k : ℕ) → getD xs k 0 ≡ getD bs k 0
+
+same-drop : (n : ℕ) (xs bs : List ℕ) → Same xs bs → Same (drop n xs) (drop n bs)
+same-drop n xs bs h k = getD-drop n xs k 0 ∙ h (n + k) ∙ sym (getD-drop n bs k 0)
+
+pub numberIn-same : (w : ℕ) (xs bs : List ℕ) → Same xs bs → numberIn w xs ≡ numberIn w bs
+unfolding numberIn
+numberIn-same zero xs bs h = refl
+numberIn-same (suc w) xs bs h = rw (h 0, numberIn-same w (drop 1 xs) (drop 1 bs) (same-drop 1 xs bs h)) refl
+
+pub packed-same : (n : ℕ) (xs bs : List ℕ) → Same xs bs → packed n xs ≡ packed n bs
+unfolding packed
+packed-same zero xs bs h = refl
+packed-same (suc n) xs bs h =
+    rw (numberIn-same 8 xs bs h, packed-same n (drop 8 xs) (drop 8 bs) (same-drop 8 xs bs h)) refl
+
+pub same-prefix : (r xs bs : List ℕ) → Same xs bs → Same (r ++ xs) (r ++ bs)
+same-prefix [] xs bs h k = h k
+same-prefix (x ∷ r) xs bs h zero = refl
+same-prefix (x ∷ r) xs bs h (suc k) = same-prefix r xs bs h k
+
+-- zero bits add nothing
+pub same-zeros : (w : ℕ) (xs : List ℕ) → Same xs [] → Same (bitsOf w 0 ++ xs) []
+unfolding bitsOf
+same-zeros zero xs h k = h k
+same-zeros (suc w) xs h zero = rw zero-div refl
+same-zeros (suc w) xs h (suc k) = same-zeros w xs h k

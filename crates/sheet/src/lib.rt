@@ -65,7 +65,7 @@ fn size_for(list: &[u16], room: usize) -> Written
             place: i as u32,
         });
     }
-    let size = (60 + 10 * list.len()) / 8;
+    let size = (53 + 10 * list.len() + 7) / 8;
     if room < size {
         return Written::Refused(Refusal {
             number: 11,
@@ -76,7 +76,7 @@ fn size_for(list: &[u16], room: usize) -> Written
 }
 
 fn one_if(b: bool) -> u64
-    ensures { λ r. ⌜ r ≡ oneIf b ⌝ }
+    ensures { λ r. ⌜ (r ≡ oneIf b) × (r < 2) ⌝ }
 {
     if b { 1 } else { 0 }
 }
@@ -97,7 +97,8 @@ fn four_steps(list: &[u16], i: usize, five: u64) -> u64
         + wide(list[i + 3])
 }
 
-fn step_or_zero(list: &[u16], i: usize) -> u64
+// The step at i, 0 behind the list.
+fn step_at(list: &[u16], i: usize) -> u64
     ensures { λ r. ⌜ (r ≡ getD (now (list .entry)) i 0) × (r < 65536) ⌝ }
 {
     if i < list.len() { wide(list[i]) } else { 0 }
@@ -108,8 +109,8 @@ fn last_steps(list: &[u16], i: usize, five: u64) -> u64
     requires { ⌜ (five < 32) × (i ≤ 32768) × (length (now list) < i + 4) × ((k : ℕ) → getD (now list) k 0 < 1024) ⌝ }
     ensures { λ r. ⌜ ((n : ℕ) → packed n (bitsOf 40 r) ≡ packed n (bitsOf 5 five ++ stepBits (drop i (now (list .entry))))) ⌝ }
 {
-    (((five * 1024 + step_or_zero(list, i)) * 1024 + step_or_zero(list, i + 1)) * 1024
-        + step_or_zero(list, i + 2))
+    (((five * 1024 + step_at(list, i)) * 1024 + step_at(list, i + 1)) * 1024
+        + step_at(list, i + 2))
         * 32
 }
 

@@ -1,0 +1,10 @@
+use Rattle.sheet.proofs.refused.Statement.{statement}
+use Rattle.sheet.proofs.refused.Tie as tie
+use Rattle.sheet.proofs.refused.Reads as reads
+use Rattle.sheet.proofs.refused.Lts as lts
+
+returns : tie.Need-returns
+returns c = ?
+
+pub refused-spec : {M : Type 1} → statement M
+refused-spec = tie.close (tie.spec returns)
