@@ -39,7 +39,7 @@ bitsOf-low (suc m) a b =
 pub bitsOf-add : (n m a b : ℕ) → b < 2 ^ m → bitsOf (n + m) (a * 2 ^ m + b) ≡ bitsOf n a ++ bitsOf m b
 bitsOf-add n m a b h = rw (bitsOf-split n m (a * 2 ^ m + b), high a m h, bitsOf-low m a b) refl
 
-drop-bitsOf : (w v : ℕ) (r : List ℕ) → drop w (bitsOf w v ++ r) ≡ r
+pub drop-bitsOf : (w v : ℕ) (r : List ℕ) → drop w (bitsOf w v ++ r) ≡ r
 unfolding bitsOf
 drop-bitsOf zero v r = refl
 drop-bitsOf (suc w) v r = drop-bitsOf w v r

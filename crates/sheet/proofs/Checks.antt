@@ -1,6 +1,6 @@
 -- Which of the checks refuses, from the facts that the code tests.
 use mathlib.Core.Path.{_≡_, refl, sym, ap, _∙_}
-use mathlib.Core.Bool.{Bool, true, false}
+use mathlib.Core.Bool.{Bool, true, false, _&&_}
 use mathlib.Core.List.{List, [], _∷_, _++_}
 use mathlib.Core.Option.{Option, none, some}
 use Prim.Native.Nat.{ℕ, zero, suc, _+_, _-_, _*_, _/_, _%_, _^_, _<_, _≤_, min}
@@ -117,3 +117,89 @@ module _ (s : List ℕ) (h : 53 + 10 * stepsIn s ≤ 8 * length s) where
 pub end-cut : (s : List ℕ) → 7 ≤ length s → 8 * length s < 53 + 10 * stepsIn s → endCheck s ≡ refuse 12 (53 + (8 * length s - 53) / 10 * 10)
 unfolding endCheck
 end-cut s l h = steps-cut s 53 (stepsIn s) _ (omega arith) h
+
+-- What a check's outcome makes of an answer, and back.
+module _ {A : Type 0} (a : A) where
+  pub refuses : (k : Check) (n p : ℕ) → k ≡ refuse n p → answer k a ≡ refused n p
+  unfolding answer
+  refuses k n p e = rw e refl
+
+  pub passes : (k : Check) → k ≡ none → answer k a ≡ done a
+  unfolding answer
+  passes k e = rw e refl
+
+  pub passed : (k : Check) (b : A) → answer k a ≡ done b → (k ≡ none) × (b ≡ a)
+  unfolding answer
+  passed none b e = (refl, cc)
+  passed (some f) b e = let u : _≡_ {A = ℕ} 0 1 = cc in absurd (omega arith)
+
+  pub refused-first : (k d : Check) (b : A) (n p : ℕ) → answer k a ≡ refused n p → answer (andThen k d) b ≡ refused n p
+  unfolding answer andThen
+  refused-first none d b n p e = let u : _≡_ {A = ℕ} 0 1 = cc in absurd (omega arith)
+  refused-first (some f) d b n p e = e
+
+-- what holds of a sheet that is accepted
+pub record Accepted (s : List ℕ) : Type 0 where
+  pub edition : bitsAt s 0 4 ≡ 1
+  pub few : stepsIn s ≤ 32768
+  pub ends : length s ≡ (53 + 10 * stepsIn s + 7) / 8
+  pub padding : bitsAt s (53 + 10 * stepsIn s) (8 * length s - (53 + 10 * stepsIn s)) ≡ 0
+
+check-true : (b : Bool) (n p : ℕ) → check b n p ≡ none → b ≡ true
+unfolding check
+check-true true n p e = refl
+check-true false n p e = let u : _≡_ {A = ℕ} 0 1 = cc in absurd (omega arith)
+
+first-none : (k d : Check) → andThen k d ≡ none → (k ≡ none) × (d ≡ none)
+unfolding andThen
+first-none none d e = (refl, e)
+first-none (some f) d e = let u : _≡_ {A = ℕ} 0 1 = cc in absurd (omega arith)
+
+head-none : (k : Check) (ks : List Check) → inOrder (k ∷ ks) ≡ none → k ≡ none
+unfolding inOrder
+head-none k ks e = first-none k (inOrder ks) e .0
+
+tail-none : (k : Check) (ks : List Check) → inOrder (k ∷ ks) ≡ none → inOrder ks ≡ none
+unfolding inOrder
+tail-none k ks e = first-none k (inOrder ks) e .1
+
+rest-none : (ks ls : List Check) → inOrder (ks ++ ls) ≡ none → inOrder ls ≡ none
+rest-none [] ls e = e
+rest-none (k ∷ ks) ls e = rest-none ks ls (tail-none k (ks ++ ls) e)
+
+both : (a b : Bool) → (a && b) ≡ true → (a ≡ true) × (b ≡ true)
+both true b e = (refl, e)
+both false b e = let u : _≡_ {A = ℕ} 0 1 = cc in absurd (omega arith)
+
+pub accepted : (s : List ℕ) → sheetCheck s ≡ none → Accepted s
+unfolding sheetCheck sheetChecks sheetEnd endsAt
+accepted s e =
+    let c1 = tail-none _ _ e in
+    let c2 = tail-none _ _ c1 in
+    let c4 = tail-none _ _ (tail-none _ _ c2) in
+    let c6 = tail-none _ _ (tail-none _ _ c4) in
+    let c7 = rest-none (stepsChecks s 53 (stepsIn s)) _ c6 in
+    let g : (eqb (length s) ((53 + 10 * stepsIn s + 7) / 8) ≡ true) × (eqb (bitsAt s (53 + 10 * stepsIn s) (8 * length s - (53 + 10 * stepsIn s))) 0 ≡ true) = both _ _ (check-true _ _ _ (head-none _ [] c7)) in
+    record {
+      edition = eqb-true _ _ (check-true _ _ _ (head-none _ _ c1));
+      few = leb-true _ _ (check-true _ _ _ (head-none _ _ c4));
+      ends = eqb-true _ _ (g .0);
+      padding = eqb-true _ _ (g .1);
+    }
+
+module _ (s : List ℕ) (n : ℕ) where
+  pub read-refused : (m p : ℕ) → answer (sheetCheck s) (headingOf s) ≡ refused m p → readCall s n ≡ refused m p
+  unfolding readCall inOrder
+  read-refused m p e = refused-first (headingOf s) (sheetCheck s) _ _ m p e
+
+  pub over-list : sheetCheck s ≡ none → stepsIn s ≤ 32768 → n < stepsIn s → readCall s n ≡ refused 11 n
+  unfolding readCall inOrder answer andThen roomCheck check capacity
+  over-list e f h =
+      let m : min n 32768 ≡ n = omega arith in
+      rw (e, m, lt-leb (stepsIn s) n h) refl
+
+  pub reads : sheetCheck s ≡ none → stepsIn s ≤ 32768 → stepsIn s ≤ n → readCall s n ≡ done (headingOf s)
+  unfolding readCall inOrder answer andThen roomCheck check capacity headingOf
+  reads e f h =
+      let m : stepsIn s ≤ min n 32768 = omega arith in
+      rw (e, le-leb (stepsIn s) (min n 32768) m) refl

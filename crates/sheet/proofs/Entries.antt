@@ -57,3 +57,9 @@ found-lt n k (x ∷ l) i e = go (ltb x n) (sym (notBelow-cons n k x l (ltb x n) 
     go : (b : Bool) → picked n k l b ≡ some i → (notBelow n (suc k) l ≡ some i → i < suc k + length l) → i < k + suc (length l)
     go true f r = omega (arith, r f)
     go false f r = let z : k ≡ i = cc in omega arith
+
+-- a list whose entries are below the bound
+pub none-over : (n k : ℕ) (l : List ℕ) → ((i : ℕ) → getD l i 0 < n) → notBelow n k l ≡ none
+unfolding picked
+none-over n k [] h = notBelow-nil n k
+none-over n k (x ∷ l) h = notBelow-cons n k x l true (lt-ltb x n (h 0)) ∙ none-over n (suc k) l (λ i. h (suc i))

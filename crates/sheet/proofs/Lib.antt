@@ -1,3 +1,5 @@
 pub mod Writing
 pub mod Entries
 pub mod Checks
+pub mod Copying
+pub mod RoundTrip

@@ -1,3 +1,6 @@
+use mathlib.Core.Path.{_≡_, refl}
+use borrow.Author.Tests.{eq-eqb, ne-eqb}
+use Rattle.planning.specs.Record.{endsAt}
 use borrow.Author.Needs.{needs}
 use Rattle.sheet.proofs.ends.Statement.{statement}
 use Rattle.sheet.proofs.ends.Tie as tie
@@ -9,7 +12,8 @@ add-if1 : tie.Need-add-if1
 add-if1 c = search needs
 
 returns : tie.Need-returns
-returns c = ?
+unfolding endsAt
+returns c = rw (ne-eqb _ _ (c .if1 .taken)) refl
 
 mul-read-bits : tie.Need-mul-read-bits
 mul-read-bits c = search needs
@@ -21,7 +25,8 @@ read-bits-requires : tie.Need-read-bits-requires
 read-bits-requires c κs = search needs
 
 returns-2 : tie.Need-returns-2
-returns-2 c = ?
+unfolding endsAt
+returns-2 c = rw (c .read-bits .ensures, eq-eqb _ _ (c .before .if1 .left)) refl
 
 pub ends-spec : {M : Type 1} → statement M
 ends-spec =

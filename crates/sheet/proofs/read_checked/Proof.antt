@@ -1,3 +1,11 @@
+use mathlib.Core.Option.{none}
+use Rattle.planning.specs.Basics.{done}
+use Rattle.planning.specs.Sheet.{sheetCheck, stepsIn}
+use Rattle.planning.specs.Calls.{Read}
+use mathlib.Core.Path.{_≡_, refl, sym, ap, _∙_}
+use native.Mathlib.Omega.{arith}
+use Rattle.sheet.specs.Answers.{readingAs, heading, headingOf}
+use Rattle.sheet.proofs.Checks.{Accepted, accepted, passed, read-refused, over-list, reads}
 use borrow.Author.Needs.{needs}
 use Rattle.sheet.proofs.read_checked.Statement.{statement}
 use Rattle.sheet.proofs.read_checked.Tie as tie
@@ -15,7 +23,8 @@ enum-told : tie.Need-enum-told
 enum-told c = search needs
 
 returns : tie.Need-returns
-returns c = ?
+unfolding readingAs
+returns c = ap readingAs (c .enum-told .given .1) ∙ sym (read-refused (c .before .before .before .before .args .bytes .now) (c .before .before .before .before .args .room) _ _ (sym (c .before .before .read-fields .ensures) ∙ ap readingAs (c .enum-told .given .1)))
 
 cast-if1 : tie.Need-cast-if1
 cast-if1 c = search needs
@@ -23,11 +32,21 @@ cast-if1 c = search needs
 cast-t7 : tie.Need-cast-t7
 cast-t7 c = search needs
 
+was : (c : tie.After-known-told) → (sheetCheck (c .before .before .before .before .before .args .bytes .now) ≡ none) × (heading (c .before .a .given .0 .0) (c .before .a .given .0 .1 .0) (c .before .a .given .0 .1 .1 .0) ≡ headingOf (c .before .before .before .before .before .args .bytes .now))
+unfolding readingAs
+was c = passed (headingOf (c .before .before .before .before .before .args .bytes .now)) _ _ (sym (c .before .before .before .read-fields .ensures) ∙ ap readingAs (c .before .a .given .1))
+
+steps-are : (c : tie.After-known-told) → c .before .a .given .0 .0 ≡ stepsIn (c .before .before .before .before .before .args .bytes .now)
+unfolding headingOf
+steps-are c = ap (λ (h : Read). h .steps) (was c .1)
+
 returns-2 : tie.Need-returns-2
-returns-2 c = ?
+unfolding readingAs
+returns-2 c = let s = c .before .before .before .before .before .before .args .bytes .now in let w = was (c .before) in sym (over-list s (c .before .before .before .before .before .before .args .room) (w .0) (accepted s (w .0) .few) (omega (arith, steps-are (c .before))))
 
 returns-3 : tie.Need-returns-3
-returns-3 c = ?
+unfolding readingAs
+returns-3 c = let s = c .before .before .before .before .before .before .args .bytes .now in let w = was (c .before) in ap done (w .1) ∙ sym (reads s (c .before .before .before .before .before .before .args .room) (w .0) (accepted s (w .0) .few) (omega (arith, steps-are (c .before))))
 
 pub read-checked-spec : {M : Type 1} → statement M
 read-checked-spec =

@@ -1,3 +1,8 @@
+use mathlib.Core.Path.{_≡_, refl, sym, ap, _∙_}
+use native.Mathlib.Omega.{arith}
+use Rattle.planning.specs.Sheet.{sheetOf}
+use Rattle.sheet.specs.Answers.{readingAs, headingOf}
+use Rattle.sheet.proofs.Checks.{refuses, passes, end-cut, end-passes, end-fails}
 use borrow.Author.Needs.{needs}
 use Rattle.sheet.proofs.read_end.Statement.{statement}
 use Rattle.sheet.proofs.read_end.Tie as tie
@@ -36,7 +41,7 @@ refused-requires : tie.Need-refused-requires
 refused-requires c κs = search needs
 
 returns : tie.Need-returns
-returns c = ?
+returns c = c .refused .ensures ∙ sym (refuses _ _ _ _ (end-cut (c .before .before .before .args .bytes .now) (omega arith) (omega (arith, c .before .before .before .pre .1))))
 
 ends-requires : tie.Need-ends-requires
 ends-requires c κs = search needs
@@ -51,7 +56,8 @@ read-bits-requires : tie.Need-read-bits-requires
 read-bits-requires c κs = search needs
 
 returns-2 : tie.Need-returns-2
-returns-2 c = ?
+unfolding readingAs headingOf sheetOf
+returns-2 c = let o = c .before .before .before .before .before .before in rw (o .pre .1, c .before .cost-in .ensures, c .read-bits .ensures) (sym (passes (headingOf (o .args .bytes .now)) _ (end-passes (o .args .bytes .now) (omega (arith, o .pre .1)) (rw (← o .pre .1) (sym (c .before .before .before .ends .ensures) ∙ c .before .before .if2 .taken)))))
 
 cast-refused-2 : tie.Need-cast-refused-2
 cast-refused-2 c = search needs
@@ -60,7 +66,7 @@ refused-requires-2 : tie.Need-refused-requires-2
 refused-requires-2 c κs = search needs
 
 returns-3 : tie.Need-returns-3
-returns-3 c = ?
+returns-3 c = let o = c .before .before .before .before .before in c .refused2 .ensures ∙ rw (o .pre .1) (sym (refuses _ _ _ _ (end-fails (o .args .bytes .now) (omega (arith, o .pre .1)) (rw (← o .pre .1) (sym (c .before .before .ends .ensures) ∙ c .before .if2 .left)))))
 
 pub read-end-spec : {M : Type 1} → statement M
 read-end-spec =

@@ -1,3 +1,7 @@
+use mathlib.Core.Path.{_≡_, refl, sym, ap, _∙_}
+use native.Mathlib.Omega.{arith}
+use lib.ListN.{length-set}
+use Rattle.sheet.proofs.Copying.{four-stored}
 use borrow.Author.Needs.{needs}
 use Rattle.sheet.proofs.read_four.Statement.{statement}
 use Rattle.sheet.proofs.read_four.Tie as tie
@@ -27,7 +31,7 @@ mul-list-2 : tie.Need-mul-list-2
 mul-list-2 c = search needs
 
 slice-write-list-2 : tie.Need-slice-write-list-2
-slice-write-list-2 c = ?
+slice-write-list-2 c = simp length-set (omega arith)
 
 cast-list-3 : tie.Need-cast-list-3
 cast-list-3 c = search needs
@@ -39,7 +43,7 @@ mul-list-3 : tie.Need-mul-list-3
 mul-list-3 c = search needs
 
 slice-write-list-3 : tie.Need-slice-write-list-3
-slice-write-list-3 c = ?
+slice-write-list-3 c = simp length-set (omega arith)
 
 cast-list-4 : tie.Need-cast-list-4
 cast-list-4 c = search needs
@@ -51,13 +55,13 @@ mul-list-4 : tie.Need-mul-list-4
 mul-list-4 c = search needs
 
 slice-write-list-4 : tie.Need-slice-write-list-4
-slice-write-list-4 c = ?
+slice-write-list-4 c = simp length-set (omega arith)
 
 same-length : tie.Need-same-length
 same-length c = search needs
 
 returns : tie.Need-returns
-returns c = ?
+returns c = let a = c .before .before .before .args in four-stored (a .bytes .now) (a .list .now) (a .j) (a .i) _ (c .read-six .ensures) (omega arith)
 
 pub read-four-spec : {M : Type 1} → statement M
 read-four-spec =

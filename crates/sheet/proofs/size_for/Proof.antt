@@ -47,15 +47,18 @@ mul-size c = search needs
 add-size : tie.Need-add-size
 add-size c = search needs
 
-cast-t13 : tie.Need-cast-t13
-cast-t13 c = search needs
+add-size-2 : tie.Need-add-size-2
+add-size-2 c = search needs
+
+cast-t14 : tie.Need-cast-t14
+cast-t14 c = search needs
 
 returns-3 : tie.Need-returns-3
 unfolding writtenAs sheetSize sheetEnd
 returns-3 c = λ k b. let a = c .before .before .before .before .before .before .args in sym (over-room (sheet (a .list .now) k b) (a .room) (omega arith) (no-fault (c .before)) (omega arith))
 
-cast-t15 : tie.Need-cast-t15
-cast-t15 c = search needs
+cast-t16 : tie.Need-cast-t16
+cast-t16 c = search needs
 
 returns-4 : tie.Need-returns-4
 unfolding writtenAs sheetSize sheetEnd
@@ -73,7 +76,8 @@ size-for-spec =
     enum-told
     mul-size
     add-size
-    cast-t13
+    add-size-2
+    cast-t14
     returns-3
-    cast-t15
+    cast-t16
     returns-4)
