@@ -63,7 +63,7 @@ packed-only n m v =
     ∙ packed-byte n m v []
     ∙ ap (λ (t : List ℕ). v / 2 ^ m % 256 ∷ packed n t) (append-nil (bitsOf m v))
 
-packed-none : (bs : List ℕ) → packed 0 bs ≡ []
+pub packed-none : (bs : List ℕ) → packed 0 bs ≡ []
 unfolding packed
 packed-none bs = refl
 

@@ -203,3 +203,21 @@ module _ (s : List ℕ) (n : ℕ) where
   reads e f h =
       let m : stepsIn s ≤ min n 32768 = omega arith in
       rw (e, le-leb (stepsIn s) (min n 32768) m) refl
+
+-- what holds of a sheet that is read
+pub record Held (s : List ℕ) (n : ℕ) (h : Read) : Type 0 where
+  pub ok : sheetCheck s ≡ none
+  pub room : stepsIn s ≤ n
+  pub is : h ≡ headingOf s
+
+two-passed : (k : Check) (b : Bool) (n : ℕ) (z h : Read) → answer (andThen k (andThen (check b 11 n) none)) z ≡ done h → (k ≡ none) × (b ≡ true) × (h ≡ z)
+unfolding answer andThen check
+two-passed none true n z h e = (refl, refl, cc)
+two-passed none false n z h e = let u : _≡_ {A = ℕ} 0 1 = cc in absurd (omega arith)
+two-passed (some f) b n z h e = let u : _≡_ {A = ℕ} 0 1 = cc in absurd (omega arith)
+
+pub holding : (s : List ℕ) (n : ℕ) (h : Read) → readCall s n ≡ done h → Held s n h
+unfolding readCall inOrder roomCheck capacity headingOf
+holding s n h e =
+    let g : (sheetCheck s ≡ none) × (leb (stepsIn s) (min n 32768) ≡ true) × (h ≡ headingOf s) = two-passed (sheetCheck s) (leb (stepsIn s) (min n 32768)) (min n 32768) (headingOf s) h e in
+    record { ok = g .0; room = omega (arith, leb-true (stepsIn s) (min n 32768) (g .1)); is = g .2 }

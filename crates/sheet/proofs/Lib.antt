@@ -3,3 +3,4 @@ pub mod Entries
 pub mod Checks
 pub mod Copying
 pub mod RoundTrip
+pub mod Promises

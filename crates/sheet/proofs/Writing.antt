@@ -1,6 +1,5 @@
 -- Writing the steps: four behind five bits fill five bytes and leave five bits; the last three at most are padded.
 use mathlib.Core.Path.{_≡_, refl, sym, ap, _∙_}
-use mathlib.Core.Bool.{Bool, true, false}
 use mathlib.Core.List.{List, [], _∷_, _++_, append-assoc, append-nil}
 use Prim.Native.Nat.{ℕ, zero, suc, _+_, _-_, _*_, _/_, _%_, _^_, _<_, _≤_}
 use native.Mathlib.Nat.{add-zero}
@@ -9,7 +8,7 @@ use native.Mathlib.Omega.{arith}
 use lib.ListN.{length, getD, take, drop, length-append, length-take, length-drop}
 use lib.Seq.{drop-cons, length-take-le, take-at, getD-drop}
 use Rattle.planning.specs.Basics.{oneIf}
-use Rattle.planning.specs.Sheet.{bitsOf, stepBits, packed, sheetSize, sheetEnd}
+use Rattle.planning.specs.Sheet.{Sheet, bitsOf, stepBits, sheetBits, packed, sheetSize, sheetEnd, sheetBytes}
 use Rattle.bits.proofs.Pack.{bitsOf-add, bitsOf-low, packed-front, length-packed, packed-same, Same, same-prefix, same-zeros}
 
 -- a step behind the bits of a number
@@ -120,7 +119,14 @@ front-bits r n c hr hn hc =
     bitsOf-add 21 32 ((2 + r) * 65536 + n) c hc
     ∙ rw (bitsOf-add 5 16 (2 + r) n hn, bitsOf-add 4 1 1 r hr, append-assoc, append-assoc) refl
 
-pub oneIf-lt : (b : Bool) → oneIf b < 2
-unfolding oneIf
-oneIf-lt true = omega arith
-oneIf-lt false = omega arith
+-- the bytes in front, once the front and the steps are written
+pub sheet-written : (x : Sheet) (v size : ℕ) (d d₁ d₂ : List ℕ)
+    → bitsOf 53 v ≡ bitsOf 4 1 ++ (bitsOf 1 (oneIf (x .real)) ++ (bitsOf 16 (length (x .steps)) ++ bitsOf 32 (x .cost)))
+    → size ≡ sheetSize (length (x .steps)) → d₁ ≡ take 0 d ++ packed 6 (bitsOf 53 v) ++ drop 6 d
+    → take size d₂ ≡ take 6 d₁ ++ packed (size - 6) (bitsOf 5 (v % 32) ++ stepBits (x .steps)) → take size d₂ ≡ sheetBytes x
+unfolding sheetBytes sheetBits sheetSize sheetEnd
+sheet-written x v size d d₁ d₂ e z q w =
+    let k : size ≡ 6 + (size - 6) = omega arith in
+    let b : sheetBits x ≡ bitsOf 53 v ++ stepBits (x .steps) = rw e (simp append-assoc) in
+    let p : packed 6 (bitsOf 53 v) ++ packed (size - 6) (bitsOf 5 v ++ stepBits (x .steps)) ≡ packed size (sheetBits x) = sym (ap (λ (n : ℕ). packed n (sheetBits x)) k ∙ rw b (packed-front 6 (size - 6) 53 5 v (stepBits (x .steps)) refl)) in
+    w ∙ rw (q, take-at (packed 6 (bitsOf 53 v)) (drop 6 d) 6 (length-packed 6 (bitsOf 53 v)), low-five v) (p ∙ ap (λ (n : ℕ). packed n (sheetBits x)) z)

@@ -109,8 +109,7 @@ fn last_steps(list: &[u16], i: usize, five: u64) -> u64
     requires { ⌜ (five < 32) × (i ≤ 32768) × (length (now list) < i + 4) × ((k : ℕ) → getD (now list) k 0 < 1024) ⌝ }
     ensures { λ r. ⌜ ((n : ℕ) → packed n (bitsOf 40 r) ≡ packed n (bitsOf 5 five ++ stepBits (drop i (now (list .entry))))) ⌝ }
 {
-    (((five * 1024 + step_at(list, i)) * 1024 + step_at(list, i + 1)) * 1024
-        + step_at(list, i + 2))
+    (((five * 1024 + step_at(list, i)) * 1024 + step_at(list, i + 1)) * 1024 + step_at(list, i + 2))
         * 32
 }
 
