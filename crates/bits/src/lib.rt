@@ -5,12 +5,7 @@ ghost use Prim.Native.Nat.{_+_, _-_, _*_, _<_, _≤_};
 ghost use lib.ListN.{length, take, drop};
 ghost use Rattle.planning.specs.Basics.{bitsAt};
 ghost use Rattle.planning.specs.Sheet.{bitsOf, packed};
-
-// What a refused caller learns.
-pub struct Refusal {
-    pub number: u8,
-    pub place: u32,
-}
+ghost use Rattle.bits.specs.Answers.{refusalOf};
 
 fn wide(x: u8) -> u64
     ensures { λ r. ⌜ (r ≡ x) × (r < 256) ⌝ }
@@ -74,4 +69,29 @@ pub fn write_bits(bytes: &mut [u8], at: usize, value: u64, width: usize, count: 
         bytes[at + i] = ((value >> (width - 8 - 8 * i)) % 256) as u8;
         i += 1;
     }
+}
+
+// The number and the place of a refusal.
+pub struct Refusal {
+    pub number: u8,
+    pub place: u32,
+}
+
+// What a check finds: a number, or the refusal.
+pub enum Read {
+    Value(u32),
+    Refused(Refusal),
+}
+
+// The refusal of an answer that has one.
+pub fn refusal_of(r: Read) -> Refusal
+    ensures { λ f. ⌜ f ≡ refusalOf r ⌝ }
+{
+    let Read::Refused(f) = r else {
+        return Refusal {
+            number: 0,
+            place: 0,
+        };
+    };
+    f
 }

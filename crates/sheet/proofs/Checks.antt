@@ -128,11 +128,6 @@ module _ {A : Type 0} (a : A) where
   unfolding answer
   passes k e = rw e refl
 
-  pub passed : (k : Check) (b : A) → answer k a ≡ done b → (k ≡ none) × (b ≡ a)
-  unfolding answer
-  passed none b e = (refl, cc)
-  passed (some f) b e = let u : _≡_ {A = ℕ} 0 1 = cc in absurd (omega arith)
-
   pub refused-first : (k d : Check) (b : A) (n p : ℕ) → answer k a ≡ refused n p → answer (andThen k d) b ≡ refused n p
   unfolding answer andThen
   refused-first none d b n p e = let u : _≡_ {A = ℕ} 0 1 = cc in absurd (omega arith)

@@ -4,3 +4,4 @@ pub mod Checks
 pub mod Copying
 pub mod RoundTrip
 pub mod Promises
+pub mod Numbers

@@ -1,0 +1,42 @@
+use borrow.Author.Needs.{needs}
+use Rattle.mardiskos.proofs.sheets.reading_code.Statement.{statement}
+use Rattle.mardiskos.proofs.sheets.reading_code.Tie as tie
+use Rattle.mardiskos.proofs.sheets.reading_code.Reads as reads
+use Rattle.mardiskos.proofs.sheets.reading_code.Lts as lts
+
+enum-known-a : tie.Need-enum-known-a
+enum-known-a c = search needs
+
+enum-told : tie.Need-enum-told
+enum-told c = search needs
+
+returns : tie.Need-returns
+returns c = ?
+
+cast-result : tie.Need-cast-result
+cast-result c = search needs
+
+mul-result : tie.Need-mul-result
+mul-result c = search needs
+
+cast-result-2 : tie.Need-cast-result-2
+cast-result-2 c = search needs
+
+add-result : tie.Need-add-result
+add-result c = search needs
+
+returns-2 : tie.Need-returns-2
+returns-2 c = ?
+
+pub reading-code-spec : {M : Type 1} → statement M
+reading-code-spec =
+    tie.close
+    (tie.spec
+    enum-known-a
+    enum-told
+    returns
+    cast-result
+    mul-result
+    cast-result-2
+    add-result
+    returns-2)

@@ -1,0 +1,3 @@
+pub mod Members
+pub mod Effects
+pub mod Tabled
