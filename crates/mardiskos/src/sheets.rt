@@ -7,7 +7,7 @@ ghost use Rattle.planning.specs.Basics.{code};
 ghost use Rattle.planning.specs.Calls.{writeCall, writeBytes, readCall, readList};
 ghost use Rattle.sheet.specs.Answers.{sheet, writtenAs, readingAs};
 ghost use Rattle.sheet.specs.Again.{ReadsAs, WritesAs};
-ghost use Rattle.mardiskos.specs.Sheets.{sizeIn, headingIn};
+ghost use Rattle.mardiskos.specs.Results.{sizeIn, headingIn};
 
 fn written_code(a: Written) -> u64
     ensures { λ r. ⌜ r ≡ code (writtenAs a) ⌝ }

@@ -1,3 +1,7 @@
+use mathlib.Core.Path.{_≡_, refl, sym, ap, _∙_}
+use native.Mathlib.Omega.{arith}
+use Rattle.planning.specs.Basics.{code}
+use Rattle.sheet.specs.Answers.{readingAs}
 use borrow.Author.Needs.{needs}
 use Rattle.mardiskos.proofs.sheets.reading_code.Statement.{statement}
 use Rattle.mardiskos.proofs.sheets.reading_code.Tie as tie
@@ -11,7 +15,8 @@ enum-told : tie.Need-enum-told
 enum-told c = search needs
 
 returns : tie.Need-returns
-returns c = ?
+unfolding code readingAs
+returns c = rw (c .enum-told .given .1) refl
 
 cast-result : tie.Need-cast-result
 cast-result c = search needs
@@ -26,7 +31,8 @@ add-result : tie.Need-add-result
 add-result c = search needs
 
 returns-2 : tie.Need-returns-2
-returns-2 c = ?
+unfolding code readingAs
+returns-2 c = rw (c .before .before .before .a .given .1) (omega arith)
 
 pub reading-code-spec : {M : Type 1} → statement M
 reading-code-spec =
