@@ -3,6 +3,7 @@ use bits::Refusal;
 ghost use mathlib.Core.Path.{_≡_};
 ghost use mathlib.Core.Bool.{Bool};
 ghost use mathlib.Core.List.{_++_};
+ghost use mathlib.Core.Option.{none};
 ghost use Prim.Native.Nat.{ℕ, _+_, _-_, _*_, _<_, _≤_};
 ghost use lib.ListN.{length, take, drop, getD};
 ghost use Rattle.planning.specs.Basics.{bitsAt, oneIf, done, answer};
@@ -49,6 +50,30 @@ fn lowest_over(list: &[u16]) -> Fault
     Fault::Nothing
 }
 
+// 0 only if no entry is over 1,023: a pass without a branch, which most lists need alone.
+fn excess(list: &[u16]) -> u32
+    requires { ⌜ length (now list) ≤ 32768 ⌝ }
+    ensures { λ r. ⌜ (r ≡ 0 → notBelow 1024 0 (now (list .entry)) ≡ none) ⌝ }
+{
+    let mut sum: u32 = 0;
+    let mut i: usize = 0;
+    while i < list.len() {
+        sum += (list[i] / 1024) as u32;
+        i += 1;
+    }
+    sum
+}
+
+fn find_over(list: &[u16]) -> Fault
+    requires { ⌜ length (now list) ≤ 32768 ⌝ }
+    ensures { λ r. ⌜ faultAs r ≡ notBelow 1024 0 (now (list .entry)) ⌝ }
+{
+    if excess(list) == 0 {
+        return Fault::Nothing;
+    }
+    lowest_over(list)
+}
+
 // Whether the list can be written into that many bytes: 13, length first, then 11.
 fn size_for(list: &[u16], room: usize) -> Written
     ensures { λ r. ⌜ ((c : ℕ) (b : Bool) → writtenAs r ≡ writeCall (sheet (now (list .entry)) c b) room) ⌝ }
@@ -59,7 +84,7 @@ fn size_for(list: &[u16], room: usize) -> Written
             place: 32768,
         });
     }
-    if let Fault::Entry(i) = lowest_over(list) {
+    if let Fault::Entry(i) = find_over(list) {
         return Written::Refused(Refusal {
             number: 13,
             place: i as u32,
@@ -139,14 +164,15 @@ pub fn write(list: &[u16], cost: u32, real: bool, bytes: &mut [u8]) -> Written
     ensures { λ r. ⌜ ((n : ℕ) → writtenAs r ≡ done n → ReadsAs (take n (now (bytes .exit))) (sheet (now (list .entry)) cost real)) ⌝ }
 {
     let a = size_for(list, bytes.len());
-    let Written::Size(size) = a else {
+    let Written::Size(n) = a else {
         lists::clear(bytes);
         return a;
     };
+    let size = n as usize;
     let head = front(list.len() as u16, cost, real);
     bits::write_bits(bytes, 0, head, 53, 6);
-    write_steps(list, head % 32, size as usize, bytes);
-    lists::clear_from(bytes, size as usize);
+    write_steps(list, head % 32, size, bytes);
+    lists::clear_from(bytes, size);
     a
 }
 
@@ -295,7 +321,8 @@ pub fn read(bytes: &[u8], list: &mut [u16]) -> Reading
         lists::blank(list);
         return a;
     };
-    read_steps(bytes, steps as usize, list);
-    lists::blank_from(list, steps as usize);
+    let count = steps as usize;
+    read_steps(bytes, count, list);
+    lists::blank_from(list, count);
     a
 }

@@ -48,14 +48,11 @@ steps-are : (c : tie.After-known-told) → c .before .a .given .0 .0 ≡ stepsIn
 unfolding headingOf
 steps-are c = ap (λ (h : Read). h .steps) (held c .is)
 
-cast-read-steps : tie.Need-cast-read-steps
-cast-read-steps c = search needs
+cast-count : tie.Need-cast-count
+cast-count c = search needs
 
 read-steps-requires : tie.Need-read-steps-requires
 read-steps-requires c κs = let h = held (c .before) in let e = steps-are (c .before) in let a = accepted _ (h .ok) in (omega (arith, e, a .few), omega (arith, e, h .room), omega (arith, e, a .ends))
-
-cast-blank-from : tie.Need-cast-blank-from
-cast-blank-from c = search needs
 
 blank-from-requires : tie.Need-blank-from-requires
 blank-from-requires c κs = search needs
@@ -84,9 +81,8 @@ read-spec =
     blank-requires
     same-length
     returns
-    cast-read-steps
+    cast-count
     read-steps-requires
-    cast-blank-from
     blank-from-requires
     same-length-2
     returns-2)

@@ -11,21 +11,21 @@ use Rattle.sheet.proofs.size_for.Statement.{statement}
 use Rattle.sheet.proofs.size_for.Tie as tie
 use Rattle.sheet.proofs.size_for.Reads as reads
 use Rattle.sheet.proofs.size_for.Lts as lts
-use Rattle.sheet.proofs.lowest_over.Reads as lowest-over-reads
+use Rattle.sheet.proofs.find_over.Reads as find-over-reads
 
 returns : tie.Need-returns
 unfolding writtenAs
 returns c = λ k b. let a = c .before .before .args in sym (over-length (sheet (a .list .now) k b) (a .room) (omega arith))
 
-lowest-over-requires : tie.Need-lowest-over-requires
-lowest-over-requires c κs = search needs
+find-over-requires : tie.Need-find-over-requires
+find-over-requires c κs = search needs
 
 enum-known-i : tie.Need-enum-known-i
 enum-known-i c = search needs
 
 fault : (c : tie.After-known-told) → notBelow 1024 0 (c .before .before .before .before .before .before .args .list .now) ≡ some (c .before .i .given .0 .0)
 unfolding faultAs
-fault c = sym (c .before .before .before .lowest-over .ensures) ∙ ap faultAs (c .before .i .given .1)
+fault c = sym (c .before .before .before .find-over .ensures) ∙ ap faultAs (c .before .i .given .1)
 
 cast-t9 : tie.Need-cast-t9
 cast-t9 c = omega (arith, found-lt 1024 0 (c .before .before .before .before .before .before .args .list .now) _ (fault c))
@@ -39,7 +39,7 @@ enum-told c = search needs
 
 no-fault : (c : tie.After-enum-told) → notBelow 1024 0 (c .before .before .before .before .before .args .list .now) ≡ none
 unfolding faultAs
-no-fault c = sym (c .before .before .lowest-over .ensures) ∙ ap faultAs (c .enum-told .given .1)
+no-fault c = sym (c .before .before .find-over .ensures) ∙ ap faultAs (c .enum-told .given .1)
 
 mul-size : tie.Need-mul-size
 mul-size c = search needs
@@ -69,7 +69,7 @@ size-for-spec =
     tie.close
     (tie.spec
     returns
-    lowest-over-requires
+    find-over-requires
     enum-known-i
     cast-t9
     returns-2

@@ -53,6 +53,9 @@ six : (c : tie.After-known-told) → 6 ≤ length (c .before .before .before .be
 unfolding sheetSize sheetEnd
 six c = omega (arith, fit c .room)
 
+cast-size : tie.Need-cast-size
+cast-size c = search needs
+
 cast-front : tie.Need-cast-front
 cast-front c = omega (arith, fit c .short)
 
@@ -62,14 +65,8 @@ front-requires c κs = search needs
 write-bits-requires : tie.Need-write-bits-requires
 write-bits-requires c κs = (six (c .before .before), omega arith, omega arith)
 
-cast-write-steps : tie.Need-cast-write-steps
-cast-write-steps c = search needs
-
 write-steps-requires : tie.Need-write-steps-requires
 write-steps-requires c κs = let f = fit (c .before .before .before .before .before .before) in (omega arith, all-below 1024 0 _ (omega arith) (f .below), f .short, f .size, omega (arith, f .room, f .size))
-
-cast-clear-from : tie.Need-cast-clear-from
-cast-clear-from c = search needs
 
 clear-from-requires : tie.Need-clear-from-requires
 clear-from-requires c κs = search needs
@@ -98,12 +95,11 @@ write-spec =
     clear-requires
     same-length
     returns
+    cast-size
     cast-front
     front-requires
     write-bits-requires
-    cast-write-steps
     write-steps-requires
-    cast-clear-from
     clear-from-requires
     same-length-2
     returns-2)
