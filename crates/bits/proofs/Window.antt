@@ -51,7 +51,7 @@ bitsAt-more s q n m e h =
     rw (e, bitsAt-add s (q * 8) (n * 8) 8, e2, bitsAt-whole s (q + n) h)
 
 -- the w bits after the first o of a run of o + w + r bits
-bitsAt-cut : (s : List ℕ) (p o w r : ℕ) → bitsAt s p (o + w + r) / 2 ^ r % 2 ^ w ≡ bitsAt s (p + o) w
+pub bitsAt-cut : (s : List ℕ) (p o w r : ℕ) → bitsAt s p (o + w + r) / 2 ^ r % 2 ^ w ≡ bitsAt s (p + o) w
 bitsAt-cut s p o w r =
     rw (bitsAt-add s p (o + w) r, high (bitsAt s p (o + w)) r (bitsAt-lt s (p + (o + w)) r), bitsAt-add s p o w)
     (low (bitsAt s p o) w (bitsAt-lt s (p + o) w))
@@ -79,6 +79,11 @@ bitsAt-word s q a b c d ea eb ec ed ha hb hc hd =
       bitsAt-more s q 2 24 (omega arith) (omega arith),
       bitsAt-more s q 3 32 (omega arith) (omega arith),
     )
+
+-- two bytes behind four
+pub bitsAt-six : (s : List ℕ) (q w a b : ℕ) → w ≡ bitsAt s (q * 8) 32 → a ≡ getD s (q + 4) 0 → b ≡ getD s (q + 5) 0 → a < 256 → b < 256 → (w * 256 + a) * 256 + b ≡ bitsAt s (q * 8) 48
+bitsAt-six s q w a b ew ea eb ha hb =
+    omega (arith, bitsAt-more s q 4 40 (omega arith) (omega arith), bitsAt-more s q 5 48 (omega arith) (omega arith))
 
 pub bitsAt-same : (s : List ℕ) (p m n : ℕ) → m ≡ n → bitsAt s p m ≡ bitsAt s p n
 bitsAt-same s p m n e = rw e refl

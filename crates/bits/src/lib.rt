@@ -1,8 +1,10 @@
-// Bit fields of a byte slice, most significant bit first: one reader for records and sheets.
+// Bit fields of a byte slice, most significant bit first: one reader and one writer for records and sheets.
 ghost use mathlib.Core.Path.{_≡_};
+ghost use mathlib.Core.List.{_++_};
 ghost use Prim.Native.Nat.{_+_, _-_, _*_, _<_, _≤_};
-ghost use lib.ListN.{length};
+ghost use lib.ListN.{length, take, drop};
 ghost use Rattle.planning.specs.Basics.{bitsAt};
+ghost use Rattle.planning.specs.Sheet.{bitsOf, packed};
 ghost use Rattle.bits.specs.Answers.{refusalOf};
 
 fn wide(x: u8) -> u64
@@ -18,6 +20,14 @@ fn word(bytes: &[u8], j: usize) -> u64
 {
     ((wide(bytes[j]) * 256 + wide(bytes[j + 1])) * 256 + wide(bytes[j + 2])) * 256
         + wide(bytes[j + 3])
+}
+
+// The six bytes from byte j as one number: room for four fields of ten bits at any bit of the first byte.
+pub fn read_six(bytes: &[u8], j: usize) -> u64
+    requires { ⌜ j + 6 ≤ length (now bytes) ⌝ }
+    ensures { λ r. ⌜ r ≡ bitsAt (now (bytes .entry)) (j * 8) 48 ⌝ }
+{
+    (word(bytes, j) * 256 + wide(bytes[j + 4])) * 256 + wide(bytes[j + 5])
 }
 
 // The bytes from j up to end as one number: at most four.
@@ -46,6 +56,19 @@ pub fn read_bits(bytes: &[u8], at: usize, width: usize) -> u64
     }
     let end = (at + width + 7) / 8;
     (bytes_between(bytes, j, end) >> (end * 8 - at - width)) % (1 << width)
+}
+
+// The first `count` bytes of the `width` bits of a value, written from byte `at` on. Fields are put together as one number,
+// most significant first, and written by the whole bytes that they fill; what is left of the value is the next number's front.
+pub fn write_bits(bytes: &mut [u8], at: usize, value: u64, width: usize, count: usize)
+    requires { ⌜ (at + count ≤ length (now bytes)) × (8 * count ≤ width) × (width ≤ 64) ⌝ }
+    ensures { λ _. ⌜ now (bytes .exit) ≡ take at (now (bytes .entry)) ++ packed count (bitsOf width value) ++ drop (at + count) (now (bytes .entry)) ⌝ }
+{
+    let mut i: usize = 0;
+    while i < count {
+        bytes[at + i] = ((value >> (width - 8 - 8 * i)) % 256) as u8;
+        i += 1;
+    }
 }
 
 // The number and the place of a refusal.

@@ -1,4 +1,6 @@
 // The entry points as C calls them: a slice is a pointer and a length.
+mod sheets;
+
 use record::Checked;
 ghost use mathlib.Core.Path.{_≡_};
 ghost use Rattle.planning.specs.Calls.{checkCode};

@@ -1,0 +1,7 @@
+pub mod Writing
+pub mod Entries
+pub mod Checks
+pub mod Copying
+pub mod RoundTrip
+pub mod Promises
+pub mod Numbers

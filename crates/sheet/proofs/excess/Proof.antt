@@ -1,0 +1,60 @@
+use Rattle.planning.specs.Calls.{notBelow}
+use Rattle.sheet.proofs.Entries.{entry-passes, no-entry-left}
+use borrow.Author.Needs.{needs}
+use mathlib.Core.Path.{_≡_, refl, sym, ap, _∙_}
+use Prim.Native.Nat.{ℕ, _+_, _*_, _/_, _^_, _-_, _≤_, _<_}
+use native.Mathlib.Omega.{arith}
+use lib.ListN.{length, getD, take, drop, set, replicate}
+use Rattle.sheet.proofs.excess.Statement.{statement}
+use Rattle.sheet.proofs.excess.Tie as tie
+use Rattle.sheet.proofs.excess.Reads as reads
+use Rattle.sheet.proofs.excess.Lts as lts
+
+abbrev Inv-loop : tie.InvT-loop
+Inv-loop list sum₀ i₀ sum i = (i ≤ length list) × (sum ≤ 64 * i) × (sum ≡ 0 → notBelow 1024 0 list ≡ notBelow 1024 i (drop i list))
+
+abbrev μ-loop : tie.MeasureT-loop
+μ-loop list sum₀ i₀ sum i = length list - i
+
+loop-holds : tie.Need-loop-holds Inv-loop μ-loop
+loop-holds c = (omega arith, omega arith, λ _. refl)
+
+mul-sum : tie.Need-mul-sum Inv-loop μ-loop
+mul-sum c = search needs
+
+shared-slice-read-sum : tie.Need-shared-slice-read-sum Inv-loop μ-loop
+shared-slice-read-sum c = search needs
+
+cast-sum : tie.Need-cast-sum Inv-loop μ-loop
+cast-sum c = omega (arith, c .shared-slice-known .given (c .before .before .loop .i))
+
+add-sum : tie.Need-add-sum Inv-loop μ-loop
+add-sum c = omega (arith, c .shared-slice-known .given (c .before .before .loop .i))
+
+add-i : tie.Need-add-i Inv-loop μ-loop
+add-i c = search needs
+
+loop-less : tie.Need-loop-less Inv-loop μ-loop
+loop-less c = search needs
+
+loop-again : tie.Need-loop-again Inv-loop μ-loop
+loop-again c = (omega arith, omega (arith, c .shared-slice-known .given (c .before .before .loop .i)), λ z. c .before .before .loop .inv .2 (omega arith) ∙ entry-passes 1024 _ _ (omega arith) (omega arith))
+
+returns : tie.Need-returns Inv-loop μ-loop
+returns c = λ z. c .before .loop .inv .2 z ∙ no-entry-left 1024 _ _ (omega arith)
+
+pub excess-spec : {M : Type 1} → statement M
+excess-spec =
+    tie.close
+    (tie.spec
+    Inv-loop
+    μ-loop
+    loop-holds
+    mul-sum
+    shared-slice-read-sum
+    cast-sum
+    add-sum
+    add-i
+    loop-less
+    loop-again
+    returns)

@@ -1,0 +1,25 @@
+use mathlib.Core.Path.{sym}
+use Rattle.sheet.specs.Answers.{faultAs}
+use borrow.Author.Needs.{needs}
+use Rattle.sheet.proofs.find_over.Statement.{statement}
+use Rattle.sheet.proofs.find_over.Tie as tie
+use Rattle.sheet.proofs.find_over.Reads as reads
+use Rattle.sheet.proofs.find_over.Lts as lts
+use Rattle.sheet.proofs.excess.Reads as excess-reads
+use Rattle.sheet.proofs.lowest_over.Reads as lowest-over-reads
+
+excess-requires : tie.Need-excess-requires
+excess-requires c κs = search needs
+
+returns : tie.Need-returns
+unfolding faultAs
+returns c = sym (c .before .excess .ensures (c .if1 .taken))
+
+lowest-over-requires : tie.Need-lowest-over-requires
+lowest-over-requires c κs = search needs
+
+returns-2 : tie.Need-returns-2
+returns-2 c = search needs
+
+pub find-over-spec : {M : Type 1} → statement M
+find-over-spec = tie.close (tie.spec excess-requires returns lowest-over-requires returns-2)

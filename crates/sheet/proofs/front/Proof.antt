@@ -1,0 +1,46 @@
+use native.Mathlib.Omega.{arith}
+use Rattle.sheet.proofs.Writing.{front-bits}
+use borrow.Author.Needs.{needs}
+use Rattle.sheet.proofs.front.Statement.{statement}
+use Rattle.sheet.proofs.front.Tie as tie
+use Rattle.sheet.proofs.front.Reads as reads
+use Rattle.sheet.proofs.front.Lts as lts
+use Rattle.sheet.proofs.one_if.Reads as one-if-reads
+use Rattle.sheet.proofs.wide.Reads as wide-reads
+
+one-if-requires : tie.Need-one-if-requires
+one-if-requires c κs = search needs
+
+add-result : tie.Need-add-result
+add-result c = search needs
+
+mul-result : tie.Need-mul-result
+mul-result c = search needs
+
+wide-requires : tie.Need-wide-requires
+wide-requires c κs = search needs
+
+add-result-2 : tie.Need-add-result-2
+add-result-2 c = search needs
+
+mul-result-2 : tie.Need-mul-result-2
+mul-result-2 c = search needs
+
+add-result-3 : tie.Need-add-result-3
+add-result-3 c = search needs
+
+returns : tie.Need-returns
+returns c = rw (← c .before .one-if .ensures .0, ← c .wide .ensures .0) (front-bits _ _ _ (omega arith) (omega arith) (omega arith))
+
+pub front-spec : {M : Type 1} → statement M
+front-spec =
+    tie.close
+    (tie.spec
+    one-if-requires
+    add-result
+    mul-result
+    wide-requires
+    add-result-2
+    mul-result-2
+    add-result-3
+    returns)

@@ -1,0 +1,59 @@
+use Rattle.planning.specs.Calls.{notBelow}
+use Rattle.sheet.specs.Answers.{faultAs}
+use Rattle.sheet.proofs.Entries.{entry-passes, entry-fails, no-entry-left}
+use borrow.Author.Needs.{needs}
+use mathlib.Core.Path.{_≡_, refl, sym, ap, _∙_}
+use Prim.Native.Nat.{ℕ, _+_, _*_, _/_, _^_, _-_, _≤_, _<_}
+use native.Mathlib.Omega.{arith}
+use lib.ListN.{length, getD, take, drop, set, replicate}
+use Rattle.sheet.proofs.lowest_over.Statement.{statement}
+use Rattle.sheet.proofs.lowest_over.Tie as tie
+use Rattle.sheet.proofs.lowest_over.Reads as reads
+use Rattle.sheet.proofs.lowest_over.Lts as lts
+
+abbrev Inv-loop : tie.InvT-loop
+Inv-loop list i₀ i = (i ≤ length list) × (notBelow 1024 0 list ≡ notBelow 1024 i (drop i list))
+
+abbrev μ-loop : tie.MeasureT-loop
+μ-loop list i₀ i = length list - i
+
+loop-holds : tie.Need-loop-holds Inv-loop μ-loop
+loop-holds c = (omega arith, refl)
+
+mul-if1 : tie.Need-mul-if1 Inv-loop μ-loop
+mul-if1 c = search needs
+
+shared-slice-read-if1 : tie.Need-shared-slice-read-if1 Inv-loop μ-loop
+shared-slice-read-if1 c = search needs
+
+returns : tie.Need-returns Inv-loop μ-loop
+unfolding faultAs
+returns c = sym (c .before .before .before .loop .inv .1 ∙ entry-fails 1024 _ _ (omega arith) (omega arith))
+
+add-i : tie.Need-add-i Inv-loop μ-loop
+add-i c = search needs
+
+loop-less : tie.Need-loop-less Inv-loop μ-loop
+loop-less c = search needs
+
+loop-again : tie.Need-loop-again Inv-loop μ-loop
+loop-again c = (omega arith, c .before .before .before .loop .inv .1 ∙ entry-passes 1024 _ _ (omega arith) (omega arith))
+
+returns-2 : tie.Need-returns-2 Inv-loop μ-loop
+unfolding faultAs
+returns-2 c = sym (c .before .loop .inv .1 ∙ no-entry-left 1024 _ _ (omega arith))
+
+pub lowest-over-spec : {M : Type 1} → statement M
+lowest-over-spec =
+    tie.close
+    (tie.spec
+    Inv-loop
+    μ-loop
+    loop-holds
+    mul-if1
+    shared-slice-read-if1
+    returns
+    add-i
+    loop-less
+    loop-again
+    returns-2)

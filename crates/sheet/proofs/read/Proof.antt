@@ -1,0 +1,88 @@
+use mathlib.Core.Path.{_≡_, refl, sym, ap, _∙_}
+use native.Mathlib.Omega.{arith}
+use lib.ListN.{length}
+use Rattle.planning.specs.Basics.{done}
+use Rattle.planning.specs.Sheet.{stepsIn}
+use Rattle.planning.specs.Calls.{Read, readCall}
+use Rattle.sheet.specs.Answers.{heading, headingOf, readingAs}
+use Rattle.sheet.proofs.Checks.{Accepted, accepted, Held, holding}
+use Rattle.sheet.proofs.Promises.{read-refused, read-done}
+use borrow.Author.Needs.{needs}
+use Rattle.sheet.proofs.read.Statement.{statement}
+use Rattle.sheet.proofs.read.Tie as tie
+use Rattle.sheet.proofs.read.Reads as reads
+use Rattle.sheet.proofs.read.Lts as lts
+use Rattle.lists.proofs.blank.Reads as blank-reads
+use Rattle.lists.proofs.blank_from.Reads as blank-from-reads
+use Rattle.sheet.proofs.read_checked.Reads as read-checked-reads
+use Rattle.sheet.proofs.read_steps.Reads as read-steps-reads
+
+read-checked-requires : tie.Need-read-checked-requires
+read-checked-requires c κs = search needs
+
+enum-known-a : tie.Need-enum-known-a
+enum-known-a c = search needs
+
+enum-told : tie.Need-enum-told
+enum-told c = search needs
+
+blank-requires : tie.Need-blank-requires
+blank-requires c κs = search needs
+
+same-length : tie.Need-same-length
+same-length c = search needs
+
+returns : tie.Need-returns
+unfolding readingAs
+returns c = let o = c .before .before .before .before .before .before .before .before .before .args in let w = c .before .before .before .before .before .before .read-checked .ensures in let t = sym w ∙ ap readingAs (c .before .before .before .before .enum-told .given .1) in let p = read-refused (o .bytes .now) (length (o .list .now)) _ _ _ t (c .before .before .blank .ensures) in (w, (p .0, λ n h. p .1 n (sym w ∙ h)))
+
+called : (c : tie.After-known-told) → readCall (c .before .before .before .before .before .before .args .bytes .now) (length (c .before .before .before .before .before .before .args .list .now)) ≡ done (heading (c .before .a .given .0 .0) (c .before .a .given .0 .1 .0) (c .before .a .given .0 .1 .1 .0))
+unfolding readingAs
+called c = sym (c .before .before .before .read-checked .ensures) ∙ ap readingAs (c .before .a .given .1)
+
+-- the sheet that was accepted has as many steps as the answer says, and the list has room
+held : (c : tie.After-known-told) → Held (c .before .before .before .before .before .before .args .bytes .now) (length (c .before .before .before .before .before .before .args .list .now)) (heading (c .before .a .given .0 .0) (c .before .a .given .0 .1 .0) (c .before .a .given .0 .1 .1 .0))
+held c = holding _ _ _ (called c)
+
+steps-are : (c : tie.After-known-told) → c .before .a .given .0 .0 ≡ stepsIn (c .before .before .before .before .before .before .args .bytes .now)
+unfolding headingOf
+steps-are c = ap (λ (h : Read). h .steps) (held c .is)
+
+cast-count : tie.Need-cast-count
+cast-count c = search needs
+
+read-steps-requires : tie.Need-read-steps-requires
+read-steps-requires c κs = let h = held (c .before) in let e = steps-are (c .before) in let a = accepted _ (h .ok) in (omega (arith, e, a .few), omega (arith, e, h .room), omega (arith, e, a .ends))
+
+blank-from-requires : tie.Need-blank-from-requires
+blank-from-requires c κs = search needs
+
+same-length-2 : tie.Need-same-length-2
+same-length-2 c = search needs
+
+returns-2 : tie.Need-returns-2
+unfolding readingAs
+returns-2 c = let o = c .before .before .before .before .before .before .before .before .before .before .before .before .before .before .args in
+    let k = c .before .before .before .before .before .before .before .before .before .a .given .0 .0 in
+    let d = c .before .before .before .before .before .before .read-steps .last .1 .1 .0 in
+    let w = called (c .before .before .before .before .before .before .before .before) in
+    let h = held (c .before .before .before .before .before .before .before .before) in
+    let l : length d ≡ length (o .list .now) = search needs in
+    let p = read-done (o .bytes .now) (length (o .list .now)) _ (rw (h .is) at w) (h .ok) (λ i. omega (arith, c .before .before .before .before .before .before .before .before .before .before .before .before .before .shared-slice-known .given i)) (c .before .before .blank-from .ensures ∙ rw (c .before .before .before .before .before .before .read-steps .ensures, l, steps-are (c .before .before .before .before .before .before .before .before)) refl) in
+    (sym w, (p .0, λ n q. p .1 n (w ∙ q)))
+
+pub read-spec : {M : Type 1} → statement M
+read-spec =
+    tie.close
+    (tie.spec
+    read-checked-requires
+    enum-known-a
+    enum-told
+    blank-requires
+    same-length
+    returns
+    cast-count
+    read-steps-requires
+    blank-from-requires
+    same-length-2
+    returns-2)

@@ -1,0 +1,92 @@
+use mathlib.Core.Path.{_≡_, refl, sym, ap, _∙_}
+use native.Mathlib.Omega.{arith}
+use Rattle.planning.specs.Sheet.{sheetOf}
+use Rattle.sheet.specs.Answers.{readingAs, headingOf}
+use Rattle.sheet.proofs.Checks.{refuses, passes, end-cut, end-passes, end-fails}
+use borrow.Author.Needs.{needs}
+use Rattle.sheet.proofs.read_end.Statement.{statement}
+use Rattle.sheet.proofs.read_end.Tie as tie
+use Rattle.sheet.proofs.read_end.Reads as reads
+use Rattle.sheet.proofs.read_end.Lts as lts
+use Rattle.bits.proofs.read_bits.Reads as read-bits-reads
+use Rattle.sheet.proofs.cost_in.Reads as cost-in-reads
+use Rattle.sheet.proofs.ends.Reads as ends-reads
+use Rattle.sheet.proofs.refused.Reads as refused-reads
+
+mul-end : tie.Need-mul-end
+mul-end c = search needs
+
+add-end : tie.Need-add-end
+add-end c = search needs
+
+add-if1 : tie.Need-add-if1
+add-if1 c = search needs
+
+mul-refused : tie.Need-mul-refused
+mul-refused c = search needs
+
+sub-refused : tie.Need-sub-refused
+sub-refused c = search needs
+
+mul-refused-2 : tie.Need-mul-refused-2
+mul-refused-2 c = search needs
+
+add-refused : tie.Need-add-refused
+add-refused c = search needs
+
+cast-refused : tie.Need-cast-refused
+cast-refused c = search needs
+
+refused-requires : tie.Need-refused-requires
+refused-requires c κs = search needs
+
+returns : tie.Need-returns
+returns c = c .refused .ensures ∙ sym (refuses _ _ _ _ (end-cut (c .before .before .before .args .bytes .now) (omega arith) (omega (arith, c .before .before .before .pre .1))))
+
+ends-requires : tie.Need-ends-requires
+ends-requires c κs = search needs
+
+cast-t16 : tie.Need-cast-t16
+cast-t16 c = search needs
+
+cost-in-requires : tie.Need-cost-in-requires
+cost-in-requires c κs = search needs
+
+read-bits-requires : tie.Need-read-bits-requires
+read-bits-requires c κs = search needs
+
+returns-2 : tie.Need-returns-2
+unfolding readingAs headingOf sheetOf
+returns-2 c = let o = c .before .before .before .before .before .before in rw (o .pre .1, c .before .cost-in .ensures, c .read-bits .ensures) (sym (passes (headingOf (o .args .bytes .now)) _ (end-passes (o .args .bytes .now) (omega (arith, o .pre .1)) (rw (← o .pre .1) (sym (c .before .before .before .ends .ensures) ∙ c .before .before .if2 .taken)))))
+
+cast-refused-2 : tie.Need-cast-refused-2
+cast-refused-2 c = search needs
+
+refused-requires-2 : tie.Need-refused-requires-2
+refused-requires-2 c κs = search needs
+
+returns-3 : tie.Need-returns-3
+returns-3 c = let o = c .before .before .before .before .before in c .refused2 .ensures ∙ rw (o .pre .1) (sym (refuses _ _ _ _ (end-fails (o .args .bytes .now) (omega (arith, o .pre .1)) (rw (← o .pre .1) (sym (c .before .before .ends .ensures) ∙ c .before .if2 .left)))))
+
+pub read-end-spec : {M : Type 1} → statement M
+read-end-spec =
+    tie.close
+    (tie.spec
+    mul-end
+    add-end
+    add-if1
+    mul-refused
+    sub-refused
+    mul-refused-2
+    add-refused
+    cast-refused
+    refused-requires
+    returns
+    ends-requires
+    cast-t16
+    cost-in-requires
+    read-bits-requires
+    returns-2
+    cast-refused-2
+    refused-requires-2
+    returns-3)

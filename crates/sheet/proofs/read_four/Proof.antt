@@ -1,0 +1,87 @@
+use mathlib.Core.Path.{_≡_, refl, sym, ap, _∙_}
+use native.Mathlib.Omega.{arith}
+use lib.ListN.{length-set}
+use Rattle.sheet.proofs.Copying.{four-stored}
+use borrow.Author.Needs.{needs}
+use Rattle.sheet.proofs.read_four.Statement.{statement}
+use Rattle.sheet.proofs.read_four.Tie as tie
+use Rattle.sheet.proofs.read_four.Reads as reads
+use Rattle.sheet.proofs.read_four.Lts as lts
+use Rattle.bits.proofs.read_six.Reads as read-six-reads
+
+read-six-requires : tie.Need-read-six-requires
+read-six-requires c κs = search needs
+
+cast-list : tie.Need-cast-list
+cast-list c = search needs
+
+mul-list : tie.Need-mul-list
+mul-list c = search needs
+
+slice-write-list : tie.Need-slice-write-list
+slice-write-list c = search needs
+
+cast-list-2 : tie.Need-cast-list-2
+cast-list-2 c = search needs
+
+add-list : tie.Need-add-list
+add-list c = search needs
+
+mul-list-2 : tie.Need-mul-list-2
+mul-list-2 c = search needs
+
+slice-write-list-2 : tie.Need-slice-write-list-2
+slice-write-list-2 c = simp length-set (omega arith)
+
+cast-list-3 : tie.Need-cast-list-3
+cast-list-3 c = search needs
+
+add-list-2 : tie.Need-add-list-2
+add-list-2 c = search needs
+
+mul-list-3 : tie.Need-mul-list-3
+mul-list-3 c = search needs
+
+slice-write-list-3 : tie.Need-slice-write-list-3
+slice-write-list-3 c = simp length-set (omega arith)
+
+cast-list-4 : tie.Need-cast-list-4
+cast-list-4 c = search needs
+
+add-list-3 : tie.Need-add-list-3
+add-list-3 c = search needs
+
+mul-list-4 : tie.Need-mul-list-4
+mul-list-4 c = search needs
+
+slice-write-list-4 : tie.Need-slice-write-list-4
+slice-write-list-4 c = simp length-set (omega arith)
+
+same-length : tie.Need-same-length
+same-length c = search needs
+
+returns : tie.Need-returns
+returns c = let a = c .before .before .before .args in four-stored (a .bytes .now) (a .list .now) (a .j) (a .i) _ (c .read-six .ensures) (omega arith)
+
+pub read-four-spec : {M : Type 1} → statement M
+read-four-spec =
+    tie.close
+    (tie.spec
+    read-six-requires
+    cast-list
+    mul-list
+    slice-write-list
+    cast-list-2
+    add-list
+    mul-list-2
+    slice-write-list-2
+    cast-list-3
+    add-list-2
+    mul-list-3
+    slice-write-list-3
+    cast-list-4
+    add-list-3
+    mul-list-4
+    slice-write-list-4
+    same-length
+    returns)

@@ -1,0 +1,13 @@
+use mathlib.Core.Path.{refl}
+use Rattle.sheet.specs.Answers.{readingAs}
+use Rattle.sheet.proofs.refused.Statement.{statement}
+use Rattle.sheet.proofs.refused.Tie as tie
+use Rattle.sheet.proofs.refused.Reads as reads
+use Rattle.sheet.proofs.refused.Lts as lts
+
+returns : tie.Need-returns
+unfolding readingAs
+returns c = refl
+
+pub refused-spec : {M : Type 1} → statement M
+refused-spec = tie.close (tie.spec returns)

@@ -1,0 +1,28 @@
+use mathlib.Core.Path.{sym}
+use native.Mathlib.Omega.{arith}
+use lib.ListN.{List·getD-eq-default}
+use borrow.Author.Needs.{needs}
+use Rattle.sheet.proofs.step_at.Statement.{statement}
+use Rattle.sheet.proofs.step_at.Tie as tie
+use Rattle.sheet.proofs.step_at.Reads as reads
+use Rattle.sheet.proofs.step_at.Lts as lts
+use Rattle.sheet.proofs.wide.Reads as wide-reads
+
+mul-wide : tie.Need-mul-wide
+mul-wide c = search needs
+
+shared-slice-read-wide : tie.Need-shared-slice-read-wide
+shared-slice-read-wide c = search needs
+
+wide-requires : tie.Need-wide-requires
+wide-requires c κs = search needs
+
+returns : tie.Need-returns
+returns c = search needs
+
+returns-2 : tie.Need-returns-2
+returns-2 c = let a = c .before .before .args in (sym (List·getD-eq-default (a .list .now) 0 {n = a .i} (search needs)), omega arith)
+
+pub step-at-spec : {M : Type 1} → statement M
+step-at-spec =
+    tie.close (tie.spec mul-wide shared-slice-read-wide wide-requires returns returns-2)

@@ -1,0 +1,78 @@
+use Rattle.sheet.proofs.Writing.{Writing, writing-start, writing-turn, writing-end, writing-room, writing-last}
+use borrow.Author.Needs.{needs}
+use mathlib.Core.Path.{_≡_, refl, sym, ap, _∙_}
+use Prim.Native.Nat.{ℕ, _+_, _*_, _/_, _^_, _-_, _≤_, _<_}
+use native.Mathlib.Omega.{arith}
+use lib.ListN.{length, getD, take, drop, set, replicate}
+use Rattle.sheet.proofs.write_steps.Statement.{statement}
+use Rattle.sheet.proofs.write_steps.Tie as tie
+use Rattle.sheet.proofs.write_steps.Reads as reads
+use Rattle.sheet.proofs.write_steps.Lts as lts
+use Rattle.bits.proofs.write_bits.Reads as write-bits-reads
+use Rattle.sheet.proofs.four_steps.Reads as four-steps-reads
+use Rattle.sheet.proofs.last_steps.Reads as last-steps-reads
+
+abbrev Inv-loop : tie.InvT-loop
+Inv-loop list five size bytes₀ rest₀ at₀ i₀ bytes rest at i = Writing list five size bytes₀ bytes rest at i
+
+abbrev μ-loop : tie.MeasureT-loop
+μ-loop list five size bytes₀ rest₀ at₀ i₀ bytes rest at i = length list - i
+
+loop-holds : tie.Need-loop-holds Inv-loop μ-loop
+loop-holds c = writing-start _ _ _ _ (omega arith)
+
+add-loop : tie.Need-add-loop Inv-loop μ-loop
+add-loop c = search needs
+
+four-steps-requires : tie.Need-four-steps-requires Inv-loop μ-loop
+four-steps-requires c κs = (omega arith, omega arith, c .before .before .before .before .pre .1)
+
+write-bits-requires : tie.Need-write-bits-requires Inv-loop μ-loop
+write-bits-requires c κs = (writing-room _ _ _ _ _ _ _ _ (c .before .before .before .loop .inv) (c .before .before .before .before .before .before .pre .4) (c .before .before .before .before .before .before .pre .3) (omega arith), omega arith, omega arith)
+
+add-at : tie.Need-add-at Inv-loop μ-loop
+add-at c = search needs
+
+add-i : tie.Need-add-i Inv-loop μ-loop
+add-i c = search needs
+
+loop-less : tie.Need-loop-less Inv-loop μ-loop
+loop-less c = search needs
+
+loop-again : tie.Need-loop-again Inv-loop μ-loop
+loop-again c = writing-turn _ _ _ _ _ _ _ _ (c .before .before .before .before .before .before .loop .inv) (c .before .before .before .before .before .before .before .before .before .pre .4) (c .before .before .before .before .before .before .before .before .before .pre .3) _ _ (omega arith) (c .before .before .before .before .four-steps .ensures) (search needs) (c .before .before .write-bits .ensures)
+
+last-steps-requires : tie.Need-last-steps-requires Inv-loop μ-loop
+last-steps-requires c κs = (omega arith, omega arith, omega arith, c .before .before .before .before .before .pre .1)
+
+sub-write-bits : tie.Need-sub-write-bits Inv-loop μ-loop
+sub-write-bits c = writing-last _ _ _ _ _ _ _ _ (c .before .before .before .loop .inv) (c .before .before .before .before .before .before .pre .4) (c .before .before .before .before .before .before .pre .3) (omega arith) .0
+
+write-bits-requires-2 : tie.Need-write-bits-requires-2 Inv-loop μ-loop
+write-bits-requires-2 c κs = let w = writing-last _ _ _ _ _ _ _ _ (c .before .before .before .loop .inv) (c .before .before .before .before .before .before .pre .4) (c .before .before .before .before .before .before .pre .3) (omega arith) in (omega (arith, w), omega (arith, w), omega arith)
+
+same-length : tie.Need-same-length Inv-loop μ-loop
+same-length c = search needs
+
+returns : tie.Need-returns Inv-loop μ-loop
+returns c = writing-end _ _ _ _ _ _ _ _ (c .before .before .before .before .before .before .loop .inv) (c .before .before .before .before .before .before .before .before .before .pre .4) (c .before .before .before .before .before .before .before .before .before .pre .3) _ _ (omega arith) (c .before .before .before .last-steps .ensures) (c .before .before .write-bits2 .ensures)
+
+pub write-steps-spec : {M : Type 1} → statement M
+write-steps-spec =
+    tie.close
+    (tie.spec
+    Inv-loop
+    μ-loop
+    loop-holds
+    add-loop
+    four-steps-requires
+    write-bits-requires
+    add-at
+    add-i
+    loop-less
+    loop-again
+    last-steps-requires
+    sub-write-bits
+    write-bits-requires-2
+    same-length
+    returns)
