@@ -1,12 +1,22 @@
-//! Times the proved library against the reference: same inputs, release, best of several runs.
-
-mod table;
+//! Times the proved library against the reference.
 
 #[cfg(feature = "check")]
 mod check;
+#[cfg(feature = "plan")]
+mod plan;
+#[cfg(feature = "runs")]
+mod runs;
+#[cfg(feature = "sheet")]
+mod sheet;
 
 fn main() {
-    table::header();
+    bench::table::header();
     #[cfg(feature = "check")]
     check::run();
+    #[cfg(feature = "runs")]
+    runs::run();
+    #[cfg(feature = "plan")]
+    plan::run();
+    #[cfg(feature = "sheet")]
+    sheet::run();
 }

@@ -2,66 +2,94 @@
 
 use std::time::{Duration, Instant};
 
-const ROUNDS: usize = 200;
-const BUDGET: Duration = Duration::from_millis(600);
+const ROUNDS: usize = 1000;
+const LEAST_ROUNDS: usize = 10;
+const BUDGET: Duration = Duration::from_millis(800);
 
-/// One input for both sides, with what is lent to each.
-pub trait Case {
-    /// Brings everything lent back to zero; not timed.
-    fn clear(&mut self) {}
-    fn library(&mut self);
-    fn reference(&mut self);
-    /// Whether both sides gave the same; asked once.
-    fn agrees(&self) -> bool;
+/// What is lent to a call.
+#[derive(Clone, PartialEq)]
+pub struct Lent {
+    pub plan: Vec<u16>,
+    pub work: Vec<u16>,
+    pub bytes: Vec<u8>,
+}
+
+impl Lent {
+    pub fn new(plan: usize, work: usize, bytes: usize) -> Self {
+        Lent { plan: vec![0; plan], work: vec![0; work], bytes: vec![0; bytes] }
+    }
+
+    fn clear(&mut self) {
+        self.plan.fill(0);
+        self.work.fill(0);
+        self.bytes.fill(0);
+    }
+}
+
+/// The numbers of an answer.
+pub type Answer = [u64; 4];
+
+/// One input and the calls on both sides.
+pub struct Case<I: ?Sized> {
+    pub input: Box<I>,
+    pub lent: Lent,
+    pub library: fn(&I, &mut Lent) -> Answer,
+    pub reference: fn(&I, &mut Lent) -> Answer,
+}
+
+struct Times {
+    library: f64,
+    reference: f64,
 }
 
 pub fn header() {
-    println!("Best of up to {ROUNDS} rounds, both sides in turn; what is lent is cleared before each call.");
-    println!("growth: time of the library against the line below.\n");
+    let build = if cfg!(debug_assertions) { "Debug build, times mean little" } else { "Release" };
+    println!("{build}. Same inputs, best of up to {ROUNDS} rounds, both sides in turn.");
+    println!("All that is lent is cleared before each call, outside the time taken.");
+    println!("growth: time of the library against the next smaller size.\n");
     println!(
-        "{:<24} {:<8} {:>12} {:>12} {:>7} {:>7}",
-        "class", "size", "library", "reference", "ratio", "growth"
+        "{:<28} {:<8} {:>11} {:>11} {:>6} {:>6}",
+        "class", "size", "library us", "Rust us", "ratio", "growth"
     );
 }
 
 /// A class at its sizes, largest first.
-pub fn class<C: Case>(name: &str, cases: Vec<(&str, C)>) {
+pub fn class<I: ?Sized>(name: &str, cases: impl IntoIterator<Item = (&'static str, Case<I>)>) {
     let timed: Vec<_> = cases.into_iter().map(|(size, case)| (size, best(case))).collect();
-    for (i, (size, (library, reference))) in timed.iter().enumerate() {
-        let ratio = library.as_secs_f64() / reference.as_secs_f64();
-        let smaller = timed.get(i + 1).map(|(_, (library, _))| library.as_secs_f64());
-        let growth = smaller.map_or("-".to_string(), |s| format!("{:.2}", library.as_secs_f64() / s));
-        println!(
-            "{:<24} {:<8} {:>9.1} us {:>9.1} us {:>7.2} {:>7}",
-            name, size, micros(*library), micros(*reference), ratio, growth
-        );
+    for (i, (size, times)) in timed.iter().enumerate() {
+        let smaller = timed.get(i + 1).map(|(_, smaller)| times.library / smaller.library);
+        let growth = smaller.map_or("-".to_string(), |growth| format!("{growth:.2}"));
+        let (library, reference) = (times.library * 1e6, times.reference * 1e6);
+        let ratio = library / reference;
+        println!("{name:<28} {size:<8} {library:>11.1} {reference:>11.1} {ratio:>6.2} {growth:>6}");
     }
 }
 
-fn micros(time: Duration) -> f64 {
-    time.as_secs_f64() * 1e6
-}
-
-fn best<C: Case>(mut case: C) -> (Duration, Duration) {
+fn best<I: ?Sized>(mut case: Case<I>) -> Times {
+    check(&mut case);
     let started = Instant::now();
-    let mut least = (Duration::MAX, Duration::MAX);
+    let mut best = Times { library: f64::MAX, reference: f64::MAX };
     for round in 0..ROUNDS {
-        case.clear();
-        least.0 = least.0.min(time(|| case.library()));
-        case.clear();
-        least.1 = least.1.min(time(|| case.reference()));
-        if round == 0 {
-            assert!(case.agrees(), "library and reference differ");
-        }
-        if round >= 10 && started.elapsed() > BUDGET {
+        best.library = best.library.min(time(&*case.input, &mut case.lent, case.library));
+        best.reference = best.reference.min(time(&*case.input, &mut case.lent, case.reference));
+        if round >= LEAST_ROUNDS && started.elapsed() > BUDGET {
             break;
         }
     }
-    least
+    best
 }
 
-fn time(work: impl FnOnce()) -> Duration {
+/// Both sides answer the same and leave the same.
+fn check<I: ?Sized>(case: &mut Case<I>) {
+    let mut other = case.lent.clone();
+    let library = (case.library)(&case.input, &mut case.lent);
+    let reference = (case.reference)(&case.input, &mut other);
+    assert!(library == reference && case.lent == other, "library and reference differ");
+}
+
+fn time<I: ?Sized>(input: &I, lent: &mut Lent, call: fn(&I, &mut Lent) -> Answer) -> f64 {
+    lent.clear();
     let started = Instant::now();
-    work();
-    started.elapsed()
+    std::hint::black_box(call(std::hint::black_box(input), lent));
+    started.elapsed().as_secs_f64()
 }

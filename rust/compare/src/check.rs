@@ -1,19 +1,17 @@
 //! The record check. Every input lies against a forbidden page, so that a read outside ends the run.
 
-use crate::guard::Guarded;
-use crate::suite::{hex, shown, Options};
-use generate::{damage, records, stores, Random};
-use reference::{examples, record, refusal, Task};
+use compare::guard::Guarded;
+use compare::suite::{hex, same, Options};
+use generate::{damage, mixture, records, Random};
+use reference::{examples, record, refusal};
+use std::fmt;
 
 const COUNT: usize = 200_000;
 const MOST_BYTES: usize = 300_000;
 
-pub fn run(options: &Options) -> Result<usize, String> {
-    let mut check = Check {
-        random: Random::new(options.seed),
-        place: Guarded::new(MOST_BYTES),
-        compared: 0,
-    };
+pub fn run(options: &Options) -> Result<String, String> {
+    let mut check =
+        Check { random: Random::new(options.seed), place: Guarded::new(MOST_BYTES), compared: 0 };
     check.examples()?;
     check.truncations()?;
     check.flips()?;
@@ -22,7 +20,19 @@ pub fn run(options: &Options) -> Result<usize, String> {
     for _ in 0..options.count.unwrap_or(COUNT) {
         check.small()?;
     }
-    Ok(check.compared)
+    Ok(format!("{} inputs", check.compared))
+}
+
+#[derive(PartialEq)]
+struct Code(u64);
+
+impl fmt::Debug for Code {
+    fn fmt(&self, f: &mut fmt::Formatter) -> fmt::Result {
+        match self.0 {
+            0 => write!(f, "accepted"),
+            code => write!(f, "{} at {}", code % 32, code / 32),
+        }
+    }
 }
 
 struct Check {
@@ -38,14 +48,10 @@ impl Check {
             _ => self.place.at_end(bytes.len()),
         };
         input.copy_from_slice(bytes);
-        let library = mardiskos::check(input);
-        let reference = refusal::code(&record::check(bytes));
         self.compared += 1;
-        if library == reference {
-            return Ok(());
-        }
-        let (library, reference) = (shown(library), shown(reference));
-        Err(format!("library: {library}\nreference: {reference}\nrecord: {}", hex(bytes)))
+        let library = Code(mardiskos::check(input));
+        let reference = Code(refusal::code(&record::check(bytes)));
+        same(library, reference, || format!("record: {}", hex(bytes)))
     }
 
     fn examples(&mut self) -> Result<(), String> {
@@ -94,7 +100,7 @@ impl Check {
             self.every_flip(&middle, 1)?;
         }
         let longest = self.longest();
-        self.every_flip(&longest, 7)
+        self.every_flip(&longest, 29)
     }
 
     fn longest(&mut self) -> Vec<u8> {
@@ -128,7 +134,8 @@ impl Check {
 
     fn over_long(&mut self) -> Result<(), String> {
         for _ in 0..100 {
-            let mut bytes = if self.random.chance(1, 4) { self.longest() } else { self.small_record() };
+            let mut bytes =
+                if self.random.chance(1, 4) { self.longest() } else { self.small_record() };
             let more = self.random.within(1, MOST_BYTES - bytes.len());
             let zeros = bytes.len() + more;
             let mut noise = bytes.clone();
@@ -149,17 +156,7 @@ impl Check {
     }
 
     fn small_record(&mut self) -> Vec<u8> {
-        record::write(&self.small_task())
-    }
-
-    fn small_task(&mut self) -> Task {
-        match self.random.below(6) {
-            0 => records::random_task(&mut self.random, records::TINY),
-            1 | 2 => records::random_task(&mut self.random, records::SMALL),
-            3 => stores::store(&mut self.random, stores::TINY),
-            4 => stores::store(&mut self.random, stores::SMALL),
-            _ => stores::damaged_store(&mut self.random, stores::SMALL),
-        }
+        record::write(&mixture::small_task(&mut self.random))
     }
 
     /// Random bytes, with a right edition in most cases and a right header in some.

@@ -4,7 +4,14 @@ use std::ffi::c_void;
 use std::marker::PhantomData;
 
 extern "C" {
-    fn mmap(at: *mut c_void, len: usize, access: i32, flags: i32, file: i32, offset: i64) -> *mut c_void;
+    fn mmap(
+        at: *mut c_void,
+        len: usize,
+        access: i32,
+        flags: i32,
+        file: i32,
+        offset: i64,
+    ) -> *mut c_void;
     fn mprotect(at: *mut c_void, len: usize, access: i32) -> i32;
     fn munmap(at: *mut c_void, len: usize) -> i32;
 }
@@ -52,6 +59,13 @@ impl<T: Plain> Guarded<T> {
     pub fn at_start(&mut self, count: usize) -> &mut [T] {
         assert!(count * size_of::<T>() <= self.room);
         self.list(PAGE, count)
+    }
+
+    /// A copy of some numbers that ends directly before the forbidden page.
+    pub fn copy(&mut self, numbers: &[T]) -> &[T] {
+        let room = self.at_end(numbers.len());
+        room.copy_from_slice(numbers);
+        room
     }
 
     fn list(&mut self, offset: usize, count: usize) -> &mut [T] {

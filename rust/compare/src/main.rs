@@ -1,30 +1,49 @@
 //! Compares the proved library with the reference.
 //!
 //! `compare [SUITE..] [--seed N] [--count N]` runs the named suites, by default all that are
-//! compiled in. It stops at the first difference with a non-zero status and the input as hex.
-
-mod guard;
-mod suite;
+//! compiled in. It stops at the first difference with a non-zero status and the input as hex. What
+//! is handed to the library lies against forbidden pages, so that a touch outside ends the run too.
 
 #[cfg(feature = "check")]
 mod check;
+#[cfg(feature = "plan")]
+mod plan;
+#[cfg(feature = "runs")]
+mod runs;
+#[cfg(feature = "sheet")]
+mod sheet;
 
-use suite::{Options, Suite};
+use compare::suite::{Options, Suite};
 use std::process::ExitCode;
+use std::thread;
 
 const SUITES: &[(&str, Suite)] = &[
     #[cfg(feature = "check")]
     ("check", check::run),
+    #[cfg(feature = "runs")]
+    ("runs", runs::run),
+    #[cfg(feature = "sheet")]
+    ("sheet", sheet::run),
+    #[cfg(feature = "plan")]
+    ("plan", plan::run),
 ];
 
 fn main() -> ExitCode {
-    match Options::parse(std::env::args().skip(1)).and_then(|options| run(&options)) {
+    match Options::parse(std::env::args().skip(1)).and_then(on_small_stack) {
         Ok(()) => ExitCode::SUCCESS,
         Err(message) => {
             eprintln!("{message}");
             ExitCode::FAILURE
         }
     }
+}
+
+/// The library is to need no more stack than this.
+const STACK: usize = 256 << 10;
+
+fn on_small_stack(options: Options) -> Result<(), String> {
+    let thread = thread::Builder::new().stack_size(STACK).spawn(move || run(&options));
+    thread.map_err(|error| error.to_string())?.join().unwrap_or(Err("panicked".to_string()))
 }
 
 fn run(options: &Options) -> Result<(), String> {
@@ -35,7 +54,7 @@ fn run(options: &Options) -> Result<(), String> {
     for (name, suite) in SUITES {
         if options.suites.is_empty() || options.suites.iter().any(|chosen| chosen == name) {
             let compared = suite(options).map_err(|d| format!("{name}: difference\n{d}"))?;
-            println!("{name}: {compared} inputs compared");
+            println!("{name}: {compared} compared");
         }
     }
     Ok(())

@@ -1,7 +1,7 @@
 use std::time::{SystemTime, UNIX_EPOCH};
 
-/// A suite answers the number of inputs compared, or the first difference.
-pub type Suite = fn(&Options) -> Result<usize, String>;
+/// A suite answers what it compared, or the first difference.
+pub type Suite = fn(&Options) -> Result<String, String>;
 
 pub struct Options {
     pub suites: Vec<String>,
@@ -37,10 +37,30 @@ pub fn hex(bytes: &[u8]) -> String {
     bytes.iter().map(|byte| format!("{byte:02x}")).collect()
 }
 
-/// 0, or number and place.
-pub fn shown(code: u64) -> String {
-    match code {
-        0 => "accepted".to_string(),
-        _ => format!("{} at {}", code % 32, code / 32),
+pub fn list_hex(list: &[u16]) -> String {
+    list.iter().map(|entry| format!("{entry:04x}")).collect()
+}
+
+/// Fails with both answers and the input if they differ.
+pub fn same<T: PartialEq + std::fmt::Debug>(
+    library: T,
+    reference: T,
+    input: impl FnOnce() -> String,
+) -> Result<(), String> {
+    if library == reference {
+        return Ok(());
+    }
+    Err(format!("library: {library:?}\nreference: {reference:?}\n{}", input()))
+}
+
+/// Fails with the first entry in which something lent differs afterwards.
+pub fn same_lent(
+    what: &str,
+    difference: Option<usize>,
+    input: impl FnOnce() -> String,
+) -> Result<(), String> {
+    match difference {
+        Some(entry) => Err(format!("{what} differs at entry {entry}\n{}", input())),
+        None => Ok(()),
     }
 }

@@ -1,6 +1,8 @@
 //! Random and drawn records, for comparison and benchmark.
 
 pub mod damage;
+pub mod extremes;
+pub mod mixture;
 pub mod random;
 pub mod records;
 pub mod stores;

@@ -38,7 +38,8 @@ pub fn full_task(random: &mut Random) -> Task {
 
 /// Like `sized`, with random facts: `facts` in every list.
 pub fn dense_task(random: &mut Random, variables: usize, actions: usize, facts: usize) -> Task {
-    let drawn = (0..variables).map(|_| variable(random, 64, 50)).map(|v| Variable { values: 64, ..v });
+    let drawn =
+        (0..variables).map(|_| variable(random, 64, 50)).map(|v| Variable { values: 64, ..v });
     let mut task = Task::new(drawn.collect());
     for _ in 0..actions {
         let preconditions = choose_facts(random, &task, facts);
@@ -61,7 +62,11 @@ fn task(random: &mut Random, shape: Shape, variables: usize, actions: usize) -> 
 
 pub fn cost(random: &mut Random) -> u16 {
     let bits = random.bits() as u16;
-    if random.chance(1, 4) { bits } else { bits % 10 }
+    if random.chance(1, 4) {
+        bits
+    } else {
+        bits % 10
+    }
 }
 
 fn variable(random: &mut Random, most_values: usize, black: usize) -> Variable {

@@ -50,31 +50,47 @@ impl<'a> Bits<'a> {
     }
 }
 
-/// Writes fields one behind the other.
-#[derive(Default)]
-pub struct BitWriter {
-    bytes: Vec<u8>,
+/// Writes fields one behind the other into bytes that have room for them.
+pub struct BitWriter<'a> {
+    bytes: &'a mut [u8],
+    at: usize,
+    /// Bits not written yet, left aligned; fewer than 8 between calls.
     pending: u64,
     count: usize,
 }
 
-impl BitWriter {
-    /// Appends the low `width` bits of `value`, `width` up to 32.
-    pub fn put(&mut self, value: u64, width: usize) {
-        self.pending = self.pending << width | value & ((1 << width) - 1);
-        self.count += width;
-        while self.count >= 8 {
-            self.count -= 8;
-            self.bytes.push((self.pending >> self.count) as u8);
-        }
+impl<'a> BitWriter<'a> {
+    pub fn new(bytes: &'a mut [u8]) -> Self {
+        BitWriter { bytes, at: 0, pending: 0, count: 0 }
     }
 
-    /// Fills the last byte with zero bits.
-    pub fn finish(mut self) -> Vec<u8> {
-        if self.count > 0 {
-            self.put(0, 8 - self.count);
+    /// Appends a field of `width` bits, `width` from 1 to 56; higher bits of `value` are cut.
+    #[inline(always)]
+    pub fn put(&mut self, value: u64, width: usize) {
+        self.pending |= value << (64 - width) >> self.count;
+        self.count += width;
+        let whole = self.count / 8;
+        self.store(whole);
+        self.at += whole;
+        self.pending <<= 8 * whole;
+        self.count %= 8;
+    }
+
+    /// Fills the last byte with zero bits; answers the bytes written.
+    pub fn finish(mut self) -> usize {
+        let more = self.count.div_ceil(8);
+        self.store(more);
+        self.at + more
+    }
+
+    /// Stores the first bytes pending, and more where there is room: the next call overwrites it.
+    #[inline(always)]
+    fn store(&mut self, whole: usize) {
+        let eight = self.pending.to_be_bytes();
+        match self.bytes.get_mut(self.at..self.at + 8) {
+            Some(room) => room.copy_from_slice(&eight),
+            None => self.bytes[self.at..self.at + whole].copy_from_slice(&eight[..whole]),
         }
-        self.bytes
     }
 }
 
@@ -85,11 +101,12 @@ mod tests {
     #[test]
     fn fields_come_back() {
         let widths = [4, 7, 11, 6, 1, 6, 1, 6, 16, 32, 12, 3];
-        let mut writer = BitWriter::default();
+        let mut bytes = [0; 14];
+        let mut writer = BitWriter::new(&mut bytes);
         for (i, width) in widths.iter().enumerate() {
             writer.put(0x9e37_79b9_7f4a_7c15 >> i, *width);
         }
-        let bytes = writer.finish();
+        assert_eq!(writer.finish(), 14);
         let bits = Bits::new(&bytes);
         let mut at = 0;
         for (i, width) in widths.iter().enumerate() {

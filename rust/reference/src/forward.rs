@@ -1,6 +1,6 @@
 //! The forward run and the relaxed plan.
 
-use crate::index::{Ready, Waiting};
+use crate::index::{Groups, Ready, Waiting};
 use crate::refusal::Refusal;
 use crate::state::State;
 use crate::task::{Fact, Task};
@@ -16,8 +16,8 @@ pub struct ForwardRun {
 }
 
 /// The forward run, or 10 with the facts reached.
-pub fn forward_run(task: &Task) -> Result<ForwardRun, Refusal> {
-    let mut forward = Forward::new(task);
+pub fn forward_run(task: &Task, needing: &Groups) -> Result<ForwardRun, Refusal> {
+    let mut forward = Forward::new(task, needing);
     while forward.goals_left > 0 {
         let Some(number) = forward.ready.take_lowest() else {
             return Err(Refusal::new(10, forward.run.reached as usize));
@@ -30,7 +30,7 @@ pub fn forward_run(task: &Task) -> Result<ForwardRun, Refusal> {
 struct Forward<'a> {
     task: &'a Task,
     held: State,
-    waiting: Waiting,
+    waiting: Waiting<'a>,
     /// Applicable actions not looked at yet. One that adds nothing now never will.
     ready: Ready,
     goals_left: usize,
@@ -38,12 +38,12 @@ struct Forward<'a> {
 }
 
 impl<'a> Forward<'a> {
-    fn new(task: &'a Task) -> Self {
+    fn new(task: &'a Task, needing: &'a Groups) -> Self {
         let achiever = vec![NO_ACTION; 64 * task.variables.len()];
         let mut forward = Forward {
             task,
             held: State::empty(),
-            waiting: Waiting::new(task),
+            waiting: Waiting::new(task, needing),
             ready: Ready::default(),
             goals_left: task.goals().count(),
             run: ForwardRun { actions: Vec::new(), reached: 0, achiever },

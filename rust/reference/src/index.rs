@@ -2,52 +2,59 @@
 
 use crate::task::{Fact, Task};
 
-/// Action numbers grouped by a key.
+const NONE: u16 = 65_535;
+
+/// Action numbers grouped by fact, as chains.
 pub struct Groups {
-    first: Vec<u16>,
-    numbers: Vec<u16>,
+    head: Vec<u16>,
+    /// A number, and the place of the next one of its group.
+    links: Vec<(u16, u16)>,
 }
 
 impl Groups {
-    /// `pairs` gives each key and number, the same ones at both calls.
-    pub fn new<I: Iterator<Item = (usize, usize)>>(keys: usize, pairs: impl Fn() -> I) -> Self {
-        let mut first = vec![0; keys + 1];
-        pairs().for_each(|(key, _)| first[key] += 1);
-        let mut sum = 0;
-        for count in &mut first {
-            sum += *count;
-            *count = sum;
-        }
-        let mut numbers = vec![0; sum as usize];
-        for (key, number) in pairs() {
-            first[key] -= 1;
-            numbers[first[key] as usize] = number as u16;
-        }
-        Groups { first, numbers }
+    pub fn new(task: &Task, size: usize) -> Self {
+        Groups { head: vec![NONE; 64 * task.variables.len()], links: Vec::with_capacity(size) }
     }
 
     #[inline(always)]
-    pub fn of(&self, key: usize) -> &[u16] {
-        &self.numbers[self.first[key] as usize..self.first[key + 1] as usize]
+    pub fn insert(&mut self, fact: Fact, number: usize) {
+        let place = self.links.len() as u16;
+        let head = &mut self.head[fact.index()];
+        self.links.push((number as u16, *head));
+        *head = place;
+    }
+
+    /// The numbers of a group, the last inserted first.
+    #[inline(always)]
+    pub fn of(&self, fact: Fact) -> impl Iterator<Item = usize> + '_ {
+        let mut place = self.head[fact.index()];
+        std::iter::from_fn(move || {
+            let &(number, next) = self.links.get(place as usize)?;
+            place = next;
+            Some(number as usize)
+        })
     }
 }
 
-/// For each fact the actions that need it, and for each action its preconditions not yet held.
-pub struct Waiting {
-    needing: Groups,
+/// The actions that need each fact.
+pub fn needing(task: &Task) -> Groups {
+    let mut groups = Groups::new(task, task.fact_count());
+    for (number, action) in task.actions().enumerate() {
+        action.preconditions.iter().for_each(|&fact| groups.insert(fact, number));
+    }
+    groups
+}
+
+/// For each action the count of its preconditions not yet met.
+pub struct Waiting<'a> {
+    needing: &'a Groups,
     unmet: Vec<u8>,
 }
 
-impl Waiting {
-    pub fn new(task: &Task) -> Self {
-        let needs = || {
-            let numbered = task.actions().enumerate();
-            numbered.flat_map(|(a, action)| action.preconditions.iter().map(move |f| (f.index(), a)))
-        };
-        Waiting {
-            needing: Groups::new(64 * task.variables.len(), needs),
-            unmet: task.actions().map(|action| action.preconditions.len() as u8).collect(),
-        }
+impl<'a> Waiting<'a> {
+    pub fn new(task: &Task, needing: &'a Groups) -> Self {
+        let unmet = task.actions().map(|action| action.preconditions.len() as u8).collect();
+        Waiting { needing, unmet }
     }
 
     /// The actions without preconditions.
@@ -58,11 +65,11 @@ impl Waiting {
     /// Hands on each action whose last unmet precondition is this fact. Called once a fact.
     #[inline(always)]
     pub fn meet(&mut self, fact: Fact, mut applicable: impl FnMut(usize)) {
-        for &number in self.needing.of(fact.index()) {
-            let unmet = &mut self.unmet[number as usize];
+        for number in self.needing.of(fact) {
+            let unmet = &mut self.unmet[number];
             *unmet -= 1;
             if *unmet == 0 {
-                applicable(number as usize);
+                applicable(number);
             }
         }
     }

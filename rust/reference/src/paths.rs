@@ -81,3 +81,53 @@ impl Paths {
         arcs.min().unwrap_or(0)
     }
 }
+
+#[cfg(test)]
+mod tests {
+    use super::*;
+
+    fn path(paths: &mut Paths, from: usize, to: usize, targets: &[usize]) -> Vec<u16> {
+        let (mut at, mut list) = (from, Vec::new());
+        while at != to {
+            let number = paths.first(at, to);
+            at = targets[number as usize];
+            list.push(number);
+        }
+        list
+    }
+
+    #[test]
+    fn shortest_before_smallest() {
+        let mut paths = Paths::new(4);
+        let targets = [1, 2, 3, 3];
+        paths.add(0, Some(0), 1);
+        paths.add(1, Some(1), 2);
+        paths.add(2, Some(2), 3);
+        assert_eq!(path(&mut paths, 0, 3, &targets), [0, 1, 2]);
+        paths.add(3, Some(0), 3);
+        assert_eq!(path(&mut paths, 0, 3, &targets), [3]);
+    }
+
+    #[test]
+    fn smallest_first_to_last() {
+        let mut paths = Paths::new(4);
+        let targets = [3, 1, 2, 3];
+        paths.add(2, Some(0), 2);
+        paths.add(0, Some(2), 3);
+        assert_eq!(path(&mut paths, 0, 3, &targets), [2, 0]);
+        paths.add(1, Some(0), 1);
+        paths.add(3, Some(1), 3);
+        assert_eq!(path(&mut paths, 0, 3, &targets), [1, 3]);
+    }
+
+    #[test]
+    fn lowest_of_parallel_actions() {
+        let mut paths = Paths::new(2);
+        paths.add(5, Some(0), 1);
+        assert_eq!(paths.first(0, 1), 5);
+        paths.add(3, None, 1);
+        assert_eq!(paths.first(0, 1), 3);
+        paths.add(4, Some(0), 1);
+        assert_eq!(paths.first(0, 1), 3);
+    }
+}

@@ -2,7 +2,7 @@
 
 use crate::bits::{BitWriter, Bits};
 use crate::refusal::Refusal;
-use crate::task::{Fact, Task, Variable, FACTS};
+use crate::task::{Action, Fact, Task, Variable, FACTS};
 
 pub const MAX_VARIABLES: usize = 64;
 pub const MAX_ACTIONS: usize = 1024;
@@ -25,47 +25,56 @@ pub fn read(bytes: &[u8]) -> Result<Task, Refusal> {
 
 /// Packs a task; what does not fit its field is cut, so that faulty records can be written too.
 pub fn write(task: &Task) -> Vec<u8> {
-    let mut out = BitWriter::default();
+    let facts: usize = task.actions().map(|a| a.preconditions.len() + a.effects.len()).sum();
+    let heads =
+        HEADER_BITS + VARIABLE_BITS * task.variables.len() + ACTION_BITS * task.action_count();
+    let mut bytes = vec![0; (heads + FACT_BITS * facts).div_ceil(8)];
+    let mut out = BitWriter::new(&mut bytes);
     out.put(1, 4);
     out.put(task.variables.len() as u64, 7);
     out.put(task.action_count() as u64, 11);
-    for variable in &task.variables {
-        out.put(u64::from(variable.values.wrapping_sub(1)), 6);
-        out.put(u64::from(variable.black), 1);
-        out.put(u64::from(variable.initial), 6);
-        out.put(u64::from(variable.goal.is_some()), 1);
-        out.put(u64::from(variable.goal.unwrap_or(0)), 6);
+    task.variables.iter().for_each(|&variable| write_variable(&mut out, variable));
+    task.actions().for_each(|action| write_action(&mut out, action));
+    out.finish();
+    bytes
+}
+
+fn write_variable(out: &mut BitWriter, variable: Variable) {
+    out.put(u64::from(variable.values.wrapping_sub(1)), 6);
+    out.put(u64::from(variable.black), 1);
+    out.put(u64::from(variable.initial), 6);
+    out.put(u64::from(variable.goal.is_some()), 1);
+    out.put(u64::from(variable.goal.unwrap_or(0)), 6);
+}
+
+fn write_action(out: &mut BitWriter, action: Action) {
+    out.put(u64::from(action.cost), 16);
+    out.put(action.preconditions.len() as u64, 4);
+    out.put(action.effects.len() as u64, 4);
+    for fact in action.preconditions.iter().chain(action.effects) {
+        out.put(fact.index() as u64, FACT_BITS);
     }
-    for action in task.actions() {
-        out.put(u64::from(action.cost), 16);
-        out.put(action.preconditions.len() as u64, 4);
-        out.put(action.effects.len() as u64, 4);
-        for fact in action.preconditions.iter().chain(action.effects) {
-            out.put(fact.index() as u64, FACT_BITS);
-        }
-    }
-    out.finish()
 }
 
 /// Takes the fields of a record as they are read.
 trait Sink {
-    fn header(&mut self, variables: usize, actions: usize);
+    fn header(&mut self, variables: usize, actions: usize, most_facts: usize);
     fn variable(&mut self, variable: Variable);
     fn action(&mut self, cost: u16, preconditions: usize, effects: usize);
     fn facts(&mut self, facts: &[Fact]);
 }
 
 impl Sink for () {
-    fn header(&mut self, _: usize, _: usize) {}
+    fn header(&mut self, _: usize, _: usize, _: usize) {}
     fn variable(&mut self, _: Variable) {}
     fn action(&mut self, _: u16, _: usize, _: usize) {}
     fn facts(&mut self, _: &[Fact]) {}
 }
 
 impl Sink for Task {
-    fn header(&mut self, variables: usize, actions: usize) {
+    fn header(&mut self, variables: usize, actions: usize, most_facts: usize) {
         self.variables.reserve(variables);
-        self.reserve_actions(actions);
+        self.reserve_actions(actions, most_facts);
     }
 
     fn variable(&mut self, variable: Variable) {
@@ -133,7 +142,8 @@ impl<'a, S: Sink> Scanner<'a, S> {
         let actions = self.field(11)?;
         refuse_unless(actions <= MAX_ACTIONS, 3, 11)?;
         debug_assert_eq!(self.at, HEADER_BITS);
-        self.sink.header(variables, actions);
+        let most_facts = (self.end / FACT_BITS).min(30 * actions);
+        self.sink.header(variables, actions, most_facts);
         Ok((variables, actions))
     }
 
@@ -207,8 +217,10 @@ impl<'a, S: Sink> Scanner<'a, S> {
     #[inline(always)]
     fn four_facts(&mut self, at: usize, lowest: usize) -> Option<usize> {
         let window = self.bits.window(at);
-        let facts = [52, 40, 28, 16].map(|shift| Fact::from_index((window >> shift) as usize % FACTS));
-        let lows = [lowest, facts[0].variable() + 1, facts[1].variable() + 1, facts[2].variable() + 1];
+        let facts =
+            [52, 40, 28, 16].map(|shift| Fact::from_index((window >> shift) as usize % FACTS));
+        let lows =
+            [lowest, facts[0].variable() + 1, facts[1].variable() + 1, facts[2].variable() + 1];
         let sound = (0..4).fold(true, |sound, i| sound & self.sound(facts[i], lows[i]));
         if !sound {
             return None;

@@ -60,9 +60,16 @@ impl State {
         self.sets[fact.variable()] |= 1 << fact.value();
     }
 
+    /// Adds every value of a variable.
     #[inline(always)]
-    pub fn remove(&mut self, fact: Fact) {
-        self.sets[fact.variable()] &= !(1 << fact.value());
+    pub fn fill(&mut self, variable: usize) {
+        self.sets[variable % 64] = !0;
+    }
+
+    /// Takes away every value of a variable.
+    #[inline(always)]
+    pub fn clear(&mut self, variable: usize) {
+        self.sets[variable % 64] = 0;
     }
 
     #[inline(always)]

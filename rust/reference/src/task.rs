@@ -30,6 +30,12 @@ impl Fact {
     }
 }
 
+/// The variables of some facts as a set.
+#[inline(always)]
+pub fn variables_of(facts: &[Fact]) -> u64 {
+    facts.iter().fold(0, |set, fact| set | 1 << fact.variable())
+}
+
 #[derive(Clone, Copy, Debug, PartialEq, Eq)]
 pub struct Variable {
     /// Count of values, 1 to 64.
@@ -73,6 +79,10 @@ impl Task {
         self.push_facts(effects);
     }
 
+    pub fn fact_count(&self) -> usize {
+        self.facts.len()
+    }
+
     pub fn action_count(&self) -> usize {
         self.spans.len()
     }
@@ -110,8 +120,9 @@ impl Task {
         numbered.filter_map(|(v, variable)| Some(Fact::new(v, variable.goal? as usize)))
     }
 
-    pub(crate) fn reserve_actions(&mut self, actions: usize) {
+    pub(crate) fn reserve_actions(&mut self, actions: usize, facts: usize) {
         self.spans.reserve(actions);
+        self.facts.reserve(facts);
     }
 
     #[inline(always)]
@@ -122,7 +133,6 @@ impl Task {
             effects: effects as u8,
             first: self.facts.len() as u32,
         });
-        self.facts.reserve(preconditions + effects);
     }
 
     #[inline(always)]

@@ -1,0 +1,3 @@
+//! What the classes share.
+
+pub mod table;

@@ -1,0 +1,6 @@
+//! What the suites share.
+
+pub mod guard;
+pub mod lent;
+pub mod lists;
+pub mod suite;

@@ -1,0 +1,218 @@
+//! The planner and the repair of a caller's relaxed plan.
+
+use compare::guard::Guarded;
+use compare::lent::Lent;
+use compare::lists;
+use compare::suite::{hex, list_hex, same, same_lent, Options};
+use generate::{mixture, Random};
+use mardiskos::PlanResult;
+use reference::{entry, record, search, Refusal, Task};
+
+const COUNT: usize = 100_000;
+const MOST_ENTRIES: usize = 41_000;
+const MOST_BYTES: usize = 60_000;
+const MAX_STEPS: usize = entry::MAX_STEPS;
+const SEARCHED_STATES: usize = 500;
+
+pub fn run(options: &Options) -> Result<String, String> {
+    let mut plans = Plans {
+        random: Random::new(options.seed),
+        record: Guarded::new(MOST_BYTES),
+        relaxed: Guarded::new(MOST_ENTRIES),
+        plan: Lent::new(MOST_ENTRIES),
+        work: Lent::new(MOST_ENTRIES),
+        room: vec![0; MAX_STEPS],
+        calls: 0,
+        planned: 0,
+        searched: 0,
+    };
+    let records = options.count.unwrap_or(COUNT);
+    for _ in 0..records {
+        plans.compare_record()?;
+    }
+    let Plans { calls, planned, searched, .. } = plans;
+    Ok(format!("{records} records ({planned} with a plan, {searched} searched), {calls} calls"))
+}
+
+struct Plans {
+    random: Random,
+    record: Guarded<u8>,
+    relaxed: Guarded<u16>,
+    plan: Lent<u16>,
+    work: Lent<u16>,
+    /// Room for the longest plan.
+    room: Vec<u16>,
+    calls: usize,
+    planned: usize,
+    searched: usize,
+}
+
+impl Plans {
+    fn compare_record(&mut self) -> Result<(), String> {
+        let bytes = mixture::record(&mut self.random);
+        let answer = self.longest_plan(&bytes, None);
+        if let Ok(task) = record::read(&bytes) {
+            self.check_reference(&bytes, &task, answer)?;
+            self.repairs(&bytes, &task)?;
+        }
+        self.around(&bytes, None, answer)
+    }
+
+    /// The reference's answer with all the room that counts.
+    fn longest_plan(
+        &mut self,
+        bytes: &[u8],
+        relaxed: Option<&[u16]>,
+    ) -> Result<entry::PlanResult, Refusal> {
+        let mut work = std::mem::take(&mut self.room);
+        let mut plan = vec![0; MAX_STEPS];
+        let answer = match relaxed {
+            Some(relaxed) => entry::repair(bytes, relaxed, &mut plan, &mut work),
+            None => entry::plan(bytes, &mut plan, &mut work),
+        };
+        self.room = work;
+        answer
+    }
+
+    fn repairs(&mut self, bytes: &[u8], task: &Task) -> Result<(), String> {
+        let relaxed = lists::relaxed(&mut self.random, task, bytes);
+        let answer = self.longest_plan(bytes, Some(&relaxed));
+        self.around(bytes, Some(&relaxed), answer)
+    }
+
+    /// Capacities around the result's length, list and work list varied apart.
+    fn around(
+        &mut self,
+        bytes: &[u8],
+        relaxed: Option<&[u16]>,
+        answer: Result<entry::PlanResult, Refusal>,
+    ) -> Result<(), String> {
+        let steps = match answer {
+            Ok(result) => result.steps as usize,
+            Err(_) => self.random.below(20),
+        };
+        for (plan, work) in capacities(&mut self.random, steps) {
+            self.call(bytes, relaxed, plan, work)?;
+        }
+        if self.random.chance(1, 200) {
+            let plan = self.random.within(32_760, MOST_ENTRIES);
+            let work = self.random.within(32_760, MOST_ENTRIES);
+            self.call(bytes, relaxed, plan, work)?;
+        }
+        Ok(())
+    }
+
+    fn call(
+        &mut self,
+        bytes: &[u8],
+        relaxed: Option<&[u16]>,
+        plan: usize,
+        work: usize,
+    ) -> Result<(), String> {
+        self.calls += 1;
+        self.plan.refill(&mut self.random, plan);
+        self.work.refill(&mut self.random, work);
+        let library = self.library(bytes, relaxed);
+        let reference = plan_result(self.reference(bytes, relaxed));
+        let input = || {
+            let list = relaxed.map_or("own".to_string(), list_hex);
+            format!("record: {}\nrelaxed plan: {list}\nlent: {plan} and {work}", hex(bytes))
+        };
+        same(library, reference, input)?;
+        same_lent("plan list", self.plan.difference(), input)?;
+        same_lent("work list", self.work.difference(), input)
+    }
+
+    fn library(&mut self, bytes: &[u8], relaxed: Option<&[u16]>) -> PlanResult {
+        let record = self.record.copy(bytes);
+        let (plan, work) = (self.plan.library(), self.work.library());
+        match relaxed {
+            Some(relaxed) => mardiskos::repair(record, self.relaxed.copy(relaxed), plan, work),
+            None => mardiskos::plan(record, plan, work),
+        }
+    }
+
+    fn reference(
+        &mut self,
+        bytes: &[u8],
+        relaxed: Option<&[u16]>,
+    ) -> Result<entry::PlanResult, Refusal> {
+        let (plan, work) = (self.plan.reference(), self.work.reference());
+        match relaxed {
+            Some(relaxed) => entry::repair(bytes, relaxed, plan, work),
+            None => entry::plan(bytes, plan, work),
+        }
+    }
+
+    /// The reference's own answer: a red-black plan within n × P steps, or none by search.
+    fn check_reference(
+        &mut self,
+        bytes: &[u8],
+        task: &Task,
+        answer: Result<entry::PlanResult, Refusal>,
+    ) -> Result<(), String> {
+        let found = match answer {
+            Ok(result) => {
+                self.planned += 1;
+                self.check_plan(bytes, task, result)?;
+                true
+            }
+            Err(Refusal { number: 10, .. }) => false,
+            Err(_) => return Ok(()),
+        };
+        let searched = search::has_red_black_plan(task, SEARCHED_STATES);
+        self.searched += usize::from(searched.is_some());
+        same(searched.unwrap_or(found), found, || {
+            format!("search (first) and reference differ\nrecord: {}", hex(bytes))
+        })
+    }
+
+    fn check_plan(
+        &mut self,
+        bytes: &[u8],
+        task: &Task,
+        result: entry::PlanResult,
+    ) -> Result<(), String> {
+        let mut plan = vec![0; result.steps as usize];
+        entry::plan(bytes, &mut plan, &mut self.room).unwrap();
+        let judged = entry::judge(bytes, &plan).unwrap();
+        let relaxed = entry::relax(bytes, &mut self.room).unwrap();
+        let bound = u128::from(relaxed) * black_states(task);
+        let sound = judged.red_black.plan
+            && judged.real.plan == result.real
+            && judged.real.steps == result.runs
+            && u128::from(result.steps) <= bound;
+        same(sound, true, || format!("unsound plan of the reference\nrecord: {}", hex(bytes)))
+    }
+}
+
+/// P: the product of the black variables' counts of values.
+fn black_states(task: &Task) -> u128 {
+    let black = task.variables.iter().filter(|variable| variable.black);
+    black.fold(1, |product: u128, variable| product.saturating_mul(u128::from(variable.values)))
+}
+
+fn capacities(random: &mut Random, steps: usize) -> [(usize, usize); 5] {
+    let less = steps.saturating_sub(1);
+    let more = steps + random.below(6);
+    [
+        (steps, steps),
+        (steps + 1, more),
+        (less, more),
+        (more, less),
+        (random.below(steps + 3), random.below(steps + 3)),
+    ]
+}
+
+fn plan_result(answer: Result<entry::PlanResult, Refusal>) -> PlanResult {
+    match answer {
+        Err(refusal) => PlanResult { code: refusal.code(), ..PlanResult::default() },
+        Ok(result) => PlanResult {
+            code: 0,
+            steps: result.steps,
+            cost: result.cost,
+            runs: result.runs,
+            real: result.real,
+        },
+    }
+}

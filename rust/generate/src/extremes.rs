@@ -1,0 +1,98 @@
+//! Full-size tasks that give an entry point as much to do as a record can.
+
+use crate::random::Random;
+use crate::records::cost;
+use reference::{Fact, Task, Variable};
+
+const VARIABLES: usize = 64;
+const VALUES: usize = 64;
+const FACTS: usize = 15;
+
+fn variable(black: bool, goal: Option<usize>) -> Variable {
+    Variable { values: VALUES as u8, black, initial: 0, goal: goal.map(|value| value as u8) }
+}
+
+/// `count` facts on variables below `limit`, rising; the values by `value`.
+fn facts_below(
+    random: &mut Random,
+    limit: usize,
+    count: usize,
+    mut value: impl FnMut(&mut Random, usize) -> usize,
+) -> Vec<Fact> {
+    let mut facts = Vec::with_capacity(count + 1);
+    for v in 0..limit {
+        if random.chance(count - facts.len(), limit - v) {
+            facts.push(Fact::new(v, value(random, v)));
+        }
+    }
+    facts
+}
+
+/// A chain through all actions, highest number first: each action becomes applicable by the one
+/// before it, through its last precondition, and every action is needed.
+pub fn chain(random: &mut Random, actions: usize) -> Task {
+    const LINKS: usize = 17;
+    let link = |k: usize| Fact::new(VARIABLES - 1 - k % LINKS, k / LINKS + 1);
+    let mut variables = vec![variable(false, None); VARIABLES];
+    let last = link(actions - 1);
+    variables[last.variable()].goal = Some(last.value() as u8);
+    let mut held = vec![1u64; VARIABLES];
+    let mut links = Vec::with_capacity(actions);
+    for k in 0..actions {
+        let limit = VARIABLES - LINKS;
+        let mut needs = facts_below(random, limit, FACTS - 1, |random, v| any_of(random, held[v]));
+        needs.extend(k.checked_sub(1).map(link));
+        let mut sets = facts_below(random, limit, FACTS - 1, |random, _| random.below(VALUES));
+        sets.push(link(k));
+        sets.iter().for_each(|fact| held[fact.variable()] |= 1 << fact.value());
+        links.push((needs, sets));
+    }
+    let mut task = Task::new(variables);
+    for (needs, sets) in links.iter().rev() {
+        task.push(cost(random), needs, sets);
+    }
+    task
+}
+
+fn any_of(random: &mut Random, set: u64) -> usize {
+    let members: Vec<usize> = (0..64).filter(|value| set >> value & 1 == 1).collect();
+    *random.pick(&members)
+}
+
+/// 1,024 actions that all apply for real one after another, again and again; each needs and
+/// changes 15 variables. The goals hold after every round.
+pub fn wheel(random: &mut Random) -> Task {
+    const ROUND: usize = 60;
+    let mut task = Task::new(vec![variable(true, Some(0)); VARIABLES]);
+    let mut turns = [0; VARIABLES];
+    for k in 0..1024 {
+        let mut window: Vec<usize> = (0..FACTS).map(|j| (FACTS * k + j) % VARIABLES).collect();
+        window.sort();
+        let facts = |turns: &[usize; VARIABLES]| -> Vec<Fact> {
+            window.iter().map(|&v| Fact::new(v, turns[v] % ROUND)).collect()
+        };
+        let needs = facts(&turns);
+        window.iter().for_each(|&v| turns[v] += 1);
+        task.push(cost(random), &needs, &facts(&turns));
+    }
+    task
+}
+
+/// 16 black variables with as many moves each way as there is room for. Each move has exactly one
+/// return, which differs from the others in its last condition.
+pub fn returns(random: &mut Random, actions: usize) -> Task {
+    const MOVERS: usize = 16;
+    let variables = (0..VARIABLES).map(|v| variable(v < MOVERS, Some(0)));
+    let mut task = Task::new(variables.collect());
+    for k in 0..actions {
+        let (mover, pair, back) = (k % MOVERS, k / MOVERS / 2, k / MOVERS % 2);
+        let shared = (MOVERS..MOVERS + FACTS - 2).map(|v| Fact::new(v, mover));
+        let own = Fact::new(VARIABLES - 1, pair);
+        let mut needs = vec![Fact::new(mover, back)];
+        needs.extend(shared.chain([own]));
+        let mut sets = vec![Fact::new(mover, 1 - back)];
+        sets.extend((VARIABLES - FACTS..VARIABLES - 1).map(|v| Fact::new(v, (k + v) % VALUES)));
+        task.push(cost(random), &needs, &sets);
+    }
+    task
+}

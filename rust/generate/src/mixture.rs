@@ -1,0 +1,53 @@
+//! A mixture of all kinds of records, most of them small.
+
+use crate::random::Random;
+use crate::{damage, extremes, records, stores};
+use reference::{record, Task};
+
+/// A record, one in twenty damaged.
+pub fn record(random: &mut Random) -> Vec<u8> {
+    let mut bytes = record::write(&task(random));
+    if random.chance(1, 20) {
+        damage::any(random, &mut bytes);
+    }
+    bytes
+}
+
+pub fn task(random: &mut Random) -> Task {
+    match random.below(1000) {
+        0..2 => records::full_task(random),
+        2..4 => stores::store(random, stores::FULL),
+        4 => extreme_task(random),
+        5..20 => records::random_task(random, records::MIDDLE),
+        20..40 => any_tower(random),
+        40..70 => stores::store(random, stores::LARGE),
+        _ => small_task(random),
+    }
+}
+
+pub fn small_task(random: &mut Random) -> Task {
+    match random.below(8) {
+        0 => records::random_task(random, records::TINY),
+        1 => records::random_task(random, records::SMALL),
+        2 | 3 => stores::store(random, stores::TINY),
+        4..=6 => stores::store(random, stores::SMALL),
+        _ => stores::damaged_store(random, stores::SMALL),
+    }
+}
+
+fn extreme_task(random: &mut Random) -> Task {
+    match random.below(4) {
+        0 => extremes::chain(random, 1024),
+        1 => extremes::wheel(random),
+        2 => extremes::returns(random, 1024),
+        _ => records::dense_task(random, 64, 1024, 15),
+    }
+}
+
+/// From a few steps to more than any list holds.
+pub fn any_tower(random: &mut Random) -> Task {
+    let places = random.within(2, 6);
+    let movers = random.within(1, 8);
+    let boxes = random.within(0, 4);
+    stores::tower(random, movers, places, boxes)
+}

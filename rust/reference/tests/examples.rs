@@ -1,0 +1,154 @@
+//! The store examples of document 01, through every entry point that they speak of.
+
+use reference::entry::{ForwardResult, Judgement, PlanResult, NO_ENTRY};
+use reference::state::Run;
+use reference::{examples, listing, record, search, Refusal, Task};
+
+const REST: u16 = NO_ENTRY;
+
+/// The planner with lists of the given lengths; both lists come back.
+fn plan(task: &Task, lent: usize, work: usize) -> (Result<PlanResult, Refusal>, Vec<u16>) {
+    let mut plan = vec![7; lent];
+    let mut work = vec![9; work];
+    let answer = reference::plan(&record::write(task), &mut plan, &mut work);
+    assert!(work.iter().all(|&entry| entry == REST));
+    if answer.is_err() {
+        assert!(plan.iter().all(|&entry| entry == REST));
+    }
+    (answer, plan)
+}
+
+fn refused(task: &Task) -> (u8, u32) {
+    let refusal = plan(task, 100, 100).0.unwrap_err();
+    (refusal.number, refusal.place)
+}
+
+#[test]
+fn two_shelves() {
+    let expected = PlanResult { steps: 4, cost: 10, runs: 4, real: true };
+    let (answer, list) = plan(&examples::two_shelves(), 6, 5);
+    assert_eq!(answer, Ok(expected));
+    assert_eq!(list, [0, 2, 1, 3, REST, REST]);
+}
+
+#[test]
+fn two_shelves_at_its_capacity() {
+    let task = examples::two_shelves();
+    assert_eq!(plan(&task, 4, 4).1, [0, 2, 1, 3]);
+    for (lent, work) in [(3, 3), (3, 4), (4, 3), (40_000, 3)] {
+        assert_eq!(plan(&task, lent, work).0, Err(Refusal::new(11, 3)));
+    }
+    assert_eq!(plan(&task, 0, 4).0, Err(Refusal::new(11, 0)));
+}
+
+#[test]
+fn two_shelves_with_an_action_missing() {
+    assert_eq!(refused(&examples::two_shelves().without(1)), (8, 0));
+    assert_eq!(refused(&examples::two_shelves().without(2)), (10, 3));
+}
+
+#[test]
+fn lamp() {
+    let none = PlanResult { steps: 0, cost: 0, runs: 0, real: true };
+    assert_eq!(plan(&examples::lamp(1), 1, 1).0, Ok(none));
+    assert_eq!(refused(&examples::lamp(2)), (8, 0));
+}
+
+#[test]
+fn two_black_effects() {
+    assert_eq!(refused(&examples::two_black_effects()), (7, 0));
+}
+
+#[test]
+fn no_bytes() {
+    let mut list = [3; 3];
+    assert_eq!(reference::judge(&[], &[]), Err(Refusal::new(1, 0)));
+    assert_eq!(reference::forward(&[], &mut list), Err(Refusal::new(1, 0)));
+    assert_eq!(list, [REST; 3]);
+}
+
+#[test]
+fn goal_met_at_the_start() {
+    let none = PlanResult { steps: 0, cost: 0, runs: 0, real: true };
+    assert_eq!(plan(&examples::goal_met(), 0, 0), (Ok(none), vec![]));
+}
+
+#[test]
+fn tray() {
+    let (answer, list) = plan(&examples::tray(), 3, 3);
+    assert_eq!(answer, Ok(PlanResult { steps: 2, cost: 2, runs: 1, real: false }));
+    assert_eq!(list, [0, 1, REST]);
+}
+
+#[test]
+fn counts_at_their_ranges() {
+    let refused = |task: &Task| {
+        let answer = plan(task, 2, 2).0;
+        answer.err().map(|refusal| (refusal.number, refusal.place))
+    };
+    assert_eq!(refused(&examples::sized(64, 1024, 15)), None);
+    assert_eq!(refused(&examples::sized(65, 1024, 15)), Some((3, 4)));
+    assert_eq!(refused(&examples::sized(64, 1025, 15)), Some((3, 11)));
+}
+
+#[test]
+fn runs_of_two_shelves() {
+    let bytes = record::write(&examples::two_shelves());
+    let mut list = [0; 5];
+    let forward = reference::forward(&bytes, &mut list);
+    assert_eq!(forward, Ok(ForwardResult { steps: 3, reached: 5 }));
+    assert_eq!(list, [0, 2, 3, REST, REST]);
+    assert_eq!(reference::relax(&bytes, &mut list[..3]), Ok(3));
+    assert_eq!(reference::relax(&bytes, &mut list[..2]), Err(Refusal::new(11, 2)));
+    assert_eq!(list, [REST, REST, 3, REST, REST]);
+}
+
+#[test]
+fn judging_two_shelves() {
+    let bytes = record::write(&examples::two_shelves());
+    let run = |steps, plan| Run { steps, plan };
+    let relaxed_only =
+        Judgement { relaxed: run(3, true), red_black: run(2, false), real: run(2, false) };
+    assert_eq!(reference::judge(&bytes, &[0, 2, 3]), Ok(relaxed_only));
+    let all = Judgement { relaxed: run(4, true), red_black: run(4, true), real: run(4, true) };
+    assert_eq!(reference::judge(&bytes, &[0, 2, 1, 3]), Ok(all));
+    assert_eq!(reference::judge(&bytes, &[0, 4, 5]), Err(Refusal::new(9, 1)));
+    assert_eq!(reference::judge(&bytes, &[4; 32_769]), Err(Refusal::new(13, 32_768)));
+    assert!(reference::judge(&bytes, &[0; 32_768]).is_ok());
+}
+
+#[test]
+fn repair_of_a_callers_relaxed_plan() {
+    let bytes = record::write(&examples::two_shelves());
+    let repair = |relaxed: &[u16]| {
+        let (mut plan, mut work) = ([1; 8], [1; 8]);
+        let answer = reference::repair(&bytes, relaxed, &mut plan, &mut work);
+        assert_eq!(work, [REST; 8]);
+        (answer, plan)
+    };
+    let (answer, plan) = repair(&[0, 0, 2, 3]);
+    assert_eq!(answer, Ok(PlanResult { steps: 6, cost: 18, runs: 6, real: true }));
+    assert_eq!(plan, [0, 1, 0, 2, 1, 3, REST, REST]);
+    let faulty: [(&[u16], usize); 5] =
+        [(&[2], 0), (&[0, 3, 9], 1), (&[0, 9, 3], 1), (&[0, 2], 2), (&[], 0)];
+    for (relaxed, place) in faulty {
+        assert_eq!(repair(relaxed), (Err(Refusal::new(9, place)), [REST; 8]));
+    }
+    assert_eq!(repair(&[9; 32_769]).0, Err(Refusal::new(13, 32_768)));
+}
+
+#[test]
+fn listing_of_two_shelves() {
+    let two_shelves = record::write(&examples::two_shelves());
+    let expected = "reached 5\nrelaxed 3 0 2 3\nplan 4 10 0 2 1 3\nreal 4\n";
+    assert_eq!(listing::listing(&two_shelves), expected);
+    assert_eq!(listing::listing(&[]), "refused 1 0\n");
+}
+
+#[test]
+fn search_agrees() {
+    let found = |task: &Task| search::has_red_black_plan(task, 1000);
+    assert_eq!(found(&examples::two_shelves()), Some(true));
+    assert_eq!(found(&examples::two_shelves().without(2)), Some(false));
+    assert_eq!(found(&examples::tray()), Some(true));
+}

@@ -1,0 +1,76 @@
+//! The causal graph with its painting.
+
+use std::collections::BTreeMap;
+
+use crate::store::{Action, Store, Variable};
+use crate::svg::{Arc, Legend, Node, Picture};
+
+/// The arcs, each with the actions that make it: from u to v, u ≠ v, if an action affects v and has
+/// u among its preconditions or effects.
+pub fn causal_graph(store: &Store) -> BTreeMap<(usize, usize), Vec<usize>> {
+    let mut arcs: BTreeMap<_, Vec<usize>> = BTreeMap::new();
+    for (number, action) in store.actions.iter().enumerate() {
+        for arc in arcs_of(action) {
+            arcs.entry(arc).or_default().push(number);
+        }
+    }
+    arcs.values_mut().for_each(|actions| actions.dedup());
+    arcs
+}
+
+fn arcs_of(action: &Action) -> impl Iterator<Item = (usize, usize)> + '_ {
+    let from = action.needs.iter().chain(&action.sets).map(|fact| fact.variable());
+    let pairs = from.flat_map(|u| action.sets.iter().map(move |fact| (u, fact.variable())));
+    pairs.filter(|(u, v)| u != v)
+}
+
+pub fn causal_picture(store: &Store) -> Picture {
+    let arcs = causal_graph(store);
+    let mut legend = vec![
+        Legend::Node("black", "black variable"),
+        Legend::Node("red", "red variable"),
+        Legend::Arc("dark", "arc of the black causal graph"),
+        Legend::Arc("", "other arc"),
+    ];
+    legend.push(Legend::Note(painting(store)));
+    Picture {
+        title: "Causal graph".to_owned(),
+        nodes: store.variables.iter().map(node).collect(),
+        arcs: arcs.iter().map(|(&arc, actions)| drawn(store, arc, actions)).collect(),
+        legend,
+    }
+}
+
+fn painting(store: &Store) -> String {
+    match reference::painting::painting(&store.task()) {
+        Ok(_) => "The painting is accepted.".to_owned(),
+        Err(refusal) => format!("The painting is refused: {}.", store.explain(refusal)),
+    }
+}
+
+fn node(variable: &Variable) -> Node {
+    let goal = variable.goal.map_or(String::new(), |v| format!(", goal {}", variable.values[v]));
+    let initial = &variable.values[variable.initial];
+    Node {
+        lines: vec![variable.name.clone()],
+        class: variable.colour().to_owned(),
+        title: format!(
+            "{}: {}, {} values, initial {initial}{goal}",
+            variable.name,
+            variable.colour(),
+            variable.values.len()
+        ),
+    }
+}
+
+fn drawn(store: &Store, (from, to): (usize, usize), actions: &[usize]) -> Arc {
+    let names: Vec<&str> = actions.iter().map(|&a| store.actions[a].name.as_str()).collect();
+    let black = store.variables[from].black && store.variables[to].black;
+    Arc {
+        from,
+        to,
+        class: if black { "dark" } else { "" },
+        labels: Vec::new(),
+        title: format!("made by {}", names.join(", ")),
+    }
+}
