@@ -116,8 +116,21 @@ fn push_moves(task: &mut Task, random: &mut Random, v: usize, value: usize) {
         values.for_each(|value| task.push(1, &outside, &[Fact::new(v, value)]));
         return;
     }
-    push_move(task, &outside, Fact::new(v, value - 1), Fact::new(v, value));
-    push_move(task, &outside, Fact::new(v, value), Fact::new(v, value - 1));
+    let (d, e) = (Fact::new(v, value - 1), Fact::new(v, value));
+    let lamp = (0..v).find(|&u| !task.variables[u].black).filter(|_| random.chance(3));
+    match lamp {
+        Some(lamp) => push_lamp_moves(task, Fact::new(lamp, 0), d, e),
+        None => {
+            push_move(task, &outside, d, e);
+            push_move(task, &outside, e, d);
+        }
+    }
+}
+
+/// A move that also sets a lower red variable, and a return that needs what it sets.
+fn push_lamp_moves(task: &mut Task, lamp: Fact, from: Fact, to: Fact) {
+    task.push(1, &[from], &[lamp, to]);
+    task.push(1, &[lamp, to], &[from]);
 }
 
 fn push_move(task: &mut Task, outside: &[Fact], from: Fact, to: Fact) {
