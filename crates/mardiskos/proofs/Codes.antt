@@ -1,11 +1,11 @@
 -- What C gets of a refused sheet: a number that is not 0, and 0 for all else.
-use mathlib.Core.Path.{_≡_, sym, ap, _∙_}
 use mathlib.Core.List.{List}
+use mathlib.Core.Path.{_≡_, ap, _∙_}
 use Prim.Native.Nat.{ℕ, _+_, _*_}
 use native.Mathlib.Omega.{arith}
 use Rattle.planning.specs.Basics.{refused, code}
-use Rattle.planning.specs.Sheet.{Sheet}
 use Rattle.planning.specs.Calls.{writeCall, readCall}
+use Rattle.planning.specs.Sheet.{Sheet}
 use Rattle.sheet.proofs.Numbers.{write-number, read-number}
 
 pub written-zero : (x : Sheet) (n m p v : ℕ) → writeCall x n ≡ refused m p → v ≡ code (writeCall x n) → v ≡ 0 → ⊥

@@ -1,17 +1,17 @@
 -- Which of the checks refuses, from the facts that the code tests.
-use mathlib.Core.Path.{_≡_, refl, sym, ap, _∙_}
 use mathlib.Core.Bool.{Bool, true, false, _&&_}
 use mathlib.Core.List.{List, [], _∷_, _++_}
 use mathlib.Core.Option.{Option, none, some}
-use Prim.Native.Nat.{ℕ, zero, suc, _+_, _-_, _*_, _/_, _%_, _^_, _<_, _≤_, min}
+use mathlib.Core.Path.{_≡_, refl, ap, _∙_}
+use Prim.Native.Nat.{ℕ, zero, suc, _+_, _-_, _*_, _/_, _<_, _≤_, min}
 use native.Mathlib.Omega.{arith}
-use borrow.Author.Tests.{le-leb, lt-leb, leb-true, leb-false, lt-ltb, le-ltb, ltb-true, eq-eqb, ne-eqb, eqb-true}
-use lib.Dec.{leb, ltb, eqb}
-use lib.ListN.{length, getD}
-use Rattle.planning.specs.Basics.{Check, Refusal, check, refuse, andThen, inOrder, Answer, refused, done, answer, refuseAt, bitsAt, holdsField}
+use borrow.Author.Tests.{le-leb, lt-leb, leb-true, leb-false, eq-eqb, ne-eqb, eqb-true}
+use lib.Dec.{leb, eqb}
+use lib.ListN.{length}
+use Rattle.planning.specs.Basics.{Check, check, refuse, andThen, inOrder, refused, done, answer, refuseAt, bitsAt, holdsField}
+use Rattle.planning.specs.Calls.{Read, lengthCheck, roomCheck, notBelow, capacity, writeCall, readCall}
 use Rattle.planning.specs.Record.{endsAt}
 use Rattle.planning.specs.Sheet.{Sheet, sheetSize, sheetEnd, sheetField, stepsChecks, sheetChecks, sheetCheck, stepsIn}
-use Rattle.planning.specs.Calls.{Read, lengthCheck, roomCheck, notBelow, capacity, writeCall, readCall}
 use Rattle.sheet.specs.Answers.{endCheck, headingOf}
 
 -- Writing: "13 (length first), then 11".

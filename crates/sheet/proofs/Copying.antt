@@ -1,12 +1,12 @@
 -- Reading the steps into a list: what has been written in front, and the steps that are left.
-use mathlib.Core.Path.{_≡_, refl, sym, ap, _∙_}
 use mathlib.Core.List.{List, [], _∷_, _++_, append-assoc, append-nil}
+use mathlib.Core.Path.{_≡_, refl, sym, ap, _∙_}
 use Prim.Native.Nat.{ℕ, zero, suc, _+_, _-_, _*_, _/_, _%_, _^_, _<_, _≤_}
-use native.Mathlib.Nat.{zero-add, suc-add, add-zero, sub-zero}
+use native.Mathlib.Nat.{zero-add, suc-add, sub-zero}
 use native.Mathlib.Numerals.{add-one}
 use native.Mathlib.Omega.{arith}
-use lib.ListN.{length, getD, take, drop, set, length-set, length-append}
-use lib.Seq.{take-suc-set, length-take-le, take-at, sets, sets-eq}
+use lib.ListN.{length, take, drop, set, length-set, length-append}
+use lib.Seq.{take-suc-set, length-take-le, take-at, sets-eq}
 use Rattle.planning.specs.Basics.{bitsAt}
 use Rattle.planning.specs.Sheet.{stepsAt}
 use Rattle.bits.proofs.Window.{bitsAt-cut}

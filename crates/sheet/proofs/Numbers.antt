@@ -1,13 +1,13 @@
 -- No refusal has the number 0, so the number that C gets is 0 only for success.
-use mathlib.Core.Path.{_≡_, ap}
 use mathlib.Core.Bool.{Bool, true, false}
 use mathlib.Core.List.{List, [], _∷_, _++_}
 use mathlib.Core.Option.{Option, none, some}
+use mathlib.Core.Path.{_≡_, ap}
 use Prim.Native.Nat.{ℕ, zero, suc, _+_, _<_}
 use native.Mathlib.Omega.{arith}
 use Rattle.planning.specs.Basics.{Check, check, refuse, andThen, inOrder, refused, refuseAt}
-use Rattle.planning.specs.Sheet.{Sheet, sheetField, stepsChecks, sheetChecks, sheetCheck, stepsIn}
 use Rattle.planning.specs.Calls.{lengthCheck, roomCheck, writeCall, readCall}
+use Rattle.planning.specs.Sheet.{Sheet, sheetField, stepsChecks, sheetChecks, sheetCheck, stepsIn}
 use Rattle.bits.proofs.Stages.{answer-refused}
 
 Numbered : Check → Type 0

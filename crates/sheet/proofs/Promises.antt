@@ -1,21 +1,21 @@
 -- What the promises of `write` and `read` say of the lent bytes and the lent list, from the checks' outcome.
-use mathlib.Core.Path.{_≡_, refl, sym, ap, _∙_}
-use mathlib.Core.List.{List, [], _∷_, _++_}
+use mathlib.Core.List.{List, _++_}
 use mathlib.Core.Option.{none}
-use Prim.Native.Nat.{ℕ, _+_, _-_, _*_, _<_, _≤_}
+use mathlib.Core.Path.{_≡_, refl, sym, _∙_}
+use Prim.Native.Nat.{ℕ, _-_, _<_}
 use native.Mathlib.Omega.{arith}
-use lib.ListN.{length, getD, take, drop, replicate}
+use lib.ListN.{length, getD, take, replicate}
 use lib.Seq.{take-at}
 use Rattle.planning.specs.Basics.{refused, done}
-use Rattle.planning.specs.Sheet.{Sheet, sheetBits, sheetBytes, sheetSize, sheetOf, sheetCheck, stepsAt, stepsIn}
 use Rattle.planning.specs.Calls.{Read, lent, lentBytes, writeCall, writeBytes, readCall, readList}
+use Rattle.planning.specs.Sheet.{Sheet, sheetBits, sheetBytes, sheetSize, sheetOf, sheetCheck, stepsAt, stepsIn}
 use Rattle.bits.proofs.Pack.{length-packed}
-use Rattle.sheet.specs.Answers.{sheet, headingOf}
-use Rattle.sheet.specs.Again.{ReadsAs, WritesAs}
-use Rattle.sheet.proofs.Entries.{all-below}
-use Rattle.sheet.proofs.Checks.{Fitting, fitting, Accepted, accepted}
+use Rattle.sheet.proofs.Checks.{Fitting, fitting}
 use Rattle.sheet.proofs.Copying.{length-stepsAt}
+use Rattle.sheet.proofs.Entries.{all-below}
 use Rattle.sheet.proofs.RoundTrip.{reads-back, writes-again}
+use Rattle.sheet.specs.Again.{ReadsAs, WritesAs}
+use Rattle.sheet.specs.Answers.{sheet, headingOf}
 
 length-sheetBytes : (x : Sheet) → length (sheetBytes x) ≡ sheetSize (length (x .steps))
 unfolding sheetBytes

@@ -1,30 +1,30 @@
 -- The round trip, about the definitions: a sheet that is written is read as it was, and a sheet that is accepted is written again
 -- as it was. Bits packed into bytes are read back as the numbers that they stand for; the bits of an accepted sheet are those
 -- of its fields, and zeros behind them.
-use mathlib.Core.Path.{_≡_, refl, sym, ap, _∙_}
 use mathlib.Core.Bool.{Bool, true, false}
 use mathlib.Core.List.{List, [], _∷_, _++_, append-assoc, append-nil}
 use mathlib.Core.Option.{none}
+use mathlib.Core.Path.{_≡_, refl, sym, ap, _∙_}
 use Prim.Native.Nat.{ℕ, zero, suc, _+_, _-_, _*_, _/_, _%_, _^_, _<_, _≤_}
-use native.Mathlib.Nat.{pow-suc, zero-add, suc-add, add-zero, add-suc, add-assoc, mul-assoc, mod-eq-of-lt, div-add-mod'}
+use native.Mathlib.Nat.{pow-suc, zero-add, suc-add, add-zero, mul-assoc, mod-eq-of-lt}
 use native.Mathlib.Numerals.{add-one}
 use native.Mathlib.Omega.{arith}
 use borrow.Author.Tests.{eq-eqb}
 use lib.Dec.{eqb}
-use lib.Pow.{high, pow-pos, pow-add}
-use lib.ListN.{length, getD, take, drop, replicate, length-append, drop-of-length-le}
-use lib.Seq.{drop-drop, getD-drop, drop-cons, drop-length}
+use lib.ListN.{length, getD, drop, length-append, drop-of-length-le}
+use lib.Pow.{high, pow-add}
+use lib.Seq.{drop-drop, getD-drop, drop-cons}
 use Rattle.planning.specs.Basics.{oneIf, bitAt, bitsAt, done}
+use Rattle.planning.specs.Calls.{notBelow, lent, lentBytes, readCall, readList, writeCall, writeBytes}
 use Rattle.planning.specs.Record.{endsAt}
 use Rattle.planning.specs.Sheet.{Sheet, bitsOf, stepBits, sheetBits, numberIn, packed, sheetEnd, sheetSize, sheetBytes, stepsAt, stepsIn, sheetOf, sheetCheck}
-use Rattle.planning.specs.Calls.{notBelow, lent, lentBytes, readCall, readList, writeCall, writeBytes}
-use Rattle.bits.proofs.Window.{bitsAt-lt, bitsAt-whole}
 use Rattle.bits.proofs.Pack.{length-bitsOf, length-packed, packed-none, packed-byte, bitsOf-add, drop-bitsOf, numberIn-bitsOf, packed-same, Same, same-prefix, same-zeros}
-use Rattle.sheet.specs.Answers.{heading, headingOf, endCheck}
-use Rattle.sheet.specs.Again.{ReadsAs, WritesAs}
-use Rattle.sheet.proofs.Entries.{none-over}
-use Rattle.sheet.proofs.Checks.{Accepted, accepted, front-passed, end-passes, reads, writes}
+use Rattle.bits.proofs.Window.{bitsAt-lt, bitsAt-whole}
+use Rattle.sheet.proofs.Checks.{accepted, front-passed, end-passes, reads, writes}
 use Rattle.sheet.proofs.Copying.{length-stepsAt}
+use Rattle.sheet.proofs.Entries.{none-over}
+use Rattle.sheet.specs.Again.{ReadsAs, WritesAs}
+use Rattle.sheet.specs.Answers.{heading, headingOf}
 
 -- Bits: a list of 0 and 1.
 Bits : List ℕ → Type 0

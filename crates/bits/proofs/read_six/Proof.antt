@@ -1,13 +1,10 @@
-use borrow.Author.Needs.{needs}
+-- Two bytes behind four.
 use Prim.Native.Nat.{_^_, _<_}
 use native.Mathlib.Omega.{arith}
+use borrow.Author.Needs.{needs}
 use Rattle.bits.proofs.Window.{bitsAt-lt, bitsAt-six}
 use Rattle.bits.proofs.read_six.Statement.{statement}
 use Rattle.bits.proofs.read_six.Tie as tie
-use Rattle.bits.proofs.read_six.Reads as reads
-use Rattle.bits.proofs.read_six.Lts as lts
-use Rattle.bits.proofs.wide.Reads as wide-reads
-use Rattle.bits.proofs.word.Reads as word-reads
 
 word-requires : tie.Need-word-requires
 word-requires c κs = search needs

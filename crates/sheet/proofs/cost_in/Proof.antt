@@ -1,13 +1,11 @@
-use mathlib.Core.Path.{_≡_, refl, sym, ap, _∙_}
-use native.Mathlib.Omega.{arith}
+-- Two halves of 16 bits are the field of 32.
+use mathlib.Core.Path.{sym}
 use Prim.Native.Nat.{_^_, _<_}
-use Rattle.bits.proofs.Window.{bitsAt-lt, bitsAt-add}
+use native.Mathlib.Omega.{arith}
 use borrow.Author.Needs.{needs}
+use Rattle.bits.proofs.Window.{bitsAt-lt, bitsAt-add}
 use Rattle.sheet.proofs.cost_in.Statement.{statement}
 use Rattle.sheet.proofs.cost_in.Tie as tie
-use Rattle.sheet.proofs.cost_in.Reads as reads
-use Rattle.sheet.proofs.cost_in.Lts as lts
-use Rattle.bits.proofs.read_bits.Reads as read-bits-reads
 
 read-bits-requires : tie.Need-read-bits-requires
 read-bits-requires c κs = search needs

@@ -1,12 +1,10 @@
-use mathlib.Core.Path.{_≡_, refl}
+-- The two tests are those of `endsAt`.
+use mathlib.Core.Path.{refl}
+use borrow.Author.Needs.{needs}
 use borrow.Author.Tests.{eq-eqb, ne-eqb}
 use Rattle.planning.specs.Record.{endsAt}
-use borrow.Author.Needs.{needs}
 use Rattle.sheet.proofs.ends.Statement.{statement}
 use Rattle.sheet.proofs.ends.Tie as tie
-use Rattle.sheet.proofs.ends.Reads as reads
-use Rattle.sheet.proofs.ends.Lts as lts
-use Rattle.bits.proofs.read_bits.Reads as read-bits-reads
 
 add-if1 : tie.Need-add-if1
 add-if1 c = search needs

@@ -1,14 +1,13 @@
+-- While the sum is 0 each entry passed was below 1,024.
+use mathlib.Core.Path.{_≡_, refl, _∙_}
+use Prim.Native.Nat.{_*_, _-_, _≤_}
+use native.Mathlib.Omega.{arith}
+use borrow.Author.Needs.{needs}
+use lib.ListN.{length, drop}
 use Rattle.planning.specs.Calls.{notBelow}
 use Rattle.sheet.proofs.Entries.{entry-passes, no-entry-left}
-use borrow.Author.Needs.{needs}
-use mathlib.Core.Path.{_≡_, refl, sym, ap, _∙_}
-use Prim.Native.Nat.{ℕ, _+_, _*_, _/_, _^_, _-_, _≤_, _<_}
-use native.Mathlib.Omega.{arith}
-use lib.ListN.{length, getD, take, drop, set, replicate}
 use Rattle.sheet.proofs.excess.Statement.{statement}
 use Rattle.sheet.proofs.excess.Tie as tie
-use Rattle.sheet.proofs.excess.Reads as reads
-use Rattle.sheet.proofs.excess.Lts as lts
 
 abbrev Inv-loop : tie.InvT-loop
 Inv-loop list sum₀ i₀ sum i = (i ≤ length list) × (sum ≤ 64 * i) × (sum ≡ 0 → notBelow 1024 0 list ≡ notBelow 1024 i (drop i list))

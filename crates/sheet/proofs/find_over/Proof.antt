@@ -1,12 +1,9 @@
+-- A sum of 0 leaves no entry to find; else the search finds the lowest.
 use mathlib.Core.Path.{sym}
-use Rattle.sheet.specs.Answers.{faultAs}
 use borrow.Author.Needs.{needs}
 use Rattle.sheet.proofs.find_over.Statement.{statement}
 use Rattle.sheet.proofs.find_over.Tie as tie
-use Rattle.sheet.proofs.find_over.Reads as reads
-use Rattle.sheet.proofs.find_over.Lts as lts
-use Rattle.sheet.proofs.excess.Reads as excess-reads
-use Rattle.sheet.proofs.lowest_over.Reads as lowest-over-reads
+use Rattle.sheet.specs.Answers.{faultAs}
 
 excess-requires : tie.Need-excess-requires
 excess-requires c κs = search needs

@@ -1,11 +1,9 @@
+-- Four steps put behind five bits, one after the other.
 use native.Mathlib.Omega.{arith}
-use Rattle.sheet.proofs.Writing.{four-behind}
 use borrow.Author.Needs.{needs}
+use Rattle.sheet.proofs.Writing.{four-behind}
 use Rattle.sheet.proofs.four_steps.Statement.{statement}
 use Rattle.sheet.proofs.four_steps.Tie as tie
-use Rattle.sheet.proofs.four_steps.Reads as reads
-use Rattle.sheet.proofs.four_steps.Lts as lts
-use Rattle.sheet.proofs.wide.Reads as wide-reads
 
 mul-result : tie.Need-mul-result
 mul-result c = search needs

@@ -1,12 +1,9 @@
+-- Four fields put together as one number.
 use native.Mathlib.Omega.{arith}
-use Rattle.sheet.proofs.Writing.{front-bits}
 use borrow.Author.Needs.{needs}
+use Rattle.sheet.proofs.Writing.{front-bits}
 use Rattle.sheet.proofs.front.Statement.{statement}
 use Rattle.sheet.proofs.front.Tie as tie
-use Rattle.sheet.proofs.front.Reads as reads
-use Rattle.sheet.proofs.front.Lts as lts
-use Rattle.sheet.proofs.one_if.Reads as one-if-reads
-use Rattle.sheet.proofs.wide.Reads as wide-reads
 
 one-if-requires : tie.Need-one-if-requires
 one-if-requires c κs = search needs

@@ -1,11 +1,9 @@
+-- Three steps put behind five bits, with zeros for those that are missing.
 use native.Mathlib.Omega.{arith}
-use Rattle.sheet.proofs.Writing.{last-behind}
 use borrow.Author.Needs.{needs}
+use Rattle.sheet.proofs.Writing.{last-behind}
 use Rattle.sheet.proofs.last_steps.Statement.{statement}
 use Rattle.sheet.proofs.last_steps.Tie as tie
-use Rattle.sheet.proofs.last_steps.Reads as reads
-use Rattle.sheet.proofs.last_steps.Lts as lts
-use Rattle.sheet.proofs.step_at.Reads as step-at-reads
 
 mul-result : tie.Need-mul-result
 mul-result c = search needs

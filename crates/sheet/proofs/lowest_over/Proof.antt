@@ -1,15 +1,14 @@
-use Rattle.planning.specs.Calls.{notBelow}
-use Rattle.sheet.specs.Answers.{faultAs}
-use Rattle.sheet.proofs.Entries.{entry-passes, entry-fails, no-entry-left}
-use borrow.Author.Needs.{needs}
-use mathlib.Core.Path.{_≡_, refl, sym, ap, _∙_}
-use Prim.Native.Nat.{ℕ, _+_, _*_, _/_, _^_, _-_, _≤_, _<_}
+-- The whole search is the search from here on.
+use mathlib.Core.Path.{_≡_, refl, sym, _∙_}
+use Prim.Native.Nat.{_-_, _≤_}
 use native.Mathlib.Omega.{arith}
-use lib.ListN.{length, getD, take, drop, set, replicate}
+use borrow.Author.Needs.{needs}
+use lib.ListN.{length, drop}
+use Rattle.planning.specs.Calls.{notBelow}
+use Rattle.sheet.proofs.Entries.{entry-passes, entry-fails, no-entry-left}
 use Rattle.sheet.proofs.lowest_over.Statement.{statement}
 use Rattle.sheet.proofs.lowest_over.Tie as tie
-use Rattle.sheet.proofs.lowest_over.Reads as reads
-use Rattle.sheet.proofs.lowest_over.Lts as lts
+use Rattle.sheet.specs.Answers.{faultAs}
 
 abbrev Inv-loop : tie.InvT-loop
 Inv-loop list i₀ i = (i ≤ length list) × (notBelow 1024 0 list ≡ notBelow 1024 i (drop i list))

@@ -1,10 +1,9 @@
-use native.Mathlib.Omega.{arith}
+-- By cases.
 use mathlib.Core.Path.{refl}
+use native.Mathlib.Omega.{arith}
 use Rattle.planning.specs.Basics.{oneIf}
 use Rattle.sheet.proofs.one_if.Statement.{statement}
 use Rattle.sheet.proofs.one_if.Tie as tie
-use Rattle.sheet.proofs.one_if.Reads as reads
-use Rattle.sheet.proofs.one_if.Lts as lts
 
 returns : tie.Need-returns
 unfolding oneIf

@@ -1,21 +1,17 @@
+-- The answer is that of the checks. The list holds the steps in front and 65,535 behind; the bytes are those of the sheet that was
+-- read, since an accepted sheet is written again as it was.
 use mathlib.Core.Path.{_≡_, refl, sym, ap, _∙_}
 use native.Mathlib.Omega.{arith}
+use borrow.Author.Needs.{needs}
 use lib.ListN.{length}
 use Rattle.planning.specs.Basics.{done}
-use Rattle.planning.specs.Sheet.{stepsIn}
 use Rattle.planning.specs.Calls.{Read, readCall}
-use Rattle.sheet.specs.Answers.{heading, headingOf, readingAs}
-use Rattle.sheet.proofs.Checks.{Accepted, accepted, Held, holding}
+use Rattle.planning.specs.Sheet.{stepsIn}
+use Rattle.sheet.proofs.Checks.{accepted, Held, holding}
 use Rattle.sheet.proofs.Promises.{read-refused, read-done}
-use borrow.Author.Needs.{needs}
 use Rattle.sheet.proofs.read.Statement.{statement}
 use Rattle.sheet.proofs.read.Tie as tie
-use Rattle.sheet.proofs.read.Reads as reads
-use Rattle.sheet.proofs.read.Lts as lts
-use Rattle.lists.proofs.blank.Reads as blank-reads
-use Rattle.lists.proofs.blank_from.Reads as blank-from-reads
-use Rattle.sheet.proofs.read_checked.Reads as read-checked-reads
-use Rattle.sheet.proofs.read_steps.Reads as read-steps-reads
+use Rattle.sheet.specs.Answers.{heading, headingOf, readingAs}
 
 read-checked-requires : tie.Need-read-checked-requires
 read-checked-requires c κs = search needs

@@ -1,18 +1,16 @@
-use Rattle.bits.proofs.Stages.{answer-done}
+-- A refusal is handed on; else the room decides.
 use mathlib.Core.Option.{none}
-use Rattle.planning.specs.Basics.{done}
-use Rattle.planning.specs.Sheet.{sheetCheck, stepsIn}
-use Rattle.planning.specs.Calls.{Read}
-use mathlib.Core.Path.{_≡_, refl, sym, ap, _∙_}
+use mathlib.Core.Path.{_≡_, sym, ap, _∙_}
 use native.Mathlib.Omega.{arith}
-use Rattle.sheet.specs.Answers.{readingAs, heading, headingOf}
-use Rattle.sheet.proofs.Checks.{Accepted, accepted, read-refused, over-list, reads}
 use borrow.Author.Needs.{needs}
+use Rattle.planning.specs.Basics.{done}
+use Rattle.planning.specs.Calls.{Read}
+use Rattle.planning.specs.Sheet.{sheetCheck, stepsIn}
+use Rattle.bits.proofs.Stages.{answer-done}
+use Rattle.sheet.proofs.Checks.{accepted, read-refused, over-list, reads}
 use Rattle.sheet.proofs.read_checked.Statement.{statement}
 use Rattle.sheet.proofs.read_checked.Tie as tie
-use Rattle.sheet.proofs.read_checked.Reads as reads
-use Rattle.sheet.proofs.read_checked.Lts as lts
-use Rattle.sheet.proofs.read_fields.Reads as read-fields-reads
+use Rattle.sheet.specs.Answers.{readingAs, heading, headingOf}
 
 read-fields-requires : tie.Need-read-fields-requires
 read-fields-requires c κs = search needs

@@ -1,17 +1,14 @@
-use Rattle.bits.proofs.Window.{bitsAt-lt}
+-- The steps passed stand in front, the others are left.
 use mathlib.Core.List.{_++_}
-use Rattle.planning.specs.Sheet.{stepsAt}
-use Rattle.sheet.proofs.Copying.{Copying, copying-start, copying-one, copying-end}
-use borrow.Author.Needs.{needs}
-use mathlib.Core.Path.{_≡_, refl, sym, ap, _∙_}
-use Prim.Native.Nat.{ℕ, _+_, _*_, _/_, _^_, _-_, _≤_, _<_}
+use Prim.Native.Nat.{_+_, _*_, _^_, _-_, _<_}
 use native.Mathlib.Omega.{arith}
-use lib.ListN.{length, getD, take, drop, set, replicate}
+use borrow.Author.Needs.{needs}
+use lib.ListN.{take}
+use Rattle.planning.specs.Sheet.{stepsAt}
+use Rattle.bits.proofs.Window.{bitsAt-lt}
+use Rattle.sheet.proofs.Copying.{Copying, copying-start, copying-one, copying-end}
 use Rattle.sheet.proofs.read_each.Statement.{statement}
 use Rattle.sheet.proofs.read_each.Tie as tie
-use Rattle.sheet.proofs.read_each.Reads as reads
-use Rattle.sheet.proofs.read_each.Lts as lts
-use Rattle.bits.proofs.read_bits.Reads as read-bits-reads
 
 abbrev Inv-loop : tie.InvT-loop
 Inv-loop bytes from steps list₀ i₀ list i = Copying bytes steps (take from list₀ ++ stepsAt bytes (53 + 10 * from) (steps - from)) list₀ list i

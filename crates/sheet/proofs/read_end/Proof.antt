@@ -1,17 +1,12 @@
-use mathlib.Core.Path.{_≡_, refl, sym, ap, _∙_}
+-- The steps are all there, or the first that is not refuses; then the end decides.
+use mathlib.Core.Path.{sym, _∙_}
 use native.Mathlib.Omega.{arith}
-use Rattle.planning.specs.Sheet.{sheetOf}
-use Rattle.sheet.specs.Answers.{readingAs, headingOf}
-use Rattle.sheet.proofs.Checks.{refuses, passes, end-cut, end-passes, end-fails}
 use borrow.Author.Needs.{needs}
+use Rattle.planning.specs.Sheet.{sheetOf}
+use Rattle.sheet.proofs.Checks.{refuses, passes, end-cut, end-passes, end-fails}
 use Rattle.sheet.proofs.read_end.Statement.{statement}
 use Rattle.sheet.proofs.read_end.Tie as tie
-use Rattle.sheet.proofs.read_end.Reads as reads
-use Rattle.sheet.proofs.read_end.Lts as lts
-use Rattle.bits.proofs.read_bits.Reads as read-bits-reads
-use Rattle.sheet.proofs.cost_in.Reads as cost-in-reads
-use Rattle.sheet.proofs.ends.Reads as ends-reads
-use Rattle.sheet.proofs.refused.Reads as refused-reads
+use Rattle.sheet.specs.Answers.{readingAs, headingOf}
 
 mul-end : tie.Need-mul-end
 mul-end c = search needs

@@ -1,17 +1,13 @@
-use mathlib.Core.Path.{_≡_, refl, sym, ap, _∙_}
+-- At each `return` the tests that led there say which check refuses.
+use mathlib.Core.Path.{_≡_, sym, ap, _∙_}
 use native.Mathlib.Omega.{arith}
+use borrow.Author.Needs.{needs}
 use Rattle.planning.specs.Basics.{Check, answer}
 use Rattle.planning.specs.Sheet.{stepsIn}
-use Rattle.sheet.specs.Answers.{headingOf}
 use Rattle.sheet.proofs.Checks.{refuses, cut-before-edition, wrong-edition, cut-before-steps, too-many-steps, cut-before-cost, front-passed}
-use borrow.Author.Needs.{needs}
 use Rattle.sheet.proofs.read_fields.Statement.{statement}
 use Rattle.sheet.proofs.read_fields.Tie as tie
-use Rattle.sheet.proofs.read_fields.Reads as reads
-use Rattle.sheet.proofs.read_fields.Lts as lts
-use Rattle.bits.proofs.read_bits.Reads as read-bits-reads
-use Rattle.sheet.proofs.read_end.Reads as read-end-reads
-use Rattle.sheet.proofs.refused.Reads as refused-reads
+use Rattle.sheet.specs.Answers.{headingOf}
 
 refused-requires : tie.Need-refused-requires
 refused-requires c κs = search needs

@@ -1,13 +1,10 @@
-use mathlib.Core.Path.{_≡_, refl, sym, ap, _∙_}
+-- Four fields cut out of six bytes, and four stores.
 use native.Mathlib.Omega.{arith}
+use borrow.Author.Needs.{needs}
 use lib.ListN.{length-set}
 use Rattle.sheet.proofs.Copying.{four-stored}
-use borrow.Author.Needs.{needs}
 use Rattle.sheet.proofs.read_four.Statement.{statement}
 use Rattle.sheet.proofs.read_four.Tie as tie
-use Rattle.sheet.proofs.read_four.Reads as reads
-use Rattle.sheet.proofs.read_four.Lts as lts
-use Rattle.bits.proofs.read_six.Reads as read-six-reads
 
 read-six-requires : tie.Need-read-six-requires
 read-six-requires c κs = search needs

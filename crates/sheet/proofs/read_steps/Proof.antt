@@ -1,16 +1,12 @@
+-- Four steps a turn; `read_each` has the rest.
+use mathlib.Core.Path.{_≡_, sym, _∙_}
+use Prim.Native.Nat.{_+_, _*_, _-_}
+use native.Mathlib.Omega.{arith}
+use borrow.Author.Needs.{needs}
 use Rattle.planning.specs.Sheet.{stepsAt}
 use Rattle.sheet.proofs.Copying.{Copying, copying-none, copying-four}
-use borrow.Author.Needs.{needs}
-use mathlib.Core.Path.{_≡_, refl, sym, ap, _∙_}
-use Prim.Native.Nat.{ℕ, _+_, _*_, _/_, _^_, _-_, _≤_, _<_}
-use native.Mathlib.Omega.{arith}
-use lib.ListN.{length, getD, take, drop, set, replicate}
 use Rattle.sheet.proofs.read_steps.Statement.{statement}
 use Rattle.sheet.proofs.read_steps.Tie as tie
-use Rattle.sheet.proofs.read_steps.Reads as reads
-use Rattle.sheet.proofs.read_steps.Lts as lts
-use Rattle.sheet.proofs.read_each.Reads as read-each-reads
-use Rattle.sheet.proofs.read_four.Reads as read-four-reads
 
 abbrev Inv-loop : tie.InvT-loop
 Inv-loop bytes steps list₀ i₀ j₀ list i j = (j * 8 + 5 ≡ 53 + 10 * i) × Copying bytes steps (stepsAt bytes 53 steps) list₀ list i

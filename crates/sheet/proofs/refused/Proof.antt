@@ -1,9 +1,8 @@
+-- By computation.
 use mathlib.Core.Path.{refl}
-use Rattle.sheet.specs.Answers.{readingAs}
 use Rattle.sheet.proofs.refused.Statement.{statement}
 use Rattle.sheet.proofs.refused.Tie as tie
-use Rattle.sheet.proofs.refused.Reads as reads
-use Rattle.sheet.proofs.refused.Lts as lts
+use Rattle.sheet.specs.Answers.{readingAs}
 
 returns : tie.Need-returns
 unfolding readingAs

@@ -1,17 +1,15 @@
-use mathlib.Core.Path.{_≡_, sym, ap, _∙_}
+-- At each `return` the tests that led there say which check refuses.
 use mathlib.Core.Option.{none, some}
+use mathlib.Core.Path.{_≡_, sym, ap, _∙_}
 use native.Mathlib.Omega.{arith}
-use Rattle.planning.specs.Sheet.{sheetSize, sheetEnd}
-use Rattle.planning.specs.Calls.{notBelow}
-use Rattle.sheet.specs.Answers.{sheet, writtenAs, faultAs}
-use Rattle.sheet.proofs.Entries.{found-lt}
-use Rattle.sheet.proofs.Checks.{over-length, over-entry, over-room, writes}
 use borrow.Author.Needs.{needs}
+use Rattle.planning.specs.Calls.{notBelow}
+use Rattle.planning.specs.Sheet.{sheetSize, sheetEnd}
+use Rattle.sheet.proofs.Checks.{over-length, over-entry, over-room, writes}
+use Rattle.sheet.proofs.Entries.{found-lt}
 use Rattle.sheet.proofs.size_for.Statement.{statement}
 use Rattle.sheet.proofs.size_for.Tie as tie
-use Rattle.sheet.proofs.size_for.Reads as reads
-use Rattle.sheet.proofs.size_for.Lts as lts
-use Rattle.sheet.proofs.find_over.Reads as find-over-reads
+use Rattle.sheet.specs.Answers.{sheet, writtenAs, faultAs}
 
 returns : tie.Need-returns
 unfolding writtenAs

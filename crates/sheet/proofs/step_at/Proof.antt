@@ -1,12 +1,10 @@
+-- Behind the end of a list stands the default.
 use mathlib.Core.Path.{sym}
 use native.Mathlib.Omega.{arith}
-use lib.ListN.{List·getD-eq-default}
 use borrow.Author.Needs.{needs}
+use lib.ListN.{List·getD-eq-default}
 use Rattle.sheet.proofs.step_at.Statement.{statement}
 use Rattle.sheet.proofs.step_at.Tie as tie
-use Rattle.sheet.proofs.step_at.Reads as reads
-use Rattle.sheet.proofs.step_at.Lts as lts
-use Rattle.sheet.proofs.wide.Reads as wide-reads
 
 mul-wide : tie.Need-mul-wide
 mul-wide c = search needs

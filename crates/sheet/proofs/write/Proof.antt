@@ -1,27 +1,20 @@
-use lib.ListN.{take}
+-- The answer is that of the checks. The bytes in front are the front's and the steps', zeros stand behind, and what is written is read
+-- back as it was.
 use mathlib.Core.Path.{_≡_, refl, sym, ap, _∙_}
-use native.Mathlib.Omega.{arith}
 use Prim.Native.Nat.{_≤_}
-use lib.ListN.{length}
-use Rattle.planning.specs.Basics.{done}
-use Rattle.planning.specs.Sheet.{sheetSize, sheetEnd, sheetBytes}
-use Rattle.planning.specs.Calls.{writeCall}
-use Rattle.sheet.specs.Answers.{sheet, writtenAs}
-use Rattle.sheet.proofs.Entries.{all-below}
-use Rattle.sheet.proofs.Writing.{sheet-written}
-use Rattle.sheet.proofs.Checks.{Fitting, fitting}
-use Rattle.sheet.proofs.Promises.{write-refused, write-done}
+use native.Mathlib.Omega.{arith}
 use borrow.Author.Needs.{needs}
+use lib.ListN.{take, length}
+use Rattle.planning.specs.Basics.{done}
+use Rattle.planning.specs.Calls.{writeCall}
+use Rattle.planning.specs.Sheet.{sheetSize, sheetEnd, sheetBytes}
+use Rattle.sheet.proofs.Checks.{Fitting, fitting}
+use Rattle.sheet.proofs.Entries.{all-below}
+use Rattle.sheet.proofs.Promises.{write-refused, write-done}
+use Rattle.sheet.proofs.Writing.{sheet-written}
 use Rattle.sheet.proofs.write.Statement.{statement}
 use Rattle.sheet.proofs.write.Tie as tie
-use Rattle.sheet.proofs.write.Reads as reads
-use Rattle.sheet.proofs.write.Lts as lts
-use Rattle.bits.proofs.write_bits.Reads as write-bits-reads
-use Rattle.lists.proofs.clear.Reads as clear-reads
-use Rattle.lists.proofs.clear_from.Reads as clear-from-reads
-use Rattle.sheet.proofs.front.Reads as front-reads
-use Rattle.sheet.proofs.size_for.Reads as size-for-reads
-use Rattle.sheet.proofs.write_steps.Reads as write-steps-reads
+use Rattle.sheet.specs.Answers.{sheet, writtenAs}
 
 size-for-requires : tie.Need-size-for-requires
 size-for-requires c κs = search needs

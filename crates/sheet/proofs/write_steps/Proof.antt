@@ -1,16 +1,11 @@
-use Rattle.sheet.proofs.Writing.{Writing, writing-start, writing-turn, writing-end, writing-room, writing-last}
-use borrow.Author.Needs.{needs}
-use mathlib.Core.Path.{_≡_, refl, sym, ap, _∙_}
-use Prim.Native.Nat.{ℕ, _+_, _*_, _/_, _^_, _-_, _≤_, _<_}
+-- What is packed of the whole is what stands in front and what is packed of the rest.
+use Prim.Native.Nat.{_-_}
 use native.Mathlib.Omega.{arith}
-use lib.ListN.{length, getD, take, drop, set, replicate}
+use borrow.Author.Needs.{needs}
+use lib.ListN.{length}
+use Rattle.sheet.proofs.Writing.{Writing, writing-start, writing-turn, writing-end, writing-room, writing-last}
 use Rattle.sheet.proofs.write_steps.Statement.{statement}
 use Rattle.sheet.proofs.write_steps.Tie as tie
-use Rattle.sheet.proofs.write_steps.Reads as reads
-use Rattle.sheet.proofs.write_steps.Lts as lts
-use Rattle.bits.proofs.write_bits.Reads as write-bits-reads
-use Rattle.sheet.proofs.four_steps.Reads as four-steps-reads
-use Rattle.sheet.proofs.last_steps.Reads as last-steps-reads
 
 abbrev Inv-loop : tie.InvT-loop
 Inv-loop list five size bytes₀ rest₀ at₀ i₀ bytes rest at i = Writing list five size bytes₀ bytes rest at i

@@ -1,18 +1,14 @@
-use mathlib.Core.Path.{_≡_, refl, sym, ap, _∙_}
-use native.Mathlib.Omega.{arith}
-use Rattle.planning.specs.Basics.{Answer, code}
-use lib.ListN.{length}
-use Rattle.planning.specs.Calls.{Read}
-use Rattle.sheet.specs.Answers.{readingAs}
-use Rattle.mardiskos.specs.Results.{headingIn}
-use Rattle.mardiskos.proofs.Codes.{reading-zero}
+-- Each field is read off the answer of `read`; its number is 0 only for success.
+use mathlib.Core.Path.{sym, ap, _∙_}
 use borrow.Author.Needs.{needs}
+use lib.ListN.{length}
+use Rattle.planning.specs.Basics.{Answer, code}
+use Rattle.planning.specs.Calls.{Read}
+use Rattle.mardiskos.proofs.Codes.{reading-zero}
 use Rattle.mardiskos.proofs.sheets.mardiskos_read_sheet.Statement.{statement}
 use Rattle.mardiskos.proofs.sheets.mardiskos_read_sheet.Tie as tie
-use Rattle.mardiskos.proofs.sheets.mardiskos_read_sheet.Reads as reads
-use Rattle.mardiskos.proofs.sheets.mardiskos_read_sheet.Lts as lts
-use Rattle.mardiskos.proofs.sheets.reading_code.Reads as reading-code-reads
-use Rattle.sheet.proofs.read.Reads as read-reads
+use Rattle.mardiskos.specs.Results.{headingIn}
+use Rattle.sheet.specs.Answers.{readingAs}
 
 read-requires : tie.Need-read-requires
 read-requires c κs = search needs

@@ -1,17 +1,13 @@
-use mathlib.Core.Path.{_≡_, refl, sym, ap, _∙_}
-use native.Mathlib.Omega.{arith}
-use Rattle.planning.specs.Basics.{code}
-use lib.ListN.{length}
-use Rattle.sheet.specs.Answers.{sheet, writtenAs}
-use Rattle.mardiskos.specs.Results.{sizeIn}
-use Rattle.mardiskos.proofs.Codes.{written-zero}
+-- Each field is read off the answer of `write`; its number is 0 only for success.
+use mathlib.Core.Path.{sym, ap, _∙_}
 use borrow.Author.Needs.{needs}
+use lib.ListN.{length}
+use Rattle.planning.specs.Basics.{code}
+use Rattle.mardiskos.proofs.Codes.{written-zero}
 use Rattle.mardiskos.proofs.sheets.mardiskos_write_sheet.Statement.{statement}
 use Rattle.mardiskos.proofs.sheets.mardiskos_write_sheet.Tie as tie
-use Rattle.mardiskos.proofs.sheets.mardiskos_write_sheet.Reads as reads
-use Rattle.mardiskos.proofs.sheets.mardiskos_write_sheet.Lts as lts
-use Rattle.mardiskos.proofs.sheets.written_code.Reads as written-code-reads
-use Rattle.sheet.proofs.write.Reads as write-reads
+use Rattle.mardiskos.specs.Results.{sizeIn}
+use Rattle.sheet.specs.Answers.{sheet, writtenAs}
 
 write-requires : tie.Need-write-requires
 write-requires c κs = search needs

@@ -1,12 +1,11 @@
-use mathlib.Core.Path.{_≡_, refl, sym, ap, _∙_}
+-- By cases of the answer.
+use mathlib.Core.Path.{refl}
 use native.Mathlib.Omega.{arith}
-use Rattle.planning.specs.Basics.{code}
-use Rattle.sheet.specs.Answers.{writtenAs}
 use borrow.Author.Needs.{needs}
+use Rattle.planning.specs.Basics.{code}
 use Rattle.mardiskos.proofs.sheets.written_code.Statement.{statement}
 use Rattle.mardiskos.proofs.sheets.written_code.Tie as tie
-use Rattle.mardiskos.proofs.sheets.written_code.Reads as reads
-use Rattle.mardiskos.proofs.sheets.written_code.Lts as lts
+use Rattle.sheet.specs.Answers.{writtenAs}
 
 enum-known-a : tie.Need-enum-known-a
 enum-known-a c = search needs
