@@ -66,6 +66,9 @@ first-is (suc n) p = go (first n p) (first-is n p)
     go (some i) h = let b : i < n = h .below in record { below = omega arith; passes = h .passes; least = h .least }
     go none h = pick (p n) refl h
 
+pub first-none : (n : ℕ) (p : ℕ → Bool) → first n p ≡ none → (i : ℕ) → i < n → T (p i) → ⊥
+first-none n p e = subst (First? n p) e (first-is n p)
+
 pub oneIf-le : (b : Bool) → oneIf b ≤ 1
 unfolding oneIf
 oneIf-le true = omega arith
@@ -110,6 +113,11 @@ pub total-le : (n : ℕ) (f g : ℕ → ℕ) → ((v : ℕ) → v < n → f v �
 unfolding total
 total-le zero f g h = omega arith
 total-le (suc n) f g h = omega (arith, total-le n f g (λ v k. h v (omega arith)), h n (omega arith))
+
+pub total-max : (n c : ℕ) (f : ℕ → ℕ) → ((v : ℕ) → f v ≤ c) → total n f ≤ n * c
+unfolding total
+total-max zero c f h = omega arith
+total-max (suc n) c f h = omega (arith, total-max n c f h, h n)
 
 pub total-lt : (n : ℕ) (f g : ℕ → ℕ) → ((v : ℕ) → v < n → f v ≤ g v) → (v : ℕ) → v < n → f v < g v → total n f < total n g
 unfolding total

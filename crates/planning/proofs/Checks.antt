@@ -74,11 +74,28 @@ pub passed-++ : (cs ds : List Check) → Passed (cs ++ ds) → Passed cs × Pass
 passed-++ [] ds h = (tt, h)
 passed-++ (c ∷ cs) ds h = let r = passed-++ cs ds (h .1) in ((h .0, r .0), r .1)
 
--- answers
-pub answer-done : {A : Type 0} (c : Check) (a : A) → c ≡ none → answer c a ≡ done a
-unfolding answer
-answer-done c a e = rw e refl
+-- the first check of the list that refuses does so with r
+pub data Refuses (r : Refusal) : List Check → Type 0 where
+  here : {c : Check} {cs : List Check} → c ≡ some r → Refuses r (c ∷ cs)
+  later : {c : Check} {cs : List Check} → c ≡ none → Refuses r cs → Refuses r (c ∷ cs)
 
-pub answer-refused : {A : Type 0} (c : Check) (a : A) (r : Refusal) → c ≡ some r → answer c a ≡ refused (r .number) (r .place)
+pub refuses-inOrder : {r : Refusal} {cs : List Check} → Refuses r cs → inOrder cs ≡ some r
+refuses-inOrder {r} (here {c = c} {cs = cs} e) = inOrder-stop c cs r e
+refuses-inOrder {r} (later {c = c} {cs = cs} e h) = inOrder-pass c cs e ∙ refuses-inOrder h
+
+-- what an entry point answers
+pub answer-done : {A : Type 0} (cs : List Check) (a : A) → Passed cs → answer (inOrder cs) a ≡ done a
 unfolding answer
-answer-refused c a r e = rw e refl
+answer-done cs a h = rw (passed-inOrder cs h) refl
+
+pub answer-refused : {A : Type 0} (cs : List Check) (a : A) (r : Refusal) → Refuses r cs → answer (inOrder cs) a ≡ refused (r .number) (r .place)
+unfolding answer
+answer-refused cs a r h = rw (refuses-inOrder h) refl
+
+pub answer-passed : {A : Type 0} (cs : List Check) (a b : A) → answer (inOrder cs) a ≡ done b → Passed cs × (a ≡ b)
+unfolding answer
+answer-passed cs a b e = go (inOrder cs) refl e
+  where
+    go : (c : Check) → inOrder cs ≡ c → answer c a ≡ done b → Passed cs × (a ≡ b)
+    go none p e = (inOrder-passed cs p, cc)
+    go (some r) p e = let z : _≡_ {A = ℕ} 0 1 = cc in absurd (omega arith)

@@ -155,20 +155,23 @@ noAction-formed : (n : ℕ) (count : ℕ → ℕ) → ActionFormed n count noAct
 noAction-formed n count = record { pre-sorted = tt; eff-sorted = tt; pre-max = omega arith; eff-max = omega arith; cost-below = omega arith }
 
 module _ (s : List ℕ) (e : recordCheck s ≡ none) where
+  -- the checks of a record, part by part
   pub record Parts : Type 0 where
     pub header : Passed (headerChecks s)
     pub vars : Passed (variablesChecks s 22 (variablesIn s))
     pub acts : Passed (actionsChecks s (22 + 20 * variablesIn s) (actionsIn s))
+    pub ends : T (endsAt s (recordEnd s))
 
-  parts : Parts
+  pub parts : Parts
   unfolding recordCheck recordChecks
   parts =
-      let ends : List Check = check (endsAt s (recordEnd s)) 6 (recordEnd s) ∷ [] in
+      let end : List Check = check (endsAt s (recordEnd s)) 6 (recordEnd s) ∷ [] in
       let acs : List Check = actionsChecks s (22 + 20 * variablesIn s) (actionsIn s) in
       let vas : List Check = variablesChecks s 22 (variablesIn s) in
-      let P = passed-++ (headerChecks s) (vas ++ (acs ++ ends)) (inOrder-passed (headerChecks s ++ (vas ++ (acs ++ ends))) e) in
-      let Q = passed-++ vas (acs ++ ends) (P .1) in
-      record { header = P .0; vars = Q .0; acts = passed-++ acs ends (Q .1) .0 }
+      let P = passed-++ (headerChecks s) (vas ++ (acs ++ end)) (inOrder-passed (headerChecks s ++ (vas ++ (acs ++ end))) e) in
+      let Q = passed-++ vas (acs ++ end) (P .1) in
+      let R = passed-++ acs end (Q .1) in
+      record { header = P .0; vars = Q .0; acts = R .0; ends = check-none (endsAt s (recordEnd s)) 6 (recordEnd s) (R .1 .0) }
 
   variable-formed : (v : ℕ) → Dec (v < variablesIn s) → VariableFormed (variable (taskOf s) v)
   variable-formed v (yes h) = rw (taskOf-variable s v h) (variableAt-formed s (22 + 20 * v) (variablesChecks-at s 22 (variablesIn s) v (parts .vars) h))

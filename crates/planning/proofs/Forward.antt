@@ -1,7 +1,7 @@
 -- The forward run. Each action taken adds a fact, so that F actions are enough, and none is taken twice. Where the run stops short
 -- of the goals its state is closed: an action that applies there adds nothing. A closed state that holds the initial facts stays
 -- above every relaxed run, so that then no list is a relaxed plan, and none is a plan under any other semantics.
-use Prim.Native.Nat.{ℕ, zero, suc, _+_, _≤_, _<_}
+use Prim.Native.Nat.{ℕ, zero, suc, _+_, _≤_, _<_, pred}
 use mathlib.Core.Path.{_≡_, refl, subst}
 use mathlib.Core.Logic.{_⊎_, inl, inr, _≢_}
 use mathlib.Core.Bool.{Bool, true, false, not}
@@ -15,7 +15,7 @@ use Rattle.planning.specs.Record.{Fact, Action, Task}
 use Rattle.planning.specs.Runs.{State, has, holds, Mode, step, variables, actions, variable, act, count, relaxed, initial, goals, run, runs, isPlan, size}
 use Rattle.planning.specs.Relaxed.{adds, forward, addable, forwardRun, forwardEnd, solvable}
 use Rattle.planning.proofs.Tests.{and-l, and-r, and-i, T-cases}
-use Rattle.planning.proofs.Below.{First?, first-is, tally-le, tally-cases, tally-pos, tally-sub, total-le, total-lt, total-pred, total-one}
+use Rattle.planning.proofs.Below.{First, First?, first-is, tally-le, tally-cases, tally-pos, tally-sub, total-le, total-lt, total-pred, total-one}
 use Rattle.planning.proofs.Facts.{_⊆_, holds→sub, sub→holds, missing}
 use Rattle.planning.proofs.Steps.{step-eff, step-keep, step-cases, run-grows, All, all-map}
 use Rattle.planning.proofs.Formed.{Formed, sorted-has, initial-holds}
@@ -97,6 +97,23 @@ module _ (act : ℕ → Action) (A nv : ℕ) (count : ℕ → ℕ) (goal : List 
       go : (b : Bool) → holds s goal ≡ b → ((s : State) → total nv count ≤ size nv count s + k → Ran act A nv count goal s (forward act A goal k s)) → Ran act A nv count goal s (body b (first A (adds act s)))
       go true e rec = record { below = tt; runs′ = tt; size′ = omega arith; ends = inl (holds→sub s goal (rw e tt)) }
       go false e rec = pick (first A (adds act s)) (first-is A (adds act s)) e rec
+
+  -- a loop that takes actions until the goals hold or none adds: the fuel is never short
+  pub forward-take : (k i : ℕ) (s : State) → total nv count ≤ size nv count s + k → holds s goal ≡ false → first A (adds act s) ≡ some i
+      → (forward act A goal k s ≡ i ∷ forward act A goal (pred k) (step relaxed (act i) s)) × (total nv count ≤ size nv count (step relaxed (act i) s) + pred k)
+  unfolding forward
+  forward-take k i s f h e = go k f
+    where
+      I : First A (adds act s) i
+      I = subst (First? A (adds act s)) e (first-is A (adds act s))
+
+      g : size nv count s < size nv count (step relaxed (act i) s)
+      g = grown s i (I .below) (I .passes)
+
+      go : (k : ℕ) → total nv count ≤ size nv count s + k
+          → (forward act A goal k s ≡ i ∷ forward act A goal (pred k) (step relaxed (act i) s)) × (total nv count ≤ size nv count (step relaxed (act i) s) + pred k)
+      go zero f = absurd (omega (arith, g, size-le nv count (step relaxed (act i) s)))
+      go (suc k) f = (rw (h, e, forward) refl, omega (arith, g))
 
 -- no number twice in a list
 abbrev pub Once : List ℕ → Type 0

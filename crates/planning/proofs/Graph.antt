@@ -1,11 +1,10 @@
 -- Reachability in a finite graph, by a number of moves; below n nodes n - 1 moves are enough.
-use Prim.Native.Nat.{ℕ, zero, suc, _+_, _<_}
+use Prim.Native.Nat.{ℕ, zero, suc, _<_}
 use mathlib.Core.Path.{_≡_}
 use mathlib.Core.Logic.{_⊎_, inl, inr}
 use mathlib.Core.Bool.{Bool, _&&_}
 use lib.Dec.{T, eqb, eqb→eq, eqb-refl}
 use native.Mathlib.Omega.{arith}
-use native.Mathlib.Nat.{zero-add, suc-add}
 use Rattle.planning.specs.Basics.{someBelow, tally, reach}
 use Rattle.planning.proofs.Tests.{or-l, or-r, or-cases, and-l, and-r, and-i}
 use Rattle.planning.proofs.Below.{some-intro, some-elim, tally-cases, tally-full, tally-pos}
@@ -41,18 +40,6 @@ module _ (n : ℕ) (adj : ℕ → ℕ → Bool) where
       go : (c ≡ d) ⊎ ((e : ℕ) × (e < n) × T (adj c e) × T (reach n adj k e d)) → ((c d : ℕ) → T (reach n adj k c d) → T (reach n adj (suc k) c d)) → T (reach n adj (suc (suc k)) c d)
       go (inl e) f = rw e (reach-here (suc (suc k)) d)
       go (inr r) f = reach-move (suc k) c (r .0) d (r .1) (r .2) (f (r .0) d (r .3))
-
-  pub reach-append : (j k b c d : ℕ) → T (reach n adj j b c) → T (reach n adj k c d) → T (reach n adj (j + k) b d)
-  reach-append zero k b c d h g = rw (zero-add, reach-zero b c h) g
-  reach-append (suc j) k b c d h g = go (reach-cases j b c h) (reach-append j k)
-    where
-      more : (j c : ℕ) → T (reach n adj k c d) → T (reach n adj (j + k) c d)
-      more zero c t = rw zero-add t
-      more (suc j) c t = rw suc-add (reach-suc (j + k) c d (more j c t))
-
-      go : (b ≡ c) ⊎ ((e : ℕ) × (e < n) × T (adj b e) × T (reach n adj j e c)) → ((b c d : ℕ) → T (reach n adj j b c) → T (reach n adj k c d) → T (reach n adj (j + k) b d)) → T (reach n adj (suc j + k) b d)
-      go (inl e) f = rw e (more (suc j) c g)
-      go (inr r) f = rw suc-add (reach-move (j + k) b (r .0) d (r .1) (r .2) (f (r .0) c d (r .3) g))
 
   module _ (d : ℕ) (inside : d < n) where
     -- no more nodes come: none ever comes

@@ -10,3 +10,16 @@ pub mod Formed
 pub mod Plans
 pub mod Forward
 pub mod Achievers
+pub mod Arcs
+pub mod Walks
+pub mod Pass
+pub mod Fill
+pub mod Short
+pub mod Known
+pub mod Conn
+pub mod Order
+pub mod Repair
+pub mod Painting
+pub mod Sizes
+pub mod Calls
+pub mod Demand3

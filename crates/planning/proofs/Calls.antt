@@ -1,0 +1,146 @@
+-- The two calls that repair. Check 9 of a caller's list passes exactly if the list is a relaxed plan, and check 10 exactly if the
+-- planner has one of its own, so that what a call returns is a red-black plan of at most n × P steps that fits the room lent.
+use Prim.Native.Nat.{ℕ, suc, _*_, _≤_}
+use mathlib.Core.Path.{_≡_, refl, sym}
+use mathlib.Core.Bool.{Bool, true, false, _&&_}
+use mathlib.Core.List.{List, [], _∷_}
+use mathlib.Core.Option.{Option, none, some}
+use lib.Dec.{T, leb, ltb, leb→le}
+use lib.ListN.{length}
+use native.Mathlib.Omega.{arith}
+use native.Mathlib.Nat.{mul-le-mul-right}
+use Rattle.planning.specs.Basics.{check, refuseAt, refused, done}
+use Rattle.planning.specs.Record.{Task, taskOf, recordCheck}
+use Rattle.planning.specs.Runs.{State, holds, step, actions, act, relaxed, initial, goals, run, runs, allBelow, isPlan}
+use Rattle.planning.specs.Relaxed.{solvable, factsReached, relaxedPlan}
+use Rattle.planning.specs.Painting.{cyclic, unreturned, acyclicCheck, returnCheck}
+use Rattle.planning.specs.Repair.{repaired}
+use Rattle.planning.specs.Calls.{capacityOf, roomCheck, solvableCheck, relaxedFault, relaxedCheck, Planned, planned, repairCall, planOf, planCall}
+use Rattle.planning.specs.Existence.{blackProduct, stepBound, RedBlackPlan}
+use Rattle.planning.proofs.Tests.{T→true, true→T, and-l, and-r, and-i}
+use Rattle.planning.proofs.Checks.{check-none, refuseAt-none, answer-done, answer-refused, answer-passed, here, later}
+use Rattle.planning.proofs.Formed.{Formed, formed-of}
+use Rattle.planning.proofs.Achievers.{relaxedPlan-is-plan, relaxedPlan-length}
+use Rattle.planning.proofs.Painting.{repaired-is-plan, repaired-length}
+
+-- a list without a fault: entries below A that apply in turn, and the goals at the end
+relaxedFault-none : (t : Task) (s : State) (k : ℕ) (l : List ℕ) → relaxedFault t s k l ≡ none
+    → T (allBelow (actions t) l) × T (runs (act t) relaxed l s) × T (holds (run (act t) relaxed l s) (goals t))
+unfolding relaxedFault allBelow runs run
+relaxedFault-none t s k [] e = go (holds s (goals t)) refl e
+  where
+    go : (b : Bool) → holds s (goals t) ≡ b → _≡_ {A = Option ℕ} (elim b [ true ↦ none | false ↦ some k ]) none → Unit {0} × Unit {0} × T (holds s (goals t))
+    go true p e = (tt, tt, rw p tt)
+    go false p e = let z : _≡_ {A = ℕ} 0 1 = cc in absurd (omega arith)
+relaxedFault-none t s k (i ∷ l) e = go (ltb i (actions t) && holds s (act t i .pre)) refl e (relaxedFault-none t (step relaxed (act t i) s) (suc k) l)
+  where
+    s′ : State
+    s′ = step relaxed (act t i) s
+
+    Rest : Type 0
+    Rest = T (allBelow (actions t) l) × T (runs (act t) relaxed l s′) × T (holds (run (act t) relaxed l s′) (goals t))
+
+    go : (b : Bool) → (ltb i (actions t) && holds s (act t i .pre)) ≡ b → _≡_ {A = Option ℕ} (elim b [ true ↦ relaxedFault t s′ (suc k) l | false ↦ some k ]) none
+        → (relaxedFault t s′ (suc k) l ≡ none → Rest)
+        → T (ltb i (actions t) && allBelow (actions t) l) × T (holds s (act t i .pre) && runs (act t) relaxed l s′) × T (holds (run (act t) relaxed l s′) (goals t))
+    go true p e f =
+        let r = f e in
+        let q = true→T (ltb i (actions t) && holds s (act t i .pre)) p in (
+          and-i (ltb i (actions t)) (allBelow (actions t) l) (and-l (ltb i (actions t)) (holds s (act t i .pre)) q) (r .0),
+          and-i (holds s (act t i .pre)) (runs (act t) relaxed l s′) (and-r (ltb i (actions t)) (holds s (act t i .pre)) q) (r .1),
+          r .2,
+        )
+    go false p e f = let z : _≡_ {A = ℕ} 0 1 = cc in absurd (omega arith)
+
+relaxedFault-of : (t : Task) (s : State) (k : ℕ) (l : List ℕ) → T (allBelow (actions t) l) → T (runs (act t) relaxed l s) → T (holds (run (act t) relaxed l s) (goals t))
+    → relaxedFault t s k l ≡ none
+unfolding relaxedFault allBelow runs run
+relaxedFault-of t s k [] b r g = rw (T→true (holds s (goals t)) g, relaxedFault) refl
+relaxedFault-of t s k (i ∷ l) b r g =
+    rw (T→true (ltb i (actions t)) (search and-l), T→true (holds s (act t i .pre)) (search and-l), relaxedFault)
+    (relaxedFault-of t (step relaxed (act t i) s) (suc k) l (search and-r) (search and-r) g)
+
+pub relaxedCheck-none : (t : Task) (l : List ℕ) → relaxedCheck t l ≡ none → isPlan t relaxed l ≡ true
+unfolding relaxedCheck isPlan
+relaxedCheck-none t l e =
+    let h = relaxedFault-none t (initial t) 0 l (refuseAt-none 9 (relaxedFault t (initial t) 0 l) e) in
+    T→true (allBelow (actions t) l && (runs (act t) relaxed l (initial t) && holds (run (act t) relaxed l (initial t)) (goals t)))
+    (and-i (allBelow (actions t) l) (runs (act t) relaxed l (initial t) && holds (run (act t) relaxed l (initial t)) (goals t)) (h .0)
+    (and-i (runs (act t) relaxed l (initial t)) (holds (run (act t) relaxed l (initial t)) (goals t)) (h .1) (h .2)))
+
+pub relaxedCheck-of : (t : Task) (l : List ℕ) → isPlan t relaxed l ≡ true → relaxedCheck t l ≡ none
+unfolding relaxedCheck isPlan refuseAt
+relaxedCheck-of t l e =
+    let h = true→T (allBelow (actions t) l && (runs (act t) relaxed l (initial t) && holds (run (act t) relaxed l (initial t)) (goals t))) e in
+    rw (relaxedFault-of t (initial t) 0 l (search and-l) (search (and-l, and-r)) (search (and-l, and-r))) refl
+
+-- what an answered call says: the plan is a red-black plan, at most b steps long, and fits the room lent
+pub record Returned (t : Task) (l : List ℕ) (b n w : ℕ) (p : Planned) : Type 0 where
+  pub result : p ≡ planned t l
+  pub is-plan : RedBlackPlan t l
+  pub short : length l ≤ b
+  pub fits′ : length l ≤ capacityOf n w
+
+roomCheck-none : (n room : ℕ) → roomCheck n room ≡ none → n ≤ room
+unfolding roomCheck
+roomCheck-none n room e = leb→le n room (check-none (leb n room) 11 room e)
+
+pub repairCall-returned : (s l : List ℕ) (n w : ℕ) (p : Planned) → repairCall s l n w ≡ done p → Returned (taskOf s) (repaired (taskOf s) l) (length l * blackProduct (taskOf s)) n w p
+unfolding repairCall acyclicCheck returnCheck
+repairCall-returned s l n w p e =
+    let t : Task = taskOf s in
+    let P = answer-passed _ (planned t (repaired t l)) p e in
+    let Q = P .0 in
+    let F = formed-of s (Q .0) in
+    let acy = refuseAt-none 7 (cyclic t) (Q .1 .0) in
+    let ret = refuseAt-none 8 (unreturned t) (Q .1 .1 .0) in
+    let rel = relaxedCheck-none t l (Q .1 .1 .1 .1 .0) in
+    record {
+      result = sym (P .1);
+      is-plan = repaired-is-plan t F acy ret l rel;
+      short = repaired-length t F acy ret l rel;
+      fits′ = roomCheck-none (length (repaired t l)) (capacityOf n w) (Q .1 .1 .1 .1 .1 .0);
+    }
+
+-- the planner's own relaxed plan, repaired
+module _ (t : Task) (F : Formed t) (acy : cyclic t ≡ none) (ret : unreturned t ≡ none) (sol : solvable t ≡ true) where
+  pub planOf-is-plan : RedBlackPlan t (planOf t)
+  unfolding planOf
+  planOf-is-plan = repaired-is-plan t F acy ret (relaxedPlan t) (relaxedPlan-is-plan t F sol)
+
+  pub planOf-length : length (planOf t) ≤ stepBound t
+  unfolding planOf stepBound
+  planOf-length = omega (arith, repaired-length t F acy ret (relaxedPlan t) (relaxedPlan-is-plan t F sol), mul-le-mul-right (blackProduct t) (relaxedPlan-length t F))
+
+pub planCall-returned : (s : List ℕ) (n w : ℕ) (p : Planned) → planCall s n w ≡ done p → Returned (taskOf s) (planOf (taskOf s)) (stepBound (taskOf s)) n w p
+unfolding planCall acyclicCheck returnCheck solvableCheck
+planCall-returned s n w p e =
+    let t : Task = taskOf s in
+    let P = answer-passed _ (planned t (planOf t)) p e in
+    let Q = P .0 in
+    let F = formed-of s (Q .0) in
+    let acy = refuseAt-none 7 (cyclic t) (Q .1 .0) in
+    let ret = refuseAt-none 8 (unreturned t) (Q .1 .1 .0) in
+    let sol = T→true (solvable t) (check-none (solvable t) 10 (factsReached t) (Q .1 .1 .1 .0)) in
+    record {
+      result = sym (P .1);
+      is-plan = planOf-is-plan t F acy ret sol;
+      short = planOf-length t F acy ret sol;
+      fits′ = roomCheck-none (length (planOf t)) (capacityOf n w) (Q .1 .1 .1 .1 .0);
+    }
+
+-- with the record accepted and the painting passed, the planner answers in one of three ways
+module _ (s : List ℕ) (n w : ℕ) (rec : recordCheck s ≡ none) (acy : cyclic (taskOf s) ≡ none) (ret : unreturned (taskOf s) ≡ none) where
+  pub planCall-none : solvable (taskOf s) ≡ false → planCall s n w ≡ refused 10 (factsReached (taskOf s))
+  unfolding planCall acyclicCheck returnCheck solvableCheck refuseAt check
+  planCall-none e = answer-refused _ (planned (taskOf s) (planOf (taskOf s))) (record { number = 10; place = factsReached (taskOf s) })
+      (later rec (later (rw acy refl) (later (rw ret refl) (here (rw e refl)))))
+
+  pub planCall-long : solvable (taskOf s) ≡ true → leb (length (planOf (taskOf s))) (capacityOf n w) ≡ false → planCall s n w ≡ refused 11 (capacityOf n w)
+  unfolding planCall acyclicCheck returnCheck solvableCheck roomCheck refuseAt check
+  planCall-long e f = answer-refused _ (planned (taskOf s) (planOf (taskOf s))) (record { number = 11; place = capacityOf n w })
+      (later rec (later (rw acy refl) (later (rw ret refl) (later (rw e refl) (here (rw f refl))))))
+
+  pub planCall-done : solvable (taskOf s) ≡ true → leb (length (planOf (taskOf s))) (capacityOf n w) ≡ true → planCall s n w ≡ done (planned (taskOf s) (planOf (taskOf s)))
+  unfolding planCall acyclicCheck returnCheck solvableCheck roomCheck refuseAt check
+  planCall-done e f = answer-done _ (planned (taskOf s) (planOf (taskOf s))) (rec, (rw acy refl, (rw ret refl, (rw e refl, (rw f refl, tt)))))

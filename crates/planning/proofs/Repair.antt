@@ -1,0 +1,180 @@
+-- The repair of a relaxed plan, over the functions that it needs of a task. `Accepted` is what the record's form and the painting's
+-- two conditions give. Invariant after any number of steps: K, the facts of R and B, holds all that the relaxed actions done so far
+-- reach, and any two values that a black variable has had are joined by usable walks (`Inv` and `Conn`). So each need can be met, the
+-- list runs, and the relaxed run goes on within K.
+use Prim.Native.Nat.{ℕ, _+_, _*_, _≤_, _<_}
+use mathlib.Core.Path.{_≡_, refl, ap}
+use mathlib.Core.Logic.{_⊎_, inl, inr}
+use mathlib.Core.Bool.{Bool, true, false, not, _&&_, _||_}
+use mathlib.Core.List.{List, [], _∷_, _++_}
+use mathlib.Core.Option.{Option, none, some}
+use lib.Dec.{T, T-not, eqb, eqb→eq, eqb-refl}
+use lib.ListN.{length, length-append}
+use native.Mathlib.Omega.{arith}
+use native.Mathlib.Nat.{mul-le-mul-right}
+use Rattle.planning.specs.Basics.{first}
+use Rattle.planning.specs.Record.{Fact, Action}
+use Rattle.planning.specs.Runs.{State, has, holds, Mode, step, relaxed, run, runs}
+use Rattle.planning.specs.Painting.{orZero}
+use Rattle.planning.specs.Repair.{known, everAfter, shortest, fill, value, blackMet, moves, repairFrom}
+use Rattle.planning.proofs.Tests.{T→true, or-l, or-r, or-cases, and-l, and-r, and-i, T-cases}
+use Rattle.planning.proofs.Below.{First?, first-is}
+use Rattle.planning.proofs.Facts.{_⊆_, holds→sub, sub→holds, Func}
+use Rattle.planning.proofs.Steps.{step-mono, run-append, runs-append, run-grows, All, all-append, all-map}
+use Rattle.planning.proofs.Walks.{Walk, Usable}
+use Rattle.planning.proofs.Fill.{withs, Ordered, Sound, fill-ok, ok→runs, product, fill-short}
+use Rattle.planning.proofs.Short.{shortest-short, shortest-walk}
+use Rattle.planning.proofs.Known.{everAfter-now, known-run}
+use Rattle.planning.proofs.Conn.{Invertible, Inv, Conn, inv-same, conn-same, inv-step, conn-step}
+
+blackMet→sub : (m : Mode) (s : State) (w : List Fact) → T (blackMet m s w) → ((v d : ℕ) → T (has w v d) → (T (m v) → ⊥) → T (s v d)) → has w ⊆ s
+unfolding blackMet has
+blackMet→sub m s [] t h v d x = absurd x
+blackMet→sub m s (f ∷ fs) t h v d x =
+    go (T-cases (m v)) (or-cases (eqb v (f .var) && eqb d (f .val)) (has fs v d) x)
+    (blackMet→sub m s fs (search and-r) (λ u y z. h u y (search or-r)) v d)
+  where
+    go : T (m v) ⊎ T (not (m v)) → T (eqb v (f .var) && eqb d (f .val)) ⊎ T (has fs v d) → (T (has fs v d) → T (s v d)) → T (s v d)
+    go (inr r) e k = h v d x (T-not (m v) r)
+    go (inl b) (inr e) k = k e
+    go (inl b) (inl e) k =
+        let p = eqb→eq v (f .var) (search and-l) in
+        let q = eqb→eq d (f .val) (search and-r) in
+        let b′ : T (m (f .var)) = rw p at b in
+        let z : T (not (m (f .var)) || s (f .var) (f .val)) = search and-l in
+        rw (p, q) (elim (or-cases (not (m (f .var))) (s (f .var) (f .val)) z) [ inl n ↦ absurd (T-not (m (f .var)) n b′) | inr g ↦ g ])
+
+abbrev pub Red : Mode → ℕ → Type 0
+Red m u = T (m u) → ⊥
+
+pub record Accepted (act : ℕ → Action) (A : ℕ) (m : Mode) (count : ℕ → ℕ) (order : List ℕ) : Type 0 where
+  pub sound : Sound act A m
+  pub range : (i v e : ℕ) → i < A → T (has (act i .eff) v e) → e < count v
+  pub pos : (v : ℕ) → 0 < count v
+  pub invertible : Invertible act A m count
+  pub ordered : Ordered act A m (Red m) order
+  pub covers : (u : ℕ) → withs (Red m) order u
+
+module _ (act : ℕ → Action) (A : ℕ) (m : Mode) (count : ℕ → ℕ) (order : List ℕ) (K : Accepted act A m count order) where
+  inv-run : (l : List ℕ) (s W : State) → All (λ i. i < A) l → T (runs act m l s) → Inv act A m count s W → Conn act A m count W
+      → Inv act A m count (run act m l s) (run act relaxed l W) × Conn act A m count (run act relaxed l W)
+  unfolding run runs
+  inv-run [] s W b r I C = (I, C)
+  inv-run (i ∷ l) s W b r I C =
+      let h = holds→sub s (act i .pre) (search and-l) in
+      inv-run l (step m (act i) s) (step relaxed (act i) W) (b .1) (search and-r)
+      (inv-step act A m count (K .sound) (K .range) i (b .0) s W h I)
+      (conn-step act A m count (K .sound) (K .range) i (b .0) s W h I (K .invertible) C)
+
+  value-at : (s W : State) → Inv act A m count s W → (v : ℕ) → T (m v) → T (s v (value count s v))
+  unfolding value orZero
+  value-at s W I v mv = go (first (count v) (s v)) (first-is (count v) (s v))
+    where
+      go : (o : Option ℕ) → First? (count v) (s v) o → T (s v (orZero o))
+      go none f = let c = I .val v mv in absurd (f (c .0) (I .ranged v (c .0) (I .ins v (c .0) (c .1))) (c .1))
+      go (some c) f = f .passes
+
+  pub record Moved (s : State) (w : List Fact) (l : List ℕ) : Type 0 where
+    pub below : All (λ i. i < A) l
+    pub runs′ : T (runs act m l s)
+    pub meets : has w ⊆ run act m l s
+
+  moves-ok : (s ever : State) (w : List Fact) → Func w → has w ⊆ known m s ever → Inv act A m count s (known m s ever) → Conn act A m count (known m s ever) → Moved s w (moves act A m count order s ever w)
+  unfolding moves run runs
+  moves-ok s ever w fw ww I C = go (blackMet m s w) refl
+    where
+      W : State
+      W = known m s ever
+
+      path : ℕ → ℕ → ℕ → List ℕ
+      path v = shortest act A W v (count v)
+
+      paths : (v c d : ℕ) → T (m v) → T (W v c) → T (W v d) → Walk act (Usable act A W v) v c (path v c d) d
+      paths v c d mv h g =
+          let p = C v c d mv h g in
+          shortest-walk act A W v (count v) (K .sound .pres) (K .sound .effs) (λ i e. K .range i v e) c d (I .ranged v c h) (I .ranged v d g) (p .0) (p .1)
+
+      go : (b : Bool) → blackMet m s w ≡ b → Moved s w (elim b [ true ↦ [] | false ↦ fill act path (value count s) order [] w ])
+      go true e = record { below = tt; runs′ = tt; meets = blackMet→sub m s w (rw e tt) (λ v d h r. I .reds v d r (ww v d h)) }
+      go false e =
+          let r = fill-ok act A m (K .sound) W s path (value count s) paths (I .reds) (I .ins) (value-at s W I) w fw ww order (Red m) [] (K .ordered) tt (λ u x h q. I .reds u x q (ww u x h)) in
+          let z = ok→runs act (withs (Red m) order) (K .covers) m w (fill act path (value count s) order [] w) s (r .0) in
+          record { below = all-map _ (λ i. i < A) (λ i o. o .below) (fill act path (value count s) order [] w) (r .1); runs′ = z .0; meets = z .1 }
+
+  -- the repaired list runs and meets the goal: X is the state of the relaxed run of the relaxed actions done so far
+  pub repairFrom-ok : (goal : List Fact) → Func goal → (l : List ℕ) (s ever X : State) → s ⊆ ever → All (λ i. i < A) l → X ⊆ known m s ever → T (runs act relaxed l X) → has goal ⊆ run act relaxed l X
+      → Inv act A m count s (known m s ever) → Conn act A m count (known m s ever) → Moved s goal (repairFrom act A m count order goal l s ever)
+  unfolding repairFrom run runs
+  repairFrom-ok goal fg [] s ever X e b x r g I C = moves-ok s ever goal fg (λ v d h. x v d (g v d h)) I C
+  repairFrom-ok goal fg (i ∷ l) s ever X e b x r g I C =
+      let W : State = known m s ever in
+      let p = holds→sub X (act i .pre) (search and-l) in
+      let j : List ℕ = moves act A m count order s ever (act i .pre) in
+      let M = moves-ok s ever (act i .pre) (K .sound .pres i (b .0)) (λ v d h. x v d (p v d h)) I C in
+      let k : List ℕ = j ++ (i ∷ []) in
+      let kb = all-append (λ i. i < A) j (i ∷ []) (M .below) (b .0, tt) in
+      let s₁ : State = run act m j s in
+      let kr = runs-append act m j (i ∷ []) s (M .runs′) (and-i (holds s₁ (act i .pre)) true (sub→holds s₁ (act i .pre) (M .meets)) tt) in
+      let s′ : State = run act m k s in
+      let ever′ : State = everAfter act m k s ever in
+      let J = inv-run k s W kb kr I C in
+      let n = known-run act m k s ever e in
+      let I′ = inv-same act A m count s′ (run act relaxed k W) (known m s′ ever′) n (J .0) in
+      let C′ = conn-same act A m count (run act relaxed k W) (known m s′ ever′) n (J .1) in
+      let rest : List ℕ = repairFrom act A m count order goal l s′ ever′ in
+      let up : step relaxed (act i) X ⊆ known m s′ ever′ = λ v d h. n .0 v d (rw (run-append act relaxed j (i ∷ []) W) (step-mono relaxed relaxed (act i) X (run act relaxed j W) (λ v t. t) (λ v d h. run-grows act j W v d (x v d h)) v d h)) in
+      let N = repairFrom-ok goal fg l s′ ever′ (step relaxed (act i) X) (everAfter-now act m k s ever e) (b .1) up (search and-r) g I′ C′ in
+      record {
+        below = all-append (λ i. i < A) k rest kb (N .below);
+        runs′ = runs-append act m k rest s kr (N .runs′);
+        meets = λ v d h. rw (run-append act m k rest s) (N .meets v d h);
+      }
+
+  -- the length
+  product-pos : (vs : List ℕ) → 0 < product count vs
+  unfolding product
+  product-pos [] = omega arith
+  product-pos (v ∷ vs) = omega (arith, mul-le-mul-right (product count vs) (K .pos v), product-pos vs)
+
+  moves-short : (s ever : State) (w : List Fact) → length (moves act A m count order s ever w) < product count order
+  unfolding moves
+  moves-short s ever w = go (blackMet m s w)
+    where
+      W : State
+      W = known m s ever
+
+      path : ℕ → ℕ → ℕ → List ℕ
+      path v = shortest act A W v (count v)
+
+      go : (b : Bool) → length {A = ℕ} (elim b [ true ↦ [] | false ↦ fill act path (value count s) order [] w ]) < product count order
+      go true = product-pos order
+      go false = omega (arith, fill-short act path (value count s) count (λ v. shortest-short act A W v (count v) (K .sound .pres) (K .sound .effs) (λ i e. K .range i v e) (K .pos v)) order [] w)
+
+  repairFrom-long : (goal : List Fact) (l : List ℕ) (s ever : State) → length (repairFrom act A m count order goal l s ever) < (length l + 1) * product count order
+  unfolding repairFrom
+  repairFrom-long goal [] s ever = omega (arith, moves-short s ever goal)
+  repairFrom-long goal (i ∷ l) s ever =
+      let k : List ℕ = moves act A m count order s ever (act i .pre) ++ (i ∷ []) in
+      simp length-append (omega (arith, moves-short s ever (act i .pre), repairFrom-long goal l (run act m k s) (everAfter act m k s ever)))
+
+  -- from a state that a relaxed run may start in too, the first action needs no repair
+  blackMet-of : (s : State) (w : List Fact) → has w ⊆ s → T (blackMet m s w)
+  unfolding blackMet has
+  blackMet-of s [] h = tt
+  blackMet-of s (f ∷ fs) h =
+      let g = blackMet-of s fs (λ v d t. h v d (search or-r)) in
+      search (and-i, or-l, or-r, eqb-refl, h) depth 7
+
+  moves-none : (s ever : State) (w : List Fact) → has w ⊆ s → moves act A m count order s ever w ≡ []
+  unfolding moves
+  moves-none s ever w h =
+      ap (λ (b : Bool). elim b as (λ _. List ℕ) [ true ↦ [] | false ↦ fill act (λ v. shortest act A (known m s ever) v (count v)) (value count s) order [] w ])
+      (T→true (blackMet m s w) (blackMet-of s w h))
+
+  pub repairFrom-short : (goal : List Fact) (l : List ℕ) (s ever : State) → T (runs act relaxed l s) → has goal ⊆ run act relaxed l s
+      → length (repairFrom act A m count order goal l s ever) ≤ length l * product count order
+  unfolding repairFrom run runs
+  repairFrom-short goal [] s ever r g = rw (moves-none s ever goal g) (omega arith)
+  repairFrom-short goal (i ∷ l) s ever r g =
+      rw (moves-none s ever (act i .pre) (holds→sub s (act i .pre) (search and-l)))
+      (omega (arith, repairFrom-long goal l (step m (act i) s) (everAfter act m (i ∷ []) s ever)))

@@ -1,0 +1,67 @@
+use borrow.Author.Needs.{needs}
+use mathlib.Core.Path.{_≡_, refl, sym, ap, _∙_}
+use Prim.Native.Nat.{ℕ, _+_, _*_, _/_, _^_, _-_, _≤_, _<_}
+use native.Mathlib.Omega.{arith}
+use lib.ListN.{length, getD, take, drop, set, replicate}
+use Rattle.record.proofs.check_actions.Statement.{statement}
+use Rattle.record.proofs.check_actions.Tie as tie
+use Rattle.record.proofs.check_actions.Reads as reads
+use Rattle.record.proofs.check_actions.Lts as lts
+use Rattle.record.proofs.check_action.Reads as check-action-reads
+
+abbrev Inv-loop : tie.InvT-loop
+Inv-loop bytes count variables lasts at₀ i₀ at i = ?
+
+abbrev μ-loop : tie.MeasureT-loop
+μ-loop bytes count variables lasts at₀ i₀ at i = ?
+
+mul-at : tie.Need-mul-at Inv-loop μ-loop
+mul-at c = search needs
+
+add-at : tie.Need-add-at Inv-loop μ-loop
+add-at c = search needs
+
+loop-holds : tie.Need-loop-holds Inv-loop μ-loop
+loop-holds c = ?
+
+check-action-requires : tie.Need-check-action-requires Inv-loop μ-loop
+check-action-requires c κs = search needs
+
+enum-known-a : tie.Need-enum-known-a Inv-loop μ-loop
+enum-known-a c = search needs
+
+enum-told : tie.Need-enum-told Inv-loop μ-loop
+enum-told c = search needs
+
+returns : tie.Need-returns Inv-loop μ-loop
+returns c = ?
+
+add-i : tie.Need-add-i Inv-loop μ-loop
+add-i c = search needs
+
+loop-less : tie.Need-loop-less Inv-loop μ-loop
+loop-less c = search needs
+
+loop-again : tie.Need-loop-again Inv-loop μ-loop
+loop-again c = ?
+
+returns-2 : tie.Need-returns-2 Inv-loop μ-loop
+returns-2 c = ?
+
+pub check-actions-spec : {M : Type 1} → statement M
+check-actions-spec =
+    tie.close
+    (tie.spec
+    Inv-loop
+    μ-loop
+    mul-at
+    add-at
+    loop-holds
+    check-action-requires
+    enum-known-a
+    enum-told
+    returns
+    add-i
+    loop-less
+    loop-again
+    returns-2)

@@ -1,0 +1,83 @@
+use Rattle.record.proofs.Laws.{facts-start, facts-turn, facts-stop, facts-none}
+use Rattle.bits.proofs.Window.{bitsAt-lt}
+use Rattle.bits.proofs.Stages.{passed, handed-on}
+use Rattle.bits.specs.Answers.{readOf, refusalOf}
+use Rattle.planning.specs.Record.{factChecks, factsChecks}
+use Rattle.planning.specs.Basics.{refuse, inOrder, answer, done, refused, bitsAt}
+use mathlib.Core.Option.{none}
+use borrow.Author.Needs.{needs}
+use mathlib.Core.Path.{_≡_, refl, sym, ap, _∙_}
+use Prim.Native.Nat.{ℕ, _+_, _*_, _/_, _^_, _-_, _≤_, _<_}
+use native.Mathlib.Omega.{arith}
+use lib.ListN.{length, getD, take, drop, set, replicate}
+use Rattle.record.proofs.check_facts.Statement.{statement}
+use Rattle.record.proofs.check_facts.Tie as tie
+use Rattle.record.proofs.check_facts.Reads as reads
+use Rattle.record.proofs.check_facts.Lts as lts
+use Rattle.bits.proofs.refusal_of.Reads as refusal-of-reads
+use Rattle.record.proofs.check_fact.Reads as check-fact-reads
+
+abbrev Inv-loop : tie.InvT-loop
+Inv-loop bytes from count variables lasts i₀ low₀ i low = (i ≤ count) × (inOrder (factsChecks bytes from 0 count) ≡ inOrder (factsChecks bytes (from + 12 * i) low (count - i)))
+
+abbrev μ-loop : tie.MeasureT-loop
+μ-loop bytes from count variables lasts i₀ low₀ i low = count - i
+
+loop-holds : tie.Need-loop-holds Inv-loop μ-loop
+loop-holds c = (omega arith, facts-start _ _ _)
+
+mul-check-fact : tie.Need-mul-check-fact Inv-loop μ-loop
+mul-check-fact c = search needs
+
+add-check-fact : tie.Need-add-check-fact Inv-loop μ-loop
+add-check-fact c = search needs
+
+check-fact-requires : tie.Need-check-fact-requires Inv-loop μ-loop
+check-fact-requires c κs = search needs
+
+enum-known-f : tie.Need-enum-known-f Inv-loop μ-loop
+enum-known-f c = search needs
+
+enum-told : tie.Need-enum-told Inv-loop μ-loop
+enum-told c = search needs
+
+refusal-of-requires : tie.Need-refusal-of-requires Inv-loop μ-loop
+refusal-of-requires c κs = search needs
+
+returns : tie.Need-returns Inv-loop μ-loop
+returns c = sym (c .before .before .before .before .before .loop .inv .1 ∙ facts-stop _ _ _ _ _ (omega arith) _ _ (handed-on _ _ _ _ _ (c .before .enum-told .given .1) (c .refusal-of .ensures) (c .before .before .before .check-fact .ensures)))
+
+add-low : tie.Need-add-low Inv-loop μ-loop
+add-low c = record { fits = omega (arith, passed _ _ _ _ (c .before .f .given .1) (c .before .before .before .check-fact .ensures) .1, bitsAt-lt (c .before .before .before .before .before .before .before .args .bytes .now) (c .before .before .before .before .before .before .before .args .from + 12 * c .before .before .before .before .before .loop .i) 6) }
+
+add-i : tie.Need-add-i Inv-loop μ-loop
+add-i c = search needs
+
+loop-less : tie.Need-loop-less Inv-loop μ-loop
+loop-less c = search needs
+
+loop-again : tie.Need-loop-again Inv-loop μ-loop
+loop-again c = (omega arith, c .before .before .before .before .before .loop .inv .1 ∙ facts-turn _ _ _ _ _ (omega arith) _ (passed _ _ _ _ (c .before .f .given .1) (c .before .before .before .check-fact .ensures)))
+
+returns-2 : tie.Need-returns-2 Inv-loop μ-loop
+returns-2 c = sym (c .before .loop .inv .1 ∙ facts-none _ _ _ _ _ (omega arith))
+
+pub check-facts-spec : {M : Type 1} → statement M
+check-facts-spec =
+    tie.close
+    (tie.spec
+    Inv-loop
+    μ-loop
+    loop-holds
+    mul-check-fact
+    add-check-fact
+    check-fact-requires
+    enum-known-f
+    enum-told
+    refusal-of-requires
+    returns
+    add-low
+    add-i
+    loop-less
+    loop-again
+    returns-2)

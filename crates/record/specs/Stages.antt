@@ -1,0 +1,55 @@
+-- The checks of a record from a place on, as the functions of the check take them up, and what their answers say.
+use mathlib.Core.Path.{_≡_}
+use mathlib.Core.Bool.{Bool, _&&_}
+use mathlib.Core.List.{List, [], _∷_, _++_}
+use mathlib.Core.Option.{none}
+use Prim.Native.Nat.{ℕ, _+_, _*_, _<_}
+use lib.Dec.{eqb, leb, ltb}
+use lib.ListN.{getD}
+use Rattle.planning.specs.Basics.{Check, refuse, check, bitsAt}
+use Rattle.planning.specs.Record.{variablesIn, actionsIn, countIn, preconditionsIn, effectsIn, effectsFrom, fieldCheck, goalFits, variablesChecks, factsChecks, actionsChecks, endsAt, recordEnd}
+use Rattle.bits.specs.declared.Read.{Read}
+use Rattle.bits.specs.declared.Read.the-variants.{Value, Refused as Refusal′}
+use Rattle.record.specs.declared.Checked.{Checked}
+use Rattle.record.specs.declared.Checked.the-variants.{Accepted, Refused}
+
+-- the paper's number and place for each case
+abbrev pub checkedOf : Checked → Check
+checkedOf Accepted = none
+checkedOf (Refused f) = refuse (f .number) (f .place)
+
+abbrev pub refusedOf : Checked → Read
+refusedOf Accepted = Value 0
+refusedOf (Refused f) = Refusal′ f
+
+-- the greatest value of each variable, in the first entries of the list
+abbrev pub Lasts : List ℕ → List ℕ → ℕ → Type 0
+Lasts s lasts n = (v : ℕ) → v < n → getD lasts v 0 + 1 ≡ countIn s v
+
+unfoldable pub fromEnd : List ℕ → List Check
+fromEnd s = check (endsAt s (recordEnd s)) 6 (recordEnd s) ∷ []
+
+unfoldable pub fromActions : List ℕ → List Check
+fromActions s = actionsChecks s (22 + 20 * variablesIn s) (actionsIn s) ++ fromEnd s
+
+unfoldable pub fromVariables : List ℕ → List Check
+fromVariables s = variablesChecks s 22 (variablesIn s) ++ fromActions s
+
+unfoldable pub fromActionCount : List ℕ → List Check
+fromActionCount s = fieldCheck s 11 11 ∷ check (leb (actionsIn s) 1024) 3 11 ∷ fromVariables s
+
+unfoldable pub fromVariableCount : List ℕ → List Check
+fromVariableCount s = fieldCheck s 4 7 ∷ check (leb 1 (variablesIn s) && leb (variablesIn s) 64) 3 4 ∷ fromActionCount s
+
+-- the checks of a variable at bit p from its goal on, and from its initial value on, last being its greatest value
+unfoldable pub goalChecks : List ℕ → ℕ → ℕ → List Check
+goalChecks s p last =
+    fieldCheck s (p + 13) 1
+    ∷ fieldCheck s (p + 14) 6 ∷ check (goalFits (bitsAt s (p + 13) 1) (bitsAt s (p + 14) 6) (last + 1)) 4 (p + 14) ∷ []
+
+unfoldable pub initialChecks : List ℕ → ℕ → ℕ → List Check
+initialChecks s p last = fieldCheck s (p + 7) 6 ∷ check (ltb (bitsAt s (p + 7) 6) (last + 1)) 4 (p + 7) ∷ goalChecks s p last
+
+-- the checks of the facts of the action at bit p
+unfoldable pub actionFactsChecks : List ℕ → ℕ → List Check
+actionFactsChecks s p = factsChecks s (p + 24) 0 (preconditionsIn s p) ++ factsChecks s (effectsFrom s p) 0 (effectsIn s p)

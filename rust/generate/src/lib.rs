@@ -1,0 +1,8 @@
+//! Random and drawn records, for comparison and benchmark.
+
+pub mod damage;
+pub mod random;
+pub mod records;
+pub mod stores;
+
+pub use random::Random;

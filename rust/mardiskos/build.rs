@@ -1,0 +1,16 @@
+//! Links the static library found in MARDISKOS_LIB_DIR, by default `target/staticlib` beside `rust`.
+
+use std::env;
+use std::path::PathBuf;
+
+fn main() {
+    let here = PathBuf::from(env::var_os("CARGO_MANIFEST_DIR").unwrap());
+    let folder = match env::var_os("MARDISKOS_LIB_DIR") {
+        Some(folder) => PathBuf::from(folder),
+        None => here.join("../../target/staticlib"),
+    };
+    println!("cargo:rerun-if-env-changed=MARDISKOS_LIB_DIR");
+    println!("cargo:rerun-if-changed={}", folder.join("libmardiskos.a").display());
+    println!("cargo:rustc-link-search=native={}", folder.display());
+    println!("cargo:rustc-link-lib=static=mardiskos");
+}

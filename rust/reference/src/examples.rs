@@ -1,0 +1,92 @@
+//! The store examples of document 01.
+
+use crate::task::{Fact, Task, Variable};
+
+fn variable(values: u8, black: bool, initial: u8, goal: Option<u8>) -> Variable {
+    Variable { values, black, initial, goal }
+}
+
+fn facts(pairs: &[(usize, usize)]) -> Vec<Fact> {
+    pairs.iter().map(|&(variable, value)| Fact::new(variable, value)).collect()
+}
+
+fn push(task: &mut Task, cost: u16, preconditions: &[(usize, usize)], effects: &[(usize, usize)]) {
+    task.push(cost, &facts(preconditions), &facts(effects));
+}
+
+pub fn two_shelves() -> Task {
+    let mover = variable(2, true, 0, Some(0));
+    let cargo = variable(3, false, 1, Some(0));
+    let mut task = Task::new(vec![mover, cargo]);
+    push(&mut task, 4, &[(0, 0)], &[(0, 1)]);
+    push(&mut task, 4, &[(0, 1)], &[(0, 0)]);
+    push(&mut task, 1, &[(0, 1), (1, 1)], &[(1, 2)]);
+    push(&mut task, 1, &[(0, 0), (1, 2)], &[(1, 0)]);
+    task
+}
+
+/// A drive that also sets a red lamp to 1; its return needs the lamp at `lamp`.
+pub fn lamp(lamp: usize) -> Task {
+    let mover = variable(2, true, 0, None);
+    let mut task = Task::new(vec![mover, variable(3, false, 0, None)]);
+    push(&mut task, 1, &[(0, 0)], &[(0, 1), (1, 1)]);
+    push(&mut task, 1, &[(0, 1), (1, lamp)], &[(0, 0)]);
+    task
+}
+
+/// One action that sets two black variables.
+pub fn two_black_effects() -> Task {
+    let mut task = Task::new(vec![variable(2, true, 0, None); 2]);
+    push(&mut task, 1, &[], &[(0, 1), (1, 1)]);
+    task
+}
+
+pub fn goal_met() -> Task {
+    let mut task = two_shelves();
+    task.variables[1].goal = Some(1);
+    task
+}
+
+/// Red tray 0 and red boxes 1 and 2.
+pub fn tray() -> Task {
+    let cargo = variable(2, false, 0, Some(1));
+    let mut task = Task::new(vec![variable(2, false, 0, None), cargo, cargo]);
+    push(&mut task, 1, &[(0, 0), (1, 0)], &[(0, 1), (1, 1)]);
+    push(&mut task, 1, &[(0, 0), (2, 0)], &[(0, 1), (2, 1)]);
+    task
+}
+
+/// A record with the given counts of variables and actions, 64 values a variable and `facts`
+/// preconditions and effects an action, none black.
+pub fn sized(variables: usize, actions: usize, facts: usize) -> Task {
+    let mut task = Task::new(vec![variable(64, false, 0, None); variables]);
+    for number in 0..actions {
+        let list = |shift: usize| -> Vec<Fact> {
+            let first = (number * 7 + shift) % (variables - facts + 1).max(1);
+            (first..first + facts).map(|v| Fact::new(v, (number + v + shift) % 64)).collect()
+        };
+        task.push(number as u16, &list(0), &list(1));
+    }
+    task
+}
+
+/// The files of the `examples` folder: name and record.
+pub fn files() -> Vec<(&'static str, Vec<u8>)> {
+    let tasks = [
+        ("two-shelves", two_shelves()),
+        ("two-shelves-without-1", two_shelves().without(1)),
+        ("two-shelves-without-2", two_shelves().without(2)),
+        ("lamp-1", lamp(1)),
+        ("lamp-2", lamp(2)),
+        ("two-black-effects", two_black_effects()),
+        ("goal-met", goal_met()),
+        ("tray", tray()),
+        ("variables-64", sized(64, 0, 0)),
+        ("variables-65", sized(65, 0, 0)),
+        ("actions-1024", sized(2, 1024, 1)),
+        ("actions-1025", sized(2, 1025, 1)),
+    ];
+    let mut files = vec![("no-bytes", Vec::new())];
+    files.extend(tasks.iter().map(|(name, task)| (*name, crate::record::write(task))));
+    files
+}

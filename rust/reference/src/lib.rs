@@ -1,0 +1,28 @@
+//! Independent planner, written from document 01 alone and for speed.
+//!
+//! Data goes one way: bytes to a task (`record`), a task to runs (`state`, `forward`), a forward run
+//! to a relaxed plan, and that to a repaired plan (`painting`, `paths`, `repair`). `entry` holds the
+//! entry points with their checks in the paper's order and what every lent entry holds afterwards.
+//! `search` goes through all red-black states of small tasks.
+
+pub mod bits;
+pub mod entry;
+pub mod examples;
+pub mod forward;
+pub mod index;
+pub mod listing;
+pub mod painting;
+pub mod paths;
+pub mod record;
+pub mod refusal;
+pub mod repair;
+pub mod search;
+mod set;
+pub mod sheet;
+pub mod state;
+pub mod task;
+
+pub use entry::{forward, judge, plan, relax, repair};
+pub use refusal::Refusal;
+pub use sheet::{read as read_sheet, write as write_sheet};
+pub use task::{Fact, Task, Variable};

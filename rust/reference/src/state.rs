@@ -1,0 +1,98 @@
+//! States, and runs under the three semantics.
+
+use crate::task::{Action, Fact, Task};
+
+/// Which variables act as black: `keep` is 0 for those and all ones for the others.
+#[derive(Clone)]
+pub struct Semantics {
+    keep: [u64; 64],
+}
+
+impl Semantics {
+    pub fn relaxed() -> Self {
+        Semantics { keep: [!0; 64] }
+    }
+
+    pub fn real() -> Self {
+        Semantics { keep: [0; 64] }
+    }
+
+    pub fn red_black(task: &Task) -> Self {
+        let mut keep = [!0; 64];
+        for (v, variable) in task.variables.iter().enumerate() {
+            keep[v] = if variable.black { 0 } else { !0 };
+        }
+        Semantics { keep }
+    }
+}
+
+/// A set of values for each variable.
+#[derive(Clone)]
+pub struct State {
+    sets: [u64; 64],
+}
+
+impl State {
+    pub fn empty() -> Self {
+        State { sets: [0; 64] }
+    }
+
+    pub fn initial(task: &Task) -> Self {
+        let mut state = State::empty();
+        for (v, variable) in task.variables.iter().enumerate() {
+            state.sets[v] = 1 << variable.initial;
+        }
+        state
+    }
+
+    #[inline(always)]
+    pub fn holds(&self, fact: Fact) -> bool {
+        self.sets[fact.variable()] >> fact.value() & 1 == 1
+    }
+
+    #[inline(always)]
+    pub fn holds_all(&self, facts: &[Fact]) -> bool {
+        facts.iter().all(|&fact| self.holds(fact))
+    }
+
+    #[inline(always)]
+    pub fn add(&mut self, fact: Fact) {
+        self.sets[fact.variable()] |= 1 << fact.value();
+    }
+
+    #[inline(always)]
+    pub fn remove(&mut self, fact: Fact) {
+        self.sets[fact.variable()] &= !(1 << fact.value());
+    }
+
+    #[inline(always)]
+    pub fn apply(&mut self, action: Action, semantics: &Semantics) {
+        for fact in action.effects {
+            let v = fact.variable();
+            self.sets[v] = self.sets[v] & semantics.keep[v] | 1 << fact.value();
+        }
+    }
+
+    pub fn meets_goals(&self, task: &Task) -> bool {
+        task.goals().all(|goal| self.holds(goal))
+    }
+}
+
+/// The steps before the first that does not apply, and whether the list is a plan.
+#[derive(Clone, Copy, Debug, Default, PartialEq, Eq)]
+pub struct Run {
+    pub steps: u32,
+    pub plan: bool,
+}
+
+pub fn run(task: &Task, list: &[u16], semantics: &Semantics) -> Run {
+    let mut state = State::initial(task);
+    for (step, &number) in list.iter().enumerate() {
+        let action = task.action(number as usize);
+        if !state.holds_all(action.preconditions) {
+            return Run { steps: step as u32, plan: false };
+        }
+        state.apply(action, semantics);
+    }
+    Run { steps: list.len() as u32, plan: state.meets_goals(task) }
+}

@@ -1,0 +1,132 @@
+/// A variable and a value in one number: variable × 64 + value.
+#[derive(Clone, Copy, Debug, PartialEq, Eq, PartialOrd, Ord)]
+pub struct Fact(u16);
+
+/// The number of possible facts.
+pub const FACTS: usize = 4096;
+
+impl Fact {
+    pub const fn new(variable: usize, value: usize) -> Self {
+        Fact((variable << 6 | value) as u16)
+    }
+
+    pub const fn from_index(index: usize) -> Self {
+        Fact(index as u16)
+    }
+
+    #[inline(always)]
+    pub const fn index(self) -> usize {
+        self.0 as usize & (FACTS - 1)
+    }
+
+    #[inline(always)]
+    pub const fn variable(self) -> usize {
+        self.index() >> 6
+    }
+
+    #[inline(always)]
+    pub const fn value(self) -> usize {
+        self.0 as usize & 63
+    }
+}
+
+#[derive(Clone, Copy, Debug, PartialEq, Eq)]
+pub struct Variable {
+    /// Count of values, 1 to 64.
+    pub values: u8,
+    pub black: bool,
+    pub initial: u8,
+    pub goal: Option<u8>,
+}
+
+/// Where an action's facts stand: preconditions, then effects.
+#[derive(Clone, Copy, Debug, PartialEq, Eq)]
+struct Span {
+    cost: u16,
+    preconditions: u8,
+    effects: u8,
+    first: u32,
+}
+
+#[derive(Clone, Copy, Debug)]
+pub struct Action<'a> {
+    pub cost: u16,
+    pub preconditions: &'a [Fact],
+    pub effects: &'a [Fact],
+}
+
+#[derive(Clone, Debug, Default, PartialEq, Eq)]
+pub struct Task {
+    pub variables: Vec<Variable>,
+    spans: Vec<Span>,
+    facts: Vec<Fact>,
+}
+
+impl Task {
+    pub fn new(variables: Vec<Variable>) -> Self {
+        Task { variables, ..Task::default() }
+    }
+
+    pub fn push(&mut self, cost: u16, preconditions: &[Fact], effects: &[Fact]) {
+        self.open_action(cost, preconditions.len(), effects.len());
+        self.push_facts(preconditions);
+        self.push_facts(effects);
+    }
+
+    pub fn action_count(&self) -> usize {
+        self.spans.len()
+    }
+
+    #[inline(always)]
+    pub fn action(&self, number: usize) -> Action<'_> {
+        let span = self.spans[number];
+        let facts = &self.facts[span.first as usize..];
+        let (preconditions, rest) = facts.split_at(span.preconditions as usize);
+        Action { cost: span.cost, preconditions, effects: &rest[..span.effects as usize] }
+    }
+
+    pub fn actions(&self) -> impl ExactSizeIterator<Item = Action<'_>> + DoubleEndedIterator {
+        (0..self.action_count()).map(|number| self.action(number))
+    }
+
+    /// The task without one action; later ones move down by one.
+    pub fn without(&self, number: usize) -> Task {
+        let kept: Vec<usize> = (0..self.action_count()).filter(|&a| a != number).collect();
+        self.with_actions(&kept)
+    }
+
+    /// The task with the named actions, in that order.
+    pub fn with_actions(&self, numbers: &[usize]) -> Task {
+        let mut task = Task::new(self.variables.clone());
+        for &number in numbers {
+            let action = self.action(number);
+            task.push(action.cost, action.preconditions, action.effects);
+        }
+        task
+    }
+
+    pub fn goals(&self) -> impl Iterator<Item = Fact> + '_ {
+        let numbered = self.variables.iter().enumerate();
+        numbered.filter_map(|(v, variable)| Some(Fact::new(v, variable.goal? as usize)))
+    }
+
+    pub(crate) fn reserve_actions(&mut self, actions: usize) {
+        self.spans.reserve(actions);
+    }
+
+    #[inline(always)]
+    pub(crate) fn open_action(&mut self, cost: u16, preconditions: usize, effects: usize) {
+        self.spans.push(Span {
+            cost,
+            preconditions: preconditions as u8,
+            effects: effects as u8,
+            first: self.facts.len() as u32,
+        });
+        self.facts.reserve(preconditions + effects);
+    }
+
+    #[inline(always)]
+    pub(crate) fn push_facts(&mut self, facts: &[Fact]) {
+        self.facts.extend_from_slice(facts);
+    }
+}
