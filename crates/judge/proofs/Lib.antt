@@ -1,0 +1,3 @@
+pub mod Modes
+pub mod Lists
+pub mod Going
