@@ -11,11 +11,11 @@ use native.Mathlib.Omega.{arith}
 use Rattle.planning.specs.Record.{Fact}
 use Rattle.planning.specs.Runs.{State, has, touches, look, holds}
 use Rattle.planning.proofs.Tests.{or-l, or-r, or-cases, and-l, and-r, and-i, T-cases}
+
 abbrev pub _⊆_ : State → State → Type 0
 s ⊆ t = (v d : ℕ) → T (s v d) → T (t v d)
 
 infix 4 _⊆_
-
 -- the list's test is inclusion
 pub holds→sub : (s : State) (fs : List Fact) → T (holds s fs) → has fs ⊆ s
 unfolding holds has
