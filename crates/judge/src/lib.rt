@@ -1,6 +1,7 @@
 // Judging: for each of the three semantics, the steps of a list that run and whether it is a plan.
 use bits::Read;
 use bits::Refusal;
+use record::Checked;
 use state::Goals;
 use state::State;
 ghost use mathlib.Core.Path.{_≡_};
@@ -10,11 +11,11 @@ ghost use Prim.Native.Nat.{_<_, _≤_};
 ghost use lib.ListN.{length};
 ghost use Rattle.planning.specs.Basics.{answer, inOrder, refuseAt};
 ghost use Rattle.planning.specs.Record.{taskOf, recordCheck};
-ghost use Rattle.planning.specs.Runs.{actions, judged, judgement};
+ghost use Rattle.planning.specs.Runs.{judged, judgement};
 ghost use Rattle.planning.specs.Calls.{notBelow, lengthCheck, entriesCheck, judgeCall};
 ghost use Rattle.bits.specs.Answers.{readOf};
 ghost use Rattle.state.specs.Sets.{singles, modeOf};
-ghost use Rattle.judge.specs.Answers.{judgedOf, judgementOf, Ready};
+ghost use Rattle.judge.specs.Answers.{judgedOf, judgementOf, answerOf, refusalOf, Ready};
 
 // Under one semantics: the steps run before the first that does not apply, and whether the list is a plan.
 pub struct Verdict {
@@ -70,14 +71,6 @@ pub fn judge_all(bytes: &[u8], table: &[u16], list: &[u16]) -> Verdicts
     }
 }
 
-// The count of actions of an accepted record.
-pub fn actions(bytes: &[u8]) -> usize
-    requires { ⌜ recordCheck (now bytes) ≡ none ⌝ }
-    ensures { λ r. ⌜ r ≡ actions (taskOf (now (bytes .entry))) ⌝ }
-{
-    bits::read_bits(bytes, 11, 11) as usize
-}
-
 // Each entry is below n: the list's length, or refusal 9 at the lowest entry that is not.
 fn check_entries(list: &[u16], n: usize) -> Read
     requires { ⌜ length (now list) ≤ 32768 ⌝ }
@@ -107,5 +100,63 @@ pub fn check_list(bytes: &[u8], list: &[u16]) -> Read
             place: 32768,
         });
     }
-    check_entries(list, actions(bytes))
+    check_entries(list, table::actions(bytes))
+}
+
+// What judging answers: the verdicts, or the refusal of a check.
+pub enum Judging {
+    Judged(Verdicts),
+    Refused(Refusal),
+}
+
+// The refusal of an answer that has one.
+pub fn refusal_of(j: Judging) -> Refusal
+    ensures { λ r. ⌜ r ≡ refusalOf j ⌝ }
+{
+    let Judging::Refused(f) = j else {
+        return Refusal {
+            number: 0,
+            place: 0,
+        };
+    };
+    f
+}
+
+// An accepted record and a list of its actions. A byte of the record makes at most 4 / 3 numbers of the table, so that a small
+// record does with a small one.
+fn judge_loaded(bytes: &[u8], list: &[u16]) -> Verdicts
+    requires { ⌜ (recordCheck (now bytes) ≡ none) × (length (now list) ≤ 32768) × (entriesCheck (taskOf (now bytes)) (now list) ≡ none) ⌝ }
+    ensures { λ r. ⌜ judgementOf r ≡ judgement (taskOf (now (bytes .entry))) (now (list .entry)) ⌝ }
+{
+    if bytes.len() <= 3072 {
+        let mut numbers = [0u16; 4096];
+        table::load(bytes, &mut numbers);
+        return judge_all(bytes, &numbers, list);
+    }
+    let mut numbers = [0u16; 34816];
+    table::load(bytes, &mut numbers);
+    judge_all(bytes, &numbers, list)
+}
+
+// Checks 13 and 9, then the verdicts.
+fn judge_accepted(bytes: &[u8], list: &[u16]) -> Judging
+    requires { ⌜ recordCheck (now bytes) ≡ none ⌝ }
+    ensures { λ r. ⌜ answerOf r ≡ judgeCall (now (bytes .entry)) (now (list .entry)) ⌝ }
+{
+    let l = check_list(bytes, list);
+    let Read::Refused(f) = l else {
+        return Judging::Judged(judge_loaded(bytes, list));
+    };
+    Judging::Refused(f)
+}
+
+// A list of actions judged: checks 1 to 6, 13, 9.
+pub fn judge(bytes: &[u8], list: &[u16]) -> Judging
+    ensures { λ r. ⌜ answerOf r ≡ judgeCall (now (bytes .entry)) (now (list .entry)) ⌝ }
+{
+    let c = record::check(bytes);
+    let Checked::Refused(f) = c else {
+        return judge_accepted(bytes, list);
+    };
+    Judging::Refused(f)
 }

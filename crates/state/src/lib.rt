@@ -1,11 +1,12 @@
 // States: for each of 64 variables the set of its values, one bit a value. The step takes a state and hands the next one back
 // whole; which variables act as black is a set of variables, so that the three semantics are one step.
+use table::Goal;
 ghost use mathlib.Core.Path.{_≡_};
 ghost use mathlib.Core.Option.{none};
 ghost use Prim.Native.Nat.{ℕ, _+_, _*_, _^_, _<_, _≤_};
 ghost use lib.ListN.{length, getD};
 ghost use Rattle.planning.specs.Record.{taskOf, recordCheck};
-ghost use Rattle.planning.specs.Runs.{holds, step, initial, goals, black, size, variables};
+ghost use Rattle.planning.specs.Runs.{holds, step, initial, goals, black, size};
 ghost use Rattle.table.specs.Table.{factsIn};
 ghost use Rattle.state.specs.Sets.{singles, inSet, mixed, setsOf, modeOf, actionOf, Listed, GoalsOf};
 
@@ -134,25 +135,17 @@ fn changed(old: u64, x: usize, black: bool) -> u64
     if black { new } else { old | new }
 }
 
-// The count of variables of an accepted record.
-pub fn variables(bytes: &[u8]) -> usize
-    requires { ⌜ recordCheck (now bytes) ≡ none ⌝ }
-    ensures { λ r. ⌜ (r ≡ variables (taskOf (now (bytes .entry)))) × (r ≤ 64) ⌝ }
-{
-    bits::read_bits(bytes, 4, 7) as usize
-}
-
 // The black variables, as a set of variables.
 pub fn painted(bytes: &[u8]) -> u64
     requires { ⌜ recordCheck (now bytes) ≡ none ⌝ }
     ensures { λ r. ⌜ modeOf r ≡ black (taskOf (now (bytes .entry))) ⌝ }
 {
-    let n = variables(bytes);
+    let n = table::variables(bytes);
     let mut set: u64 = 0;
-    let mut v: usize = 0;
-    while v < n {
-        set = set | bits::read_bits(bytes, 28 + 20 * v, 1) << v;
-        v += 1;
+    for v in 0..n {
+        if table::is_black(bytes, v) {
+            set = set | 1 << v;
+        }
     }
     set
 }
@@ -164,26 +157,25 @@ pub struct Goals {
 }
 
 impl Goals {
-    // A variable's goal is written in any case, and counted if the record has it.
     pub fn load(bytes: &[u8]) -> Goals
         requires { ⌜ recordCheck (now bytes) ≡ none ⌝ }
         ensures { λ r. ⌜ GoalsOf (taskOf (now (bytes .entry))) r ⌝ }
     {
-        let n = variables(bytes);
-        let mut g = Goals {
+        let n = table::variables(bytes);
+        let mut goals = Goals {
             facts: [0; 64],
             count: 0,
         };
-        let mut v: usize = 0;
-        while v < n {
-            let present = bits::read_bits(bytes, 35 + 20 * v, 1) as usize;
-            let goal = bits::read_bits(bytes, 36 + 20 * v, 6) as usize;
-            let k = g.count;
-            g.facts[k] = (64 * v + goal) as u16;
-            g.count = k + present;
-            v += 1;
+        for v in 0..n {
+            let g = table::goal_of(bytes, v);
+            let Goal::Value(x) = g else {
+                continue;
+            };
+            let k = goals.count;
+            goals.facts[k] = (64 * v + x as usize) as u16;
+            goals.count = k + 1;
         }
-        g
+        goals
     }
 }
 
@@ -197,12 +189,10 @@ impl State {
         requires { ⌜ recordCheck (now bytes) ≡ none ⌝ }
         ensures { λ r. ⌜ setsOf (r .sets) ≡ initial (taskOf (now (bytes .entry))) ⌝ }
     {
-        let n = variables(bytes);
+        let n = table::variables(bytes);
         let mut s = State { sets: [0; 64] };
-        let mut v: usize = 0;
-        while v < n {
-            s.sets[v] = 1 << bits::read_bits(bytes, 29 + 20 * v, 6);
-            v += 1;
+        for v in 0..n {
+            s.sets[v] = 1 << table::initial(bytes, v);
         }
         s
     }

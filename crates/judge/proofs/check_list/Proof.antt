@@ -7,7 +7,7 @@ use Rattle.judge.proofs.check_list.Statement.{statement}
 use Rattle.judge.proofs.check_list.Tie as tie
 use Rattle.judge.proofs.check_list.Reads as reads
 use Rattle.judge.proofs.check_list.Lts as lts
-use Rattle.judge.proofs.actions.Reads as actions-reads
+use Rattle.table.proofs.actions.Reads as actions-reads
 use Rattle.judge.proofs.check_entries.Reads as check-entries-reads
 
 returns : tie.Need-returns

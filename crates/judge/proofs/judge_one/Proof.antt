@@ -9,7 +9,7 @@ use Rattle.planning.specs.Runs.{act, holds, step}
 use Rattle.state.specs.Sets.{actionOf, Listed}
 use Rattle.planning.specs.Record.{taskOf}
 use Rattle.state.specs.Sets.{setsOf, modeOf}
-use Rattle.state.proofs.Rows.{listed, listed-act}
+use Rattle.state.proofs.Tabled.{tabled-listed, tabled-action}
 use Rattle.planning.proofs.Formed.{formed-of}
 use Rattle.judge.proofs.Lists.{entries-below}
 use Rattle.judge.proofs.Going.{Going, going-start, going-turn, going-stop, going-end}
@@ -43,13 +43,13 @@ module _ (c : tie.In-loop Inv-loop μ-loop) where
   here =
       let a = c .before .before .before .before .before .before .args in
       let R = c .before .before .before .before .before .before .pre .0 in
-      listed (taskOf (a .bytes .now)) (a .table .now) (formed-of (a .bytes .now) (R .accepted)) (R .tabled) entry (entries-below (taskOf (a .bytes .now)) (a .list .now) (R .entries) (c .before .loop .k) (omega arith))
+      tabled-listed (taskOf (a .bytes .now)) (a .table .now) (formed-of (a .bytes .now) (R .accepted)) (R .tabled) entry (entries-below (taskOf (a .bytes .now)) (a .list .now) (R .entries) (c .before .loop .k) (omega arith))
 
   here-act : actionOf (c .before .before .before .before .before .before .args .table .now) entry ≡ act (taskOf (c .before .before .before .before .before .before .args .bytes .now)) entry
   here-act =
       let a = c .before .before .before .before .before .before .args in
       let R = c .before .before .before .before .before .before .pre .0 in
-      listed-act (taskOf (a .bytes .now)) (a .table .now) (formed-of (a .bytes .now) (R .accepted)) (R .tabled) entry (entries-below (taskOf (a .bytes .now)) (a .list .now) (R .entries) (c .before .loop .k) (omega arith))
+      tabled-action (taskOf (a .bytes .now)) (a .table .now) entry (R .tabled entry (entries-below (taskOf (a .bytes .now)) (a .list .now) (R .entries) (c .before .loop .k) (omega arith)))
 
 mul-i : tie.Need-mul-i Inv-loop μ-loop
 mul-i c = search needs

@@ -3,17 +3,18 @@ use mathlib.Core.Path.{_≡_, refl, sym, ap, _∙_}
 use Prim.Native.Nat.{ℕ, _+_, _*_, _/_, _^_, _-_, _≤_, _<_}
 use native.Mathlib.Omega.{arith}
 use lib.ListN.{length, getD, take, drop, set, replicate}
-use Rattle.planning.proofs.Fields.{bitsAt-below}
-use Rattle.state.proofs.Loading.{Starting, over-room, starting-start, starting-turn, starting-end}
+use Rattle.planning.specs.Record.{taskOf}
+use Rattle.planning.proofs.Formed.{formed-of}
+use Rattle.state.proofs.Loading.{Starting, init-small, starting-start, starting-turn, starting-end}
 use Rattle.state.proofs.State.initial.Statement.{statement}
 use Rattle.state.proofs.State.initial.Tie as tie
 use Rattle.state.proofs.State.initial.Reads as reads
 use Rattle.state.proofs.State.initial.Lts as lts
-use Rattle.bits.proofs.read_bits.Reads as read-bits-reads
-use Rattle.state.proofs.variables.Reads as variables-reads
+use Rattle.table.proofs.initial.Reads as initial-reads
+use Rattle.table.proofs.variables.Reads as variables-reads
 
 abbrev Inv-loop : tie.InvT-loop
-Inv-loop bytes n s₀ v₀ s v = Starting bytes n (s .sets) v
+Inv-loop bytes n s₀ v₀ s v = Starting (taskOf bytes) n (s .sets) v
 
 abbrev μ-loop : tie.MeasureT-loop
 μ-loop bytes n s₀ v₀ s v = n - v
@@ -22,25 +23,19 @@ variables-requires : tie.Need-variables-requires Inv-loop μ-loop
 variables-requires c κs = search needs
 
 loop-holds : tie.Need-loop-holds Inv-loop μ-loop
-loop-holds c = starting-start _ _ (c .variables .ensures .0) (c .variables .ensures .1)
+loop-holds c = starting-start _ _ (formed-of _ (c .before .before .pre)) (c .variables .ensures)
 
-mul-read-bits : tie.Need-mul-read-bits Inv-loop μ-loop
-mul-read-bits c = search needs
-
-add-read-bits : tie.Need-add-read-bits Inv-loop μ-loop
-add-read-bits c = search needs
-
-read-bits-requires : tie.Need-read-bits-requires Inv-loop μ-loop
-read-bits-requires c κs = (omega (arith, over-room _ _ _ (c .before .before .before .before .pre) (c .before .loop .inv .over) (omega arith)), omega arith, omega (arith, c .before .loop .inv .over .most))
+initial-requires : tie.Need-initial-requires Inv-loop μ-loop
+initial-requires c κs = (c .before .before .before .before .pre, omega (arith, c .before .loop .inv .over .all))
 
 shl-s : tie.Need-shl-s Inv-loop μ-loop
-shl-s c = rw (c .read-bits .ensures) (bitsAt-below _ _ 6)
+shl-s c = init-small _ _ _ (c .before .before .loop .inv .over .formed) (c .initial .ensures)
 
 mul-s : tie.Need-mul-s Inv-loop μ-loop
 mul-s c = search needs
 
 element-write-s : tie.Need-element-write-s Inv-loop μ-loop
-element-write-s c = search needs
+element-write-s c = omega (arith, c .before .before .loop .inv .over .most)
 
 add-v : tie.Need-add-v Inv-loop μ-loop
 add-v c = search needs
@@ -49,7 +44,7 @@ loop-less : tie.Need-loop-less Inv-loop μ-loop
 loop-less c = search needs
 
 loop-again : tie.Need-loop-again Inv-loop μ-loop
-loop-again c = starting-turn _ _ _ _ (c .before .before .loop .inv) (omega arith) _ (c .read-bits .ensures)
+loop-again c = starting-turn _ _ _ _ (c .before .before .loop .inv) (omega arith) _ (c .initial .ensures)
 
 returns : tie.Need-returns Inv-loop μ-loop
 returns c = starting-end _ _ _ _ (c .before .loop .inv) (omega arith)
@@ -62,9 +57,7 @@ initial-spec =
     μ-loop
     variables-requires
     loop-holds
-    mul-read-bits
-    add-read-bits
-    read-bits-requires
+    initial-requires
     shl-s
     mul-s
     element-write-s
