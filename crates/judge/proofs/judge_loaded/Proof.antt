@@ -1,4 +1,6 @@
 use borrow.Author.Needs.{needs}
+use native.Mathlib.Omega.{arith}
+use Rattle.table.proofs.Size.{tableSize-bytes, tableSize-max}
 use Rattle.judge.proofs.judge_loaded.Statement.{statement}
 use Rattle.judge.proofs.judge_loaded.Tie as tie
 use Rattle.judge.proofs.judge_loaded.Reads as reads
@@ -10,7 +12,7 @@ slice-aggregate-load : tie.Need-slice-aggregate-load
 slice-aggregate-load c = search needs
 
 load-requires : tie.Need-load-requires
-load-requires c κs = ?
+load-requires c κs = (c .before .before .before .before .pre .0, omega (arith, tableSize-bytes _ (c .before .before .before .before .pre .0)))
 
 slice-aggregate-judge-all : tie.Need-slice-aggregate-judge-all
 slice-aggregate-judge-all c = search needs
@@ -25,7 +27,7 @@ slice-aggregate-load-2 : tie.Need-slice-aggregate-load-2
 slice-aggregate-load-2 c = search needs
 
 load-requires-2 : tie.Need-load-requires-2
-load-requires-2 c κs = ?
+load-requires-2 c κs = (c .before .before .before .before .pre .0, tableSize-max _ (c .before .before .before .before .pre .0))
 
 slice-aggregate-judge-all-2 : tie.Need-slice-aggregate-judge-all-2
 slice-aggregate-judge-all-2 c = search needs

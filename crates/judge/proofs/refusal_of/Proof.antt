@@ -1,4 +1,6 @@
 use borrow.Author.Needs.{needs}
+use mathlib.Core.Path.{sym, ap}
+use Rattle.judge.specs.Answers.{refusalOf}
 use Rattle.judge.proofs.refusal_of.Statement.{statement}
 use Rattle.judge.proofs.refusal_of.Tie as tie
 use Rattle.judge.proofs.refusal_of.Reads as reads
@@ -11,7 +13,7 @@ enum-told : tie.Need-enum-told
 enum-told c = search needs
 
 returns : tie.Need-returns
-returns c = ?
+returns c = sym (ap refusalOf (c .enum-told .given .1))
 
 returns-2 : tie.Need-returns-2
 returns-2 c = search needs
