@@ -29,7 +29,7 @@ pub struct Verdicts {
     pub real: Verdict,
 }
 
-// Variable v acts as black where bit v of `mode` is 1.
+// Variable v acts as black where bit v of `mode` is 1. The next state is a value of its own: the test looks at the one before it.
 pub fn judge_one(masks: &[u64; 64], bytes: &[u8], table: &[u16], list: &[u16], mode: u64) -> Verdict
     requires { ⌜ Ready (now bytes) (now table) (now list) × (now masks ≡ singles) ⌝ }
     ensures { λ r. ⌜ judgedOf r ≡ judged (taskOf (now (bytes .entry))) (modeOf mode) (now (list .entry)) ⌝ }
@@ -38,13 +38,14 @@ pub fn judge_one(masks: &[u64; 64], bytes: &[u8], table: &[u16], list: &[u16], m
     let mut k: usize = 0;
     while k < list.len() {
         let i = list[k] as usize;
+        let next = s.step(table, i, mode);
         if !state::applies(masks, &s.sets, table, i) {
             return Verdict {
                 steps: k as u32,
                 plan: false,
             };
         }
-        s = s.step(table, i, mode);
+        s = next;
         k += 1;
     }
     let g = Goals::load(bytes);

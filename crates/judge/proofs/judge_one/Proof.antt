@@ -60,17 +60,17 @@ shared-slice-read-i c = search needs
 cast-i : tie.Need-cast-i Inv-loop μ-loop
 cast-i c = omega (arith, c .shared-slice-known4 .given (c .before .before .loop .k))
 
-applies-requires : tie.Need-applies-requires Inv-loop μ-loop
-applies-requires c κs = (here (c .before .before .before), c .before .before .before .before .before .before .before .before .before .pre .1)
+step-requires : tie.Need-step-requires Inv-loop μ-loop
+step-requires c κs = here (c .before)
 
-cast-t18 : tie.Need-cast-t18 Inv-loop μ-loop
-cast-t18 c = search needs
+applies-requires : tie.Need-applies-requires Inv-loop μ-loop
+applies-requires c κs = (here (c .before .before .before .before), c .before .before .before .before .before .before .before .before .before .before .pre .1)
+
+cast-t20 : tie.Need-cast-t20 Inv-loop μ-loop
+cast-t20 c = search needs
 
 returns : tie.Need-returns Inv-loop μ-loop
-returns c = going-stop _ _ _ _ _ (c .before .before .before .before .before .before .loop .inv) _ _ (omega arith) refl (here-act (c .before .before .before .before .before)) (sym (c .before .applies .ensures) ∙ not-true _ (c .if1 .taken))
-
-step-requires : tie.Need-step-requires Inv-loop μ-loop
-step-requires c κs = here (c .before .before .before .before .before)
+returns c = going-stop _ _ _ _ _ (c .before .before .before .before .before .before .before .loop .inv) _ _ (omega arith) refl (here-act (c .before .before .before .before .before .before)) (sym (c .before .applies .ensures) ∙ not-true _ (c .if1 .taken))
 
 add-k : tie.Need-add-k Inv-loop μ-loop
 add-k c = search needs
@@ -79,7 +79,7 @@ loop-less : tie.Need-loop-less Inv-loop μ-loop
 loop-less c = search needs
 
 loop-again : tie.Need-loop-again Inv-loop μ-loop
-loop-again c = going-turn _ _ _ _ _ (c .before .before .before .before .before .before .before .loop .inv) _ _ _ (omega arith) refl (here-act (c .before .before .before .before .before .before)) (sym (c .before .before .applies .ensures) ∙ not-false _ (c .before .if1 .left)) (c .step .ensures)
+loop-again c = going-turn _ _ _ _ _ (c .before .before .before .before .before .before .before .loop .inv) _ _ _ (omega arith) refl (here-act (c .before .before .before .before .before .before)) (sym (c .before .applies .ensures) ∙ not-false _ (c .if1 .left)) (c .before .before .before .before .step .ensures)
 
 load-requires : tie.Need-load-requires Inv-loop μ-loop
 load-requires c κs = search needs
@@ -106,10 +106,10 @@ judge-one-spec =
     mul-i
     shared-slice-read-i
     cast-i
-    applies-requires
-    cast-t18
-    returns
     step-requires
+    applies-requires
+    cast-t20
+    returns
     add-k
     loop-less
     loop-again
