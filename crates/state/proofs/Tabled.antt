@@ -8,8 +8,8 @@ use native.Mathlib.Omega.{arith}
 use native.Mathlib.Decide.{decLt}
 use lib.ListN.{length, getD}
 use Rattle.planning.specs.Record.{Fact, Task}
-use Rattle.planning.specs.Runs.{variables, actions, act, count}
-use Rattle.planning.proofs.Formed.{Sorted, Formed}
+use Rattle.planning.specs.Runs.{variables, actions, act, count, goals}
+use Rattle.planning.proofs.Formed.{Sorted, Formed, goals-sorted}
 use Rattle.table.specs.Table.{factOf, factsIn, preAt, effAt, endAt, Row, Tabled}
 use Rattle.state.specs.Sets.{actionOf, Rising, Listed}
 use Rattle.state.proofs.Effects.{factsIn-cons}
@@ -34,7 +34,7 @@ module _ (n : ℕ) (count : ℕ → ℕ) (h : n ≤ 64) (table : List ℕ) (b : 
       let C : Sorted n count low (factOf (getD table a 0) ∷ factsIn table (a + 1) b) = rw (factsIn-cons table a b (omega arith) e) at S in
       subst (λ x. getD table x 0 < 4096) (omega arith) (sorted-small m (a + 1) (getD table a 0 / 64 + 1) (omega arith) (C .3))
 
-  between-small : (a k : ℕ) → a ≤ k → k < b → Sorted n count 0 (factsIn table a b) → getD table k 0 < 4096
+  pub between-small : (a k : ℕ) → a ≤ k → k < b → Sorted n count 0 (factsIn table a b) → getD table k 0 < 4096
   between-small a k l m S = subst (λ x. getD table x 0 < 4096) (omega arith) (sorted-small (k - a) a 0 (omega arith) S)
 
 pub tabled-listed : (t : Task) (table : List ℕ) → Formed t → Tabled t table → (i : ℕ) → i < actions t → Listed table i
@@ -55,3 +55,7 @@ tabled-listed t table F T i b =
         → Sorted (variables t) (count t) 0 (factsIn table (effAt table i) (endAt table i)) → Row t table i → Dec (k < effAt table i) → getD table k 0 < 4096
     go k l m pre eff R (yes h) = between-small (variables t) (count t) (F .variables-max) table (effAt table i) (omega (arith, R .eff-below, R .end-below)) (preAt table i) k l h pre
     go k l m pre eff R (no h) = between-small (variables t) (count t) (F .variables-max) table (endAt table i) (R .end-below) (effAt table i) k (omega arith) m eff
+
+-- a list that states the goals
+pub goals-small : (t : Task) (l : List ℕ) (n : ℕ) → Formed t → n ≤ length l → factsIn l 0 n ≡ goals t → (k : ℕ) → k < n → getD l k 0 < 4096
+goals-small t l n F h e k b = between-small (variables t) (count t) (F .variables-max) l n h 0 k (omega arith) b (rw e (goals-sorted t F))

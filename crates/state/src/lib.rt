@@ -1,5 +1,6 @@
 // States: for each of 64 variables the set of its values, one bit a value. The step takes a state and hands the next one back
 // whole; which variables act as black is a set of variables, so that the three semantics are one step.
+use table::Goal;
 ghost use mathlib.Core.Path.{_≡_};
 ghost use mathlib.Core.Option.{none};
 ghost use Prim.Native.Nat.{ℕ, _+_, _*_, _^_, _<_, _≤_};
@@ -7,11 +8,11 @@ ghost use lib.ListN.{length, getD};
 ghost use Rattle.planning.specs.Record.{taskOf, recordCheck};
 ghost use Rattle.planning.specs.Runs.{holds, step, initial, goals, black, size};
 ghost use Rattle.table.specs.Table.{factsIn};
-ghost use Rattle.state.specs.Sets.{singles, inSet, mixed, setsOf, modeOf, actionOf, Listed};
+ghost use Rattle.state.specs.Sets.{singles, inSet, mixed, setsOf, modeOf, actionOf, Listed, GoalsOf};
 
-// The 64 single-value sets. They serve membership, in `holds` alone. Whoever loops lends them: an index into the constant
-// itself would copy the table each time.
-pub const MASKS: [u64; 64] = [
+// The 64 single-value sets. They serve membership, in `holds` alone. An index into the constant itself would copy the table
+// each time, so that it is lent.
+const MASKS: [u64; 64] = [
     1,
     2,
     4,
@@ -78,6 +79,13 @@ pub const MASKS: [u64; 64] = [
     9223372036854775808,
 ];
 
+// The table, for whoever loops to lend. Its rule is checked here.
+pub fn single_sets() -> [u64; 64]
+    ensures { λ r. ⌜ r ≡ singles ⌝ }
+{
+    MASKS
+}
+
 fn wide(x: u16) -> usize
     ensures { λ r. ⌜ r ≡ x ⌝ }
 {
@@ -127,11 +135,68 @@ fn changed(old: u64, x: usize, black: bool) -> u64
     if black { new } else { old | new }
 }
 
+// The black variables, as a set of variables.
+pub fn painted(bytes: &[u8]) -> u64
+    requires { ⌜ recordCheck (now bytes) ≡ none ⌝ }
+    ensures { λ r. ⌜ modeOf r ≡ black (taskOf (now (bytes .entry))) ⌝ }
+{
+    let n = table::variables(bytes);
+    let mut set: u64 = 0;
+    for v in 0..n {
+        if table::is_black(bytes, v) {
+            set = set | 1 << v;
+        }
+    }
+    set
+}
+
+// The goals, as facts 64 × variable + value in the front of a list.
+pub struct Goals {
+    pub facts: [u16; 64],
+    pub count: usize,
+}
+
+impl Goals {
+    pub fn load(bytes: &[u8]) -> Goals
+        requires { ⌜ recordCheck (now bytes) ≡ none ⌝ }
+        ensures { λ r. ⌜ GoalsOf (taskOf (now (bytes .entry))) r ⌝ }
+    {
+        let n = table::variables(bytes);
+        let mut goals = Goals {
+            facts: [0; 64],
+            count: 0,
+        };
+        for v in 0..n {
+            let g = table::goal_of(bytes, v);
+            let Goal::Value(x) = g else {
+                continue;
+            };
+            let k = goals.count;
+            goals.facts[k] = (64 * v + x as usize) as u16;
+            goals.count = k + 1;
+        }
+        goals
+    }
+}
+
 pub struct State {
     pub sets: [u64; 64],
 }
 
 impl State {
+    // Each set holds the initial value alone.
+    pub fn initial(bytes: &[u8]) -> State
+        requires { ⌜ recordCheck (now bytes) ≡ none ⌝ }
+        ensures { λ r. ⌜ setsOf (r .sets) ≡ initial (taskOf (now (bytes .entry))) ⌝ }
+    {
+        let n = table::variables(bytes);
+        let mut s = State { sets: [0; 64] };
+        for v in 0..n {
+            s.sets[v] = 1 << table::initial(bytes, v);
+        }
+        s
+    }
+
     // The state after action i, whole. Variable v acts as black where bit v of `mode` is 1.
     pub fn step(mut self, table: &[u16], i: usize, mode: u64) -> State
         requires { ⌜ Listed (now table) i ⌝ }
@@ -146,5 +211,18 @@ impl State {
             k += 1;
         }
         self
+    }
+
+    // The facts reached: the summed counts of ones.
+    pub fn reached(self) -> u64
+        ensures { λ r. ⌜ r ≡ size 64 (λ _. 64) (setsOf (self .sets)) ⌝ }
+    {
+        let mut sum: u64 = 0;
+        let mut v: usize = 0;
+        while v < 64 {
+            sum += u64::count_ones(self.sets[v]) as u64;
+            v += 1;
+        }
+        sum
     }
 }

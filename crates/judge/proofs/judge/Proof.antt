@@ -1,0 +1,31 @@
+use borrow.Author.Needs.{needs}
+use Rattle.judge.proofs.Entry.{accepted, handed-on, judge-refused}
+use Rattle.judge.proofs.judge.Statement.{statement}
+use Rattle.judge.proofs.judge.Tie as tie
+use Rattle.judge.proofs.judge.Reads as reads
+use Rattle.judge.proofs.judge.Lts as lts
+use Rattle.judge.proofs.judge_accepted.Reads as judge-accepted-reads
+use Rattle.record.proofs.check.Reads as check-reads
+
+check-requires : tie.Need-check-requires
+check-requires c κs = search needs
+
+enum-known-c : tie.Need-enum-known-c
+enum-known-c c = search needs
+
+enum-told : tie.Need-enum-told
+enum-told c = search needs
+
+judge-accepted-requires : tie.Need-judge-accepted-requires
+judge-accepted-requires c κs = accepted _ (c .before .before .before .before .before .args .bytes .now) (c .enum-told .given .1) (c .before .before .check .ensures)
+
+returns : tie.Need-returns
+returns c = search needs
+
+returns-2 : tie.Need-returns-2
+returns-2 c = let a = c .before .before .before .before .before .before .args in judge-refused (a .bytes .now) (a .list .now) _ _ (handed-on _ _ (a .bytes .now) (c .before .c .given .1) (c .before .before .before .check .ensures))
+
+pub judge-spec : {M : Type 1} → statement M
+judge-spec =
+    tie.close
+    (tie.spec check-requires enum-known-c enum-told judge-accepted-requires returns returns-2)

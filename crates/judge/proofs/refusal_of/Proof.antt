@@ -1,0 +1,22 @@
+use borrow.Author.Needs.{needs}
+use mathlib.Core.Path.{sym, ap}
+use Rattle.judge.specs.Answers.{refusalOf}
+use Rattle.judge.proofs.refusal_of.Statement.{statement}
+use Rattle.judge.proofs.refusal_of.Tie as tie
+use Rattle.judge.proofs.refusal_of.Reads as reads
+use Rattle.judge.proofs.refusal_of.Lts as lts
+
+enum-known-j : tie.Need-enum-known-j
+enum-known-j c = search needs
+
+enum-told : tie.Need-enum-told
+enum-told c = search needs
+
+returns : tie.Need-returns
+returns c = sym (ap refusalOf (c .enum-told .given .1))
+
+returns-2 : tie.Need-returns-2
+returns-2 c = search needs
+
+pub refusal-of-spec : {M : Type 1} → statement M
+refusal-of-spec = tie.close (tie.spec enum-known-j enum-told returns returns-2)

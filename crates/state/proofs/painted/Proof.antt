@@ -1,0 +1,66 @@
+use borrow.Author.Needs.{needs}
+use mathlib.Core.Path.{_≡_, refl, sym, ap, _∙_}
+use Prim.Native.Nat.{ℕ, _+_, _*_, _/_, _^_, _-_, _≤_, _<_}
+use native.Mathlib.Omega.{arith}
+use lib.ListN.{length, getD, take, drop, set, replicate}
+use Rattle.planning.specs.Record.{taskOf}
+use Rattle.planning.proofs.Formed.{formed-of}
+use mathlib.Core.Logic.{⊎-elim}
+use Rattle.state.proofs.Loading.{Painting, painting-start, painting-black, painting-red, painting-end}
+use Rattle.state.proofs.painted.Statement.{statement}
+use Rattle.state.proofs.painted.Tie as tie
+use Rattle.state.proofs.painted.Reads as reads
+use Rattle.state.proofs.painted.Lts as lts
+use Rattle.table.proofs.is_black.Reads as is-black-reads
+use Rattle.table.proofs.variables.Reads as variables-reads
+
+abbrev Inv-loop : tie.InvT-loop
+Inv-loop bytes n set₀ v₀ set v = Painting (taskOf bytes) n set v
+
+abbrev μ-loop : tie.MeasureT-loop
+μ-loop bytes n set₀ v₀ set v = n - v
+
+variables-requires : tie.Need-variables-requires Inv-loop μ-loop
+variables-requires c κs = search needs
+
+loop-holds : tie.Need-loop-holds Inv-loop μ-loop
+loop-holds c = painting-start _ _ (formed-of _ (c .before .before .pre)) (c .variables .ensures)
+
+is-black-requires : tie.Need-is-black-requires Inv-loop μ-loop
+is-black-requires c κs = (c .before .before .before .before .pre, omega (arith, c .before .loop .inv .over .all))
+
+shl-set : tie.Need-shl-set Inv-loop μ-loop
+shl-set c = omega (arith, c .before .before .before .loop .inv .over .most)
+
+add-v : tie.Need-add-v Inv-loop μ-loop
+add-v c = search needs
+
+loop-less : tie.Need-loop-less Inv-loop μ-loop
+loop-less c = search needs
+
+loop-again : tie.Need-loop-again Inv-loop μ-loop
+loop-again c =
+    let p = c .before .before .before .loop .inv in
+    let h : c .before .before .before .loop .v < c .before .before .before .before .variables .result = omega arith in
+    ⊎-elim
+    (λ w. rw (w .1) (painting-black _ _ _ _ p h _ (c .before .is-black .ensures) (w .0 .taken)))
+    (λ w. rw (w .1) (painting-red _ _ _ _ p h _ (c .before .is-black .ensures) (w .0 .left)))
+    (c .if1 .came)
+
+returns : tie.Need-returns Inv-loop μ-loop
+returns c = painting-end _ _ _ _ (c .before .loop .inv) (omega arith)
+
+pub painted-spec : {M : Type 1} → statement M
+painted-spec =
+    tie.close
+    (tie.spec
+    Inv-loop
+    μ-loop
+    variables-requires
+    loop-holds
+    is-black-requires
+    shl-set
+    add-v
+    loop-less
+    loop-again
+    returns)
