@@ -22,13 +22,13 @@ refused-requires-2 : tie.Need-refused-requires-2
 refused-requires-2 c κs = search needs
 
 returns-2 : tie.Need-returns-2
-returns-2 c = c .refused2 .ensures ∙ sym (refuses _ _ _ _ (wrong-edition (c .before .before .before .before .before .args .bytes .now) (omega arith) (λ e. c .before .if2 .taken (c .before .before .read-bits .ensures ∙ e))))
+returns-2 c = c .refused2 .ensures ∙ sym (refuses _ _ _ _ (wrong-edition (c .before .before .before .before .before .args .bytes .now) (omega arith) (λ e. omega (arith, c .before .before .read-bits .ensures))))
 
 refused-requires-3 : tie.Need-refused-requires-3
 refused-requires-3 c κs = search needs
 
 returns-3 : tie.Need-returns-3
-returns-3 c = c .refused3 .ensures ∙ sym (refuses _ _ _ _ (cut-before-steps (c .before .before .before .before .before .before .args .bytes .now) (omega arith) (sym (c .before .before .before .read-bits .ensures) ∙ c .before .before .if2 .left) (omega arith)))
+returns-3 c = c .refused3 .ensures ∙ sym (refuses _ _ _ _ (cut-before-steps (c .before .before .before .before .before .before .args .bytes .now) (omega arith) (omega (arith, c .before .before .before .read-bits .ensures)) (omega arith)))
 
 read-bits-requires-2 : tie.Need-read-bits-requires-2
 read-bits-requires-2 c κs = search needs
@@ -41,19 +41,19 @@ refused-requires-4 : tie.Need-refused-requires-4
 refused-requires-4 c κs = search needs
 
 returns-4 : tie.Need-returns-4
-returns-4 c = c .refused4 .ensures ∙ sym (refuses _ _ _ _ (too-many-steps (c .before .before .before .before .before .before .before .before .args .bytes .now) (omega arith) (sym (c .before .before .before .before .before .read-bits .ensures) ∙ c .before .before .before .before .if2 .left) (omega arith) (rw (sym (steps-are (c .before .before))) (omega arith))))
+returns-4 c = c .refused4 .ensures ∙ sym (refuses _ _ _ _ (too-many-steps (c .before .before .before .before .before .before .before .before .args .bytes .now) (omega arith) (omega (arith, c .before .before .before .before .before .read-bits .ensures)) (omega arith) (rw (sym (steps-are (c .before .before))) (omega arith))))
 
 refused-requires-5 : tie.Need-refused-requires-5
 refused-requires-5 c κs = search needs
 
 returns-5 : tie.Need-returns-5
-returns-5 c = c .refused5 .ensures ∙ sym (refuses _ _ _ _ (cut-before-cost (c .before .before .before .before .before .before .before .before .before .args .bytes .now) (omega arith) (sym (c .before .before .before .before .before .before .read-bits .ensures) ∙ c .before .before .before .before .before .if2 .left) (omega arith) (rw (sym (steps-are (c .before .before .before))) (omega arith)) (omega arith)))
+returns-5 c = c .refused5 .ensures ∙ sym (refuses _ _ _ _ (cut-before-cost (c .before .before .before .before .before .before .before .before .before .args .bytes .now) (omega arith) (omega (arith, c .before .before .before .before .before .before .read-bits .ensures)) (omega arith) (rw (sym (steps-are (c .before .before .before))) (omega arith)) (omega arith)))
 
 read-end-requires : tie.Need-read-end-requires
 read-end-requires c κs = (omega arith, steps-are (c .before .before), omega arith)
 
 returns-6 : tie.Need-returns-6
-returns-6 c = c .read-end .ensures ∙ ap (λ (k : Check). answer k (headingOf (c .before .before .before .before .before .before .before .before .before .args .bytes .now))) (sym (front-passed (c .before .before .before .before .before .before .before .before .before .args .bytes .now) (omega arith) (sym (c .before .before .before .before .before .before .read-bits .ensures) ∙ c .before .before .before .before .before .if2 .left) (omega arith) (rw (sym (steps-are (c .before .before .before))) (omega arith)) (omega arith)))
+returns-6 c = c .read-end .ensures ∙ ap (λ (k : Check). answer k (headingOf (c .before .before .before .before .before .before .before .before .before .args .bytes .now))) (sym (front-passed (c .before .before .before .before .before .before .before .before .before .args .bytes .now) (omega arith) (omega (arith, c .before .before .before .before .before .before .read-bits .ensures)) (omega arith) (rw (sym (steps-are (c .before .before .before))) (omega arith)) (omega arith)))
 
 pub read-fields-spec : {M : Type 1} → statement M
 read-fields-spec =
