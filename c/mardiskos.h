@@ -1,6 +1,6 @@
-/* Records checked by the proved library.
+/* The proved planner library.
  *
- * A refusal is told by one code: 32 * place + number. 0 means accepted.
+ * A refusal is told by one code: 32 * place + number. 0 means success.
  *
  *   number  place                              when
  *   1       first bit of the field             the record ends inside or before a field
@@ -11,13 +11,28 @@
  *   5       first bit of the field             a fact's variable not below the count of variables, or
  *                                              not rising within its list
  *   6       first bit behind the last field    padding not 0, or bytes left over
+ *   9       position of the entry              a list entry that is no action of the record
+ *   11      the room lent, 32,768 at most for  the result is longer than that
+ *           a list; the bytes lent
+ *   12      first bit of the field, or behind  sheet cut short, wrong edition, too many steps; or padding
+ *           the last step                      not 0, bytes left over
+ *   13      32,768, or position of the entry   list over 32,768 entries; in writing, an entry over 1,023
  *
- * Bits count from 0, the most significant bit of the first byte being bit 0. Fields are looked at in
- * bit order, and the first fault is told.
+ * Bits, entries and actions count from 0, the most significant bit of the first byte being bit 0.
+ * Fields are looked at in bit order, and the first fault is told.
+ *
+ * No pointer may be null, also where its length is 0; with length 0 nothing is read or written there.
+ * What is lent stays the caller's: it is used only during the call, and no pointer to it is kept.
+ * Areas lent for writing must not overlap with anything else lent to the same call. Nothing is
+ * allocated. Calls may run at the same time in several threads. 256 KiB of stack are enough.
+ *
+ * After a refusal every other field of a result is 0 or false, each list lent for writing holds
+ * 65,535 throughout, and each byte area 0 throughout.
  */
 #ifndef MARDISKOS_H
 #define MARDISKOS_H
 
+#include <stdbool.h>
 #include <stddef.h>
 #include <stdint.h>
 
@@ -29,12 +44,48 @@ extern "C" {
 #define MARDISKOS_PLACE(code) ((code) / 32)
 
 /* Checks the len bytes at record, any bytes and any number of them. Answers 0 if they are a record,
- * else the code of the first fault, with a number from 1 to 6.
- *
- * record must not be null, also where len is 0; with len 0 nothing is read from it. The bytes stay
- * the caller's: they are only read, only during the call, and no pointer to them is kept. Nothing is
- * allocated. Calls may run at the same time in several threads. */
+ * else the code of the first fault, with a number from 1 to 6. */
 uint64_t mardiskos_check(const uint8_t *record, size_t len);
+
+/* A list of actions judged under the three semantics: in a relaxed run every variable keeps all its
+ * values, in a real run each holds one, in a red-black run the black ones hold one. For each: the steps
+ * that run before the first that does not apply, and whether the list is a plan. */
+typedef struct {
+    uint64_t code;
+    uint32_t relaxed_steps;
+    uint32_t red_black_steps;
+    uint32_t real_steps;
+    bool relaxed_plan;
+    bool red_black_plan;
+    bool real_plan;
+} mardiskos_judgement;
+
+/* Judges the list_len actions at list in the record. Refuses with 1 to 6, 13, 9, in this order. */
+mardiskos_judgement mardiskos_judge(const uint8_t *record, size_t len, const uint16_t *list,
+                                    size_t list_len);
+
+typedef struct {
+    uint64_t code;
+    uint32_t bytes;
+} mardiskos_sheet_size;
+
+/* Writes the plan sheet of a list of steps, its cost and its verdict into the len bytes at bytes:
+ * answers how many bytes it has; the bytes behind it are 0. Refuses with 13 (length first), 11. */
+mardiskos_sheet_size mardiskos_write_sheet(const uint16_t *list, size_t list_len, uint32_t cost,
+                                           bool real, uint8_t *bytes, size_t len);
+
+typedef struct {
+    uint64_t code;
+    uint32_t steps;
+    uint32_t cost;
+    bool real;
+} mardiskos_sheet;
+
+/* Reads the plan sheet of len bytes at bytes: the steps fill the front of the list, 65,535 the rest.
+ * Refuses with 12, 11. What was written reads back as it was; what is read and written again gives
+ * the same bytes. */
+mardiskos_sheet mardiskos_read_sheet(const uint8_t *bytes, size_t len, uint16_t *list,
+                                     size_t list_len);
 
 #ifdef __cplusplus
 }
