@@ -40,8 +40,9 @@ pub fn judge_one(masks: &[u64; 64], bytes: &[u8], table: &[u16], list: &[u16], m
         let i = list[k] as usize;
         let next = s.step(table, i, mode);
         if !state::applies(masks, &s.sets, table, i) {
+            let steps = k as u32;
             return Verdict {
-                steps: k as u32,
+                steps,
                 plan: false,
             };
         }
@@ -50,8 +51,9 @@ pub fn judge_one(masks: &[u64; 64], bytes: &[u8], table: &[u16], list: &[u16], m
     }
     let g = Goals::load(bytes);
     let n = g.count;
+    let steps = k as u32;
     Verdict {
-        steps: k as u32,
+        steps,
         plan: state::all_hold(masks, &s.sets, &g.facts, 0, n),
     }
 }
