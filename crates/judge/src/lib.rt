@@ -41,10 +41,7 @@ pub fn judge_one(masks: &[u64; 64], bytes: &[u8], table: &[u16], list: &[u16], m
         let next = s.step(table, i, mode);
         if !state::applies(masks, &s.sets, table, i) {
             let steps = k as u32;
-            return Verdict {
-                steps,
-                plan: false,
-            };
+            return Verdict { steps, plan: false };
         }
         s = next;
         k += 1;
