@@ -40,18 +40,17 @@ pub fn judge_one(masks: &[u64; 64], bytes: &[u8], table: &[u16], list: &[u16], m
         let i = list[k] as usize;
         let next = s.step(table, i, mode);
         if !state::applies(masks, &s.sets, table, i) {
-            return Verdict {
-                steps: k as u32,
-                plan: false,
-            };
+            let steps = k as u32;
+            return Verdict { steps, plan: false };
         }
         s = next;
         k += 1;
     }
     let g = Goals::load(bytes);
     let n = g.count;
+    let steps = k as u32;
     Verdict {
-        steps: k as u32,
+        steps,
         plan: state::all_hold(masks, &s.sets, &g.facts, 0, n),
     }
 }

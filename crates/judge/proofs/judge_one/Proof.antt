@@ -66,8 +66,8 @@ step-requires c κs = here (c .before)
 applies-requires : tie.Need-applies-requires Inv-loop μ-loop
 applies-requires c κs = (here (c .before .before .before .before), c .before .before .before .before .before .before .before .before .before .before .pre .1)
 
-cast-t20 : tie.Need-cast-t20 Inv-loop μ-loop
-cast-t20 c = search needs
+cast-steps : tie.Need-cast-steps Inv-loop μ-loop
+cast-steps c = search needs
 
 returns : tie.Need-returns Inv-loop μ-loop
 returns c = going-stop _ _ _ _ _ (c .before .before .before .before .before .before .before .loop .inv) _ _ (omega arith) refl (here-act (c .before .before .before .before .before .before)) (sym (c .before .applies .ensures) ∙ not-true _ (c .if1 .taken))
@@ -84,8 +84,8 @@ loop-again c = going-turn _ _ _ _ _ (c .before .before .before .before .before .
 load-requires : tie.Need-load-requires Inv-loop μ-loop
 load-requires c κs = search needs
 
-cast-t22 : tie.Need-cast-t22 Inv-loop μ-loop
-cast-t22 c = search needs
+cast-steps-2 : tie.Need-cast-steps-2 Inv-loop μ-loop
+cast-steps-2 c = search needs
 
 all-hold-requires : tie.Need-all-hold-requires Inv-loop μ-loop
 all-hold-requires c κs =
@@ -108,12 +108,12 @@ judge-one-spec =
     cast-i
     step-requires
     applies-requires
-    cast-t20
+    cast-steps
     returns
     add-k
     loop-less
     loop-again
     load-requires
-    cast-t22
+    cast-steps-2
     all-hold-requires
     returns-2)
