@@ -5,9 +5,10 @@ use Prim.Native.Nat.{ℕ, zero, suc, _+_, _-_, _*_, _/_, _%_, _^_, _<_, _≤_}
 use native.Mathlib.Nat.{pow-suc, add-zero, add-suc, mod-eq-of-lt, one-mul, add-assoc, mul-assoc}
 use native.Mathlib.Numerals.{add-one}
 use native.Mathlib.Omega.{arith}
-use lib.Pow.{mod-pow-add, shr-shr, high, low, pow-lt, pow-pos}
-use lib.ListN.{getD}
+use lib.Pow.{mod-pow-add, shr-shr, shl-shr, high, low, field, pow-lt, pow-pos}
+use lib.ListN.{length, getD}
 use Rattle.planning.specs.Basics.{bitAt, bitsAt}
+use Rattle.bits.specs.Windows.{Leading}
 
 -- w bits are a number below 2 ^ w
 pub bitsAt-lt : (s : List ℕ) (p w : ℕ) → bitsAt s p w < 2 ^ w
@@ -87,6 +88,31 @@ bitsAt-six s q w a b ew ea eb ha hb =
 
 pub bitsAt-same : (s : List ℕ) (p m n : ℕ) → m ≡ n → bitsAt s p m ≡ bitsAt s p n
 bitsAt-same s p m n e = rw e refl
+
+-- four bytes behind four
+pub bitsAt-long : (s : List ℕ) (q a b : ℕ) → a ≡ bitsAt s (q * 8) 32 → b ≡ bitsAt s ((q + 4) * 8) 32 → a * 4294967296 + b ≡ bitsAt s (q * 8) 64
+bitsAt-long s q a b ea eb =
+    let e : q * 8 + 32 ≡ (q + 4) * 8 = omega arith in
+    rw (ea, eb, bitsAt-add s (q * 8) 32 32, e) refl
+
+-- the n bits from bit o on, out of 64 shifted left by o: what stands in front of them falls off
+pub bitsAt-shl : (s : List ℕ) (p o n x : ℕ) → o + n ≤ 64 → x ≡ bitsAt s p 64 → x * 2 ^ o % 2 ^ 64 / 2 ^ (64 - n) ≡ bitsAt s (p + o) n
+bitsAt-shl s p o n x h e =
+    let k = 64 - n - o in
+    let e1 : 64 ≡ n + (64 - n) = omega arith in
+    let e2 : 64 - n ≡ o + k = omega arith in
+    let e3 : 64 ≡ o + n + k = omega arith in
+    ap (λ (m : ℕ). x * 2 ^ o % 2 ^ m / 2 ^ (64 - n)) e1
+    ∙ (field (x * 2 ^ o) n (64 - n)
+    ∙ (ap (λ (m : ℕ). x * 2 ^ o / 2 ^ m % 2 ^ n) e2
+    ∙ (ap (λ (y : ℕ). y % 2 ^ n) (sym (shr-shr (x * 2 ^ o) o k) ∙ ap (λ (y : ℕ). y / 2 ^ k) (shl-shr x o ∙ (e ∙ bitsAt-same s p 64 (o + n + k) e3)))
+    ∙ bitsAt-cut s p o n k)))
+
+-- where the window starts, as far as a field in it reaches
+pub bitsAt-window : (s : List ℕ) (p j x : ℕ) → j * 8 ≤ p → ((n : ℕ) → n ≤ 57 → p + n ≤ 8 * length s → p + n ≤ j * 8 + 64) → x ≡ bitsAt s (j * 8) 64 → Leading s p (x * 2 ^ (p - j * 8) % 2 ^ 64)
+bitsAt-window s p j x l f e n h k =
+    let e2 : j * 8 + (p - j * 8) ≡ p = omega arith in
+    bitsAt-shl s (j * 8) (p - j * 8) n x (omega (arith, f n h k)) e ∙ ap (λ (q : ℕ). bitsAt s q n) e2
 
 -- a run of whole bytes: none, and one byte more
 pub bitsAt-none : (s : List ℕ) (p n : ℕ) → n ≡ 0 → 0 ≡ bitsAt s p n

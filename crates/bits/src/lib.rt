@@ -1,11 +1,12 @@
 // Bit fields of a byte slice, most significant bit first: one reader and one writer for records and sheets.
 ghost use mathlib.Core.Path.{_≡_};
 ghost use mathlib.Core.List.{_++_};
-ghost use Prim.Native.Nat.{_+_, _-_, _*_, _<_, _≤_};
+ghost use Prim.Native.Nat.{ℕ, _+_, _-_, _*_, _<_, _≤_};
 ghost use lib.ListN.{length, take, drop};
 ghost use Rattle.planning.specs.Basics.{bitsAt};
 ghost use Rattle.planning.specs.Sheet.{bitsOf, packed};
 ghost use Rattle.bits.specs.Answers.{refusalOf};
+ghost use Rattle.bits.specs.Windows.{Leading};
 
 fn wide(x: u8) -> u64
     ensures { λ r. ⌜ (r ≡ x) × (r < 256) ⌝ }
@@ -28,6 +29,37 @@ pub fn read_six(bytes: &[u8], j: usize) -> u64
     ensures { λ r. ⌜ r ≡ bitsAt (now (bytes .entry)) (j * 8) 48 ⌝ }
 {
     (word(bytes, j) * 256 + wide(bytes[j + 4])) * 256 + wide(bytes[j + 5])
+}
+
+// The eight bytes from byte j as one number.
+fn long_word(bytes: &[u8], j: usize) -> u64
+    requires { ⌜ j + 8 ≤ length (now bytes) ⌝ }
+    ensures { λ r. ⌜ r ≡ bitsAt (now (bytes .entry)) (j * 8) 64 ⌝ }
+{
+    word(bytes, j) * 4294967296 + word(bytes, j + 4)
+}
+
+// The first of the eight bytes that hold each field of at most 57 bits at bit `at`: the byte of that bit, or the last from which
+// eight are left.
+fn window_start(at: usize, size: usize) -> usize
+    requires { ⌜ 8 ≤ size ⌝ }
+    ensures { λ r. ⌜ (r * 8 ≤ at) × (r + 8 ≤ size) × ((n : ℕ) → n ≤ 57 → at + n ≤ 8 * size → at + n ≤ r * 8 + 64) ⌝ }
+{
+    let last = size - 8;
+    let j = at / 8;
+    if last < j {
+        return last;
+    }
+    j
+}
+
+// The bits from `at` on, left aligned, in one load.
+pub fn window_at(bytes: &[u8], at: usize) -> u64
+    requires { ⌜ (8 ≤ length (now bytes)) × (at < 8 * length (now bytes)) ⌝ }
+    ensures { λ r. ⌜ Leading (now (bytes .entry)) at r ⌝ }
+{
+    let j = window_start(at, bytes.len());
+    long_word(bytes, j) << (at - j * 8)
 }
 
 // The bytes from j up to end as one number: at most four.

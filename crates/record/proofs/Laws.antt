@@ -10,23 +10,27 @@ use native.Mathlib.Omega.{arith}
 use borrow.Author.Tests.{eq-eqb, ne-eqb, le-leb, lt-leb, lt-ltb, le-ltb, leb-true}
 use native.Mathlib.Decide.{ℕ-discrete, decLt}
 use lib.Dec.{eqb, leb, ltb}
-use lib.ListN.{length, getD, set, length-set}
+use lib.ListN.{length, getD, set, replicate, length-set}
 use lib.Seq.{getD-set-same, getD-set-other}
 use Rattle.planning.specs.Basics.{Check, refuse, check, andThen, inOrder, Answer, answer, refused, done, bitsAt, holdsField}
 use Rattle.planning.specs.Record.{variablesIn, actionsIn, countIn, headerChecks, recordChecks, recordCheck, preconditionsIn, effectsIn, effectsFrom, actionEnd, actionsEnd, fieldCheck, goalFits, variableChecks, variablesChecks, endsAt, recordEnd, factChecks, factsChecks, actionChecks, actionsChecks}
 use Rattle.planning.proofs.Fields.{actionEnd-le, actionsEnd-le}
 use Rattle.bits.proofs.Window.{bitsAt-lt, bitsAt-add}
-use Rattle.bits.proofs.Stages.{stage-passes, skip, skip-stage, stops-stage}
+use Rattle.bits.proofs.Stages.{answer-done, stage-passes, skip, skip-stage, stops-stage, pass-end}
+use Rattle.bits.specs.Windows.{Leading}
 use Rattle.bits.specs.declared.Refusal.{Refusal}
 use Rattle.bits.specs.declared.Read.{Read}
 use Rattle.bits.specs.declared.Read.the-variants.{Value, Refused}
 use Rattle.bits.specs.Answers.{readOf}
-use Rattle.record.specs.Stages.{Lasts, fromEnd, fromActions, fromVariables, fromActionCount, fromVariableCount, actionFactsChecks, initialChecks, goalChecks}
+use Rattle.record.specs.Stages.{Counts, Sound, Few, SoundVariable, fromEnd, fromActions, fromVariables, fromActionCount, fromVariableCount, actionFactsChecks, initialChecks, goalChecks}
 
 check-true : (b : Bool) (n p : ℕ) → check b n p ≡ none → b ≡ true
 unfolding check
 check-true true n p e = refl
 check-true false n p e = let z : _≡_ {A = ℕ} 0 1 = cc in absurd (omega arith)
+
+pub false-not : false ≡ true → ⊥
+false-not e = let z : _≡_ {A = ℕ} 0 1 = cc in absurd (omega arith)
 
 -- a field that is there, and one that is not
 pub field-there : (s : List ℕ) (p w : ℕ) → p + w ≤ 8 * length s → fieldCheck s p w ≡ none
@@ -90,8 +94,8 @@ module _ (s : List ℕ) (p low n v : ℕ) (en : n ≡ variablesIn s) (there : p 
     unfolding factChecks inOrder andThen check answer
     val-short b g = rw (field-there s p 6 there, ← ev, ← en, lt-ltb v n h, le-leb low v k, field-short s (p + 6) 6 (omega arith)) refl
 
-    module _ (l d : ℕ) (el : l + 1 ≡ countIn s v) (ed : d ≡ bitsAt s (p + 6) 6) (all : p + 12 ≤ 8 * length s) where
-      pub val-above : (b : ℕ) → l < d → refused 4 (p + 6) ≡ answer (inOrder (factChecks s p low)) b
+    module _ (l d : ℕ) (el : l ≡ countIn s v) (ed : d ≡ bitsAt s (p + 6) 6) (all : p + 12 ≤ 8 * length s) where
+      pub val-above : (b : ℕ) → l ≤ d → refused 4 (p + 6) ≡ answer (inOrder (factChecks s p low)) b
       unfolding factChecks inOrder andThen check answer
       val-above b g =
           rw (
@@ -103,11 +107,11 @@ module _ (s : List ℕ) (p low n v : ℕ) (en : n ≡ variablesIn s) (there : p 
             field-there s (p + 6) 6 (omega arith),
             ← ed,
             ← el,
-            le-ltb d (l + 1) (omega arith),
+            le-ltb d l g,
           )
           refl
 
-      pub fact-right : d ≤ l → done v ≡ answer (inOrder (factChecks s p low)) (bitsAt s p 6)
+      pub fact-right : d < l → done v ≡ answer (inOrder (factChecks s p low)) (bitsAt s p 6)
       unfolding factChecks inOrder andThen check answer
       fact-right g =
           rw (
@@ -119,7 +123,7 @@ module _ (s : List ℕ) (p low n v : ℕ) (en : n ≡ variablesIn s) (there : p 
             field-there s (p + 6) 6 (omega arith),
             ← ed,
             ← el,
-            lt-ltb d (l + 1) (omega arith),
+            lt-ltb d l g,
           )
           refl
 
@@ -145,6 +149,79 @@ facts-none s p low n i h = let e : n - i ≡ 0 = omega arith in rw e refl
 
 pub facts-start : (s : List ℕ) (p n : ℕ) → inOrder (factsChecks s p 0 n) ≡ inOrder (factsChecks s (p + 12 * 0) 0 (n - 0))
 facts-start s p n = let e : p + 12 * 0 ≡ p = omega arith in let f : n - 0 ≡ n = omega arith in rw (e, f) refl
+
+pub counts-as : (s counts : List ℕ) (n m : ℕ) → n ≡ m → Counts s counts n → Counts s counts m
+counts-as s counts n m e C = rw e at C
+
+-- a fact that the quick test passes
+module _ (s : List ℕ) (p low f : ℕ) (counts : List ℕ) (e : f ≡ bitsAt s p 12) (all : p + 12 ≤ 8 * length s) (C : Counts s counts (variablesIn s)) (S : Sound counts f low) where
+  known : Dec (f / 64 < variablesIn s) → f / 64 < variablesIn s
+  known (yes h) = h
+  known (no h) = absurd (omega (arith, S .value, C .behind (f / 64) (omega arith)))
+
+  sound-passes : inOrder (factChecks s p low) ≡ none
+  sound-passes =
+      let h : f / 64 < variablesIn s = known (decLt (f / 64) (variablesIn s)) in
+      answer-done (inOrder (factChecks s p low)) (bitsAt s p 6) (f / 64) (sym (fact-right s p low (variablesIn s) (f / 64) refl (omega arith) (fact-var s p f e) h (S .rises) (getD counts (f / 64) 0) (f % 64) (C .right (f / 64) h) (fact-val s p f e) all (S .value))) .0
+
+  sound-step : (m : ℕ) → inOrder (factsChecks s p low (suc m)) ≡ inOrder (factsChecks s (p + 12) (f / 64 + 1) m)
+  unfolding factsChecks
+  sound-step m =
+      stage-passes (factChecks s p low) (factsChecks s (p + 12) (bitsAt s p 6 + 1) m) sound-passes
+      ∙ ap (λ (x : ℕ). inOrder (factsChecks s (p + 12) (x + 1) m)) (sym (fact-var s p f e))
+
+-- fact k of a window
+leading-fact : (s : List ℕ) (p w k : ℕ) → Leading s p w → k ≤ 3 → p + 12 * (k + 1) ≤ 8 * length s → w / 2 ^ (64 - (12 * k + 12)) % 4096 ≡ bitsAt s (p + 12 * k) 12
+leading-fact s p w k L h l =
+    rw (L (12 * k + 12) (omega arith) (omega arith)) (omega (arith, bitsAt-add s p (12 * k) 12, bitsAt-lt s (p + 12 * k) 12))
+
+-- the facts of a window: none, and one more
+pub few-none : (w low : ℕ) (counts : List ℕ) → Few w 0 low counts low
+few-none w low counts =
+    record {
+      passes = λ s p m L l C. let e : 0 + m ≡ m = omega arith in let f : p + 12 * 0 ≡ p = omega arith in rw (e, f) refl;
+    }
+
+pub few-more : (w n k low : ℕ) (counts : List ℕ) (r f : ℕ) → n ≡ k + 1 → k ≤ 3 → Few w k low counts r → f ≡ w / 2 ^ (64 - (12 * k + 12)) % 4096 → Sound counts f r → Few w n low counts (f / 64 + 1)
+few-more w n k low counts r f en h F ef S = record { passes = more }
+  where
+    more : (s : List ℕ) (p m : ℕ) → Leading s p w → p + 12 * n ≤ 8 * length s → Counts s counts (variablesIn s) → inOrder (factsChecks s p low (n + m)) ≡ inOrder (factsChecks s (p + 12 * n) (f / 64 + 1) m)
+    more s p m L l C =
+        let e1 : n + m ≡ k + suc m = omega arith in
+        let e2 : p + 12 * n ≡ p + 12 * k + 12 = omega arith in
+        rw (e1, e2) (F .passes s p (suc m) L (omega arith) C ∙ sound-step s (p + 12 * k) r f counts (ef ∙ leading-fact s p w k L h (omega arith)) (omega arith) C S m)
+
+pub few-as : (w n k low : ℕ) (counts : List ℕ) (r : ℕ) → n ≡ k → Few w k low counts r → Few w n low counts r
+few-as w n k low counts r e F = rw e F
+
+-- a list of facts, window by window
+pub record Run (s : List ℕ) (from count at low left : ℕ) : Type 0 where
+  pub within : left ≤ count
+  pub place : at + 12 * left ≡ from + 12 * count
+  pub checks : inOrder (factsChecks s from 0 count) ≡ inOrder (factsChecks s at low left)
+
+pub run-start : (s : List ℕ) (from count : ℕ) → Run s from count from 0 count
+run-start s from count = record { within = omega arith; place = refl; checks = refl }
+
+module _ (s : List ℕ) (from count at low left w : ℕ) (counts : List ℕ) (r : ℕ) (I : Run s from count at low left) (L : Leading s at w) (there : from + 12 * count ≤ 8 * length s) (C : Counts s counts (variablesIn s)) where
+  pub run-turn : 4 < left → Few w 4 low counts r → Run s from count (at + 48) r (left - 4)
+  run-turn h F =
+      let e : left ≡ 4 + (left - 4) = omega arith in
+      record {
+        within = omega (arith, I .within);
+        place = omega (arith, I .place);
+        checks = I .checks ∙ (ap (λ (x : ℕ). inOrder (factsChecks s at low x)) e ∙ F .passes s at (left - 4) L (omega (arith, I .place)) C);
+      }
+
+  pub run-last : Few w left low counts r → inOrder (factsChecks s from 0 count) ≡ none
+  unfolding factsChecks inOrder
+  run-last F =
+      let e : left ≡ left + 0 = omega arith in
+      I .checks ∙ (ap (λ (x : ℕ). inOrder (factsChecks s at low x)) e ∙ F .passes s at 0 L (omega (arith, I .place)) C)
+
+pub run-none : (s : List ℕ) (from count at low left : ℕ) → Run s from count at low left → left ≡ 0 → inOrder (factsChecks s from 0 count) ≡ none
+unfolding factsChecks inOrder
+run-none s from count at low left I e = I .checks ∙ rw e refl
 
 -- the goal: present is a bit, and without a goal its value is 0
 pub bit-times : (last b : ℕ) → b < 2 → last * b ≤ last
@@ -191,6 +268,32 @@ pub variable-rest : (s : List ℕ) (p last : ℕ) (a : Answer ℕ) → bitsAt s 
 unfolding variableChecks initialChecks goalChecks
 variable-rest s p last a e f g h = skip _ _ _ _ f (skip _ _ _ _ g (rw e h))
 
+-- a variable whose 20 bits the quick test passes
+module _ (s : List ℕ) (p b : ℕ) (e : b ≡ bitsAt s p 20) where
+  split-20 : (b / 16384 ≡ bitsAt s p 6) × (b / 128 % 64 ≡ bitsAt s (p + 7) 6) × (b / 64 % 2 ≡ bitsAt s (p + 13) 1) × (b % 64 ≡ bitsAt s (p + 14) 6)
+  split-20 =
+      let f1 = bitsAt-add s p 14 6 in
+      let f2 = bitsAt-add s p 13 1 in
+      let f3 = bitsAt-add s p 7 6 in
+      let f4 = bitsAt-add s p 6 1 in
+      let g1 = bitsAt-lt s (p + 14) 6 in
+      let g2 = bitsAt-lt s (p + 13) 1 in
+      let g3 = bitsAt-lt s (p + 7) 6 in
+      let g4 = bitsAt-lt s (p + 6) 1 in
+      (omega arith, omega arith, omega arith, omega arith)
+
+  pub variable-sound : p + 20 ≤ 8 * length s → SoundVariable b → done (b / 16384) ≡ answer (inOrder (variableChecks s p)) (bitsAt s p 6)
+  unfolding goalChecks initialChecks
+  variable-sound l S =
+      let f = split-20 in
+      variable-rest s p (b / 16384) (done (b / 16384)) (sym (f .0)) (field-there s p 6 (omega arith)) (field-there s (p + 6) 1 (omega arith)) (initial f)
+    where
+      goal : (b / 16384 ≡ bitsAt s p 6) × (b / 128 % 64 ≡ bitsAt s (p + 7) 6) × (b / 64 % 2 ≡ bitsAt s (p + 13) 1) × (b % 64 ≡ bitsAt s (p + 14) 6) → done (b / 16384) ≡ answer (inOrder (goalChecks s p (b / 16384))) (b / 16384)
+      goal f = skip _ _ _ _ (field-there s (p + 13) 1 (omega arith)) (skip _ _ _ _ (field-there s (p + 14) 6 (omega arith)) (skip _ _ _ _ (goal-right s p (b / 16384) (b / 64 % 2) (b % 64) (sym (f .2)) (sym (f .3)) (S .goal)) (pass-end (b / 16384))))
+
+      initial : (b / 16384 ≡ bitsAt s p 6) × (b / 128 % 64 ≡ bitsAt s (p + 7) 6) × (b / 64 % 2 ≡ bitsAt s (p + 13) 1) × (b % 64 ≡ bitsAt s (p + 14) 6) → done (b / 16384) ≡ answer (inOrder (initialChecks s p (b / 16384))) (b / 16384)
+      initial f = skip _ _ _ _ (field-there s (p + 7) 6 (omega arith)) (skip _ _ _ _ (value-right (b / 128 % 64) (bitsAt s (p + 7) 6) (b / 16384) 4 (p + 7) (sym (f .1)) (S .initial)) (goal f))
+
 -- the facts of an action: the preconditions refuse, or pass and the effects say
 module _ (s : List ℕ) (p pre : ℕ) (ep : pre ≡ preconditionsIn s p) where
   pub pre-refused : (r : Read) (f : Refusal) (b d : ℕ) → r ≡ Refused f → readOf r ≡ answer (inOrder (factsChecks s (p + 24) 0 pre)) b → readOf r ≡ answer (inOrder (actionFactsChecks s p)) d
@@ -201,6 +304,29 @@ module _ (s : List ℕ) (p pre : ℕ) (ep : pre ≡ preconditionsIn s p) where
       → a ≡ answer (inOrder (actionFactsChecks s p)) (actionEnd s p)
   unfolding actionFactsChecks actionEnd effectsFrom
   eff-answer eff mid a ee e h = rw (← ep, ← ee, e .1) (skip-stage (factsChecks s (p + 24) 0 pre) (factsChecks s mid 0 eff) a (mid + 12 * eff) (e .0) h)
+
+-- an action whose head is there and whose facts pass
+module _ (s : List ℕ) (p h : ℕ) (e : h ≡ bitsAt s p 24) where
+  pub head-pre : h / 16 % 16 ≡ bitsAt s (p + 16) 4
+  head-pre = omega (arith, bitsAt-add s p 20 4, bitsAt-add s p 16 4, bitsAt-lt s (p + 16) 4, bitsAt-lt s (p + 20) 4)
+
+  pub head-eff : h % 16 ≡ bitsAt s (p + 20) 4
+  head-eff = omega (arith, bitsAt-add s p 20 4, bitsAt-lt s (p + 20) 4)
+
+  pub action-sound : p + 24 ≤ 8 * length s → inOrder (factsChecks s (p + 24) 0 (h / 16 % 16)) ≡ none → inOrder (factsChecks s (p + 24 + 12 * (h / 16 % 16)) 0 (h % 16)) ≡ none
+      → (inOrder (actionChecks s p) ≡ none) × (p + 24 + 12 * (h / 16 % 16 + h % 16) ≡ actionEnd s p)
+  unfolding actionChecks actionEnd effectsFrom preconditionsIn effectsIn inOrder andThen
+  action-sound l a b =
+      let ep = head-pre in
+      let ee = head-eff in (
+        rw (field-there s p 16 (omega arith), field-there s (p + 16) 4 (omega arith), field-there s (p + 20) 4 (omega arith), ← ep, ← ee)
+            (stage-passes (factsChecks s (p + 24) 0 (h / 16 % 16)) (factsChecks s (p + 24 + 12 * (h / 16 % 16)) 0 (h % 16)) a ∙ b),
+        omega arith,
+      )
+
+pub action-done : (s : List ℕ) (p end : ℕ) → (inOrder (actionChecks s p) ≡ none) × (end ≡ actionEnd s p) → done end ≡ answer (inOrder (actionChecks s p)) (actionEnd s p)
+unfolding answer
+action-done s p end a = rw (a .0, a .1) refl
 
 -- a run of actions: where it starts, one more that is right, and the end
 pub record Behind (s : List ℕ) (from count at i : ℕ) : Type 0 where
@@ -243,19 +369,27 @@ not-done r f b e h = absurd (apart (f .number) (f .place) (sym (ap readOf e) ∙
     apart n p z = let y : _≡_ {A = ℕ} 0 1 = cc in omega arith
 
 -- a run of variables: where it starts, one more that is right, and the end
-pub record Seen (s : List ℕ) (count : ℕ) (lasts : List ℕ) (i : ℕ) : Type 0 where
-  pub within : i ≤ count
-  pub size : length lasts ≡ 64
-  pub checks : inOrder (variablesChecks s 22 count) ≡ inOrder (variablesChecks s (22 + 20 * i) (count - i))
-  pub right : Lasts s lasts i
+pub no-counts : (s : List ℕ) (n : ℕ) → Counts s (replicate n 0) 0
+no-counts s n = record { right = λ v h. absurd (omega arith); behind = λ v h. zeros n v }
+  where
+    zeros : (n v : ℕ) → _≡_ {A = ℕ} (getD (replicate n 0) v 0) 0
+    zeros zero v = refl
+    zeros (suc n) zero = refl
+    zeros (suc n) (suc v) = zeros n v
 
-pub variables-start : (s : List ℕ) (count : ℕ) (lasts : List ℕ) → length lasts ≡ 64 → Seen s count lasts 0
-variables-start s count lasts h =
+pub record Seen (s : List ℕ) (count : ℕ) (counts : List ℕ) (i : ℕ) : Type 0 where
+  pub within : i ≤ count
+  pub size : length counts ≡ 64
+  pub checks : inOrder (variablesChecks s 22 count) ≡ inOrder (variablesChecks s (22 + 20 * i) (count - i))
+  pub holds : Counts s counts i
+
+pub variables-start : (s : List ℕ) (count : ℕ) (counts : List ℕ) → length counts ≡ 64 → Counts s counts 0 → Seen s count counts 0
+variables-start s count counts h k =
     let e : count - 0 ≡ count = omega arith in
     let f : 22 + 20 * 0 ≡ 22 = omega arith in
-    record { within = omega arith; size = h; checks = rw (e, f) refl; right = λ v k. absurd (omega arith) }
+    record { within = omega arith; size = h; checks = rw (e, f) refl; holds = k }
 
-module _ (s : List ℕ) (count : ℕ) (lasts : List ℕ) (i : ℕ) (I : Seen s count lasts i) where
+module _ (s : List ℕ) (count : ℕ) (counts : List ℕ) (i : ℕ) (I : Seen s count counts i) where
   variables-step : i < count → inOrder (variablesChecks s 22 count) ≡ inOrder (variableChecks s (22 + 20 * i) ++ variablesChecks s (22 + 20 * (i + 1)) (count - (i + 1)))
   unfolding variablesChecks
   variables-step h =
@@ -266,26 +400,32 @@ module _ (s : List ℕ) (count : ℕ) (lasts : List ℕ) (i : ℕ) (I : Seen s c
   pub variable-stops : (r : Read) (f : Refusal) (b d : ℕ) → i < count → r ≡ Refused f → readOf r ≡ answer (inOrder (variableChecks s (22 + 20 * i))) b → readOf r ≡ answer (inOrder (variablesChecks s 22 count)) d
   variable-stops r f b d h e k = rw (variables-step h) (stops-stage r f _ _ b d e k)
 
-  pub variables-turn : (last : ℕ) → i < count → count ≤ 64 → (inOrder (variableChecks s (22 + 20 * i)) ≡ none) × (bitsAt s (22 + 20 * i) 6 ≡ last) → Seen s count (set lasts i (last % 256)) (i + 1)
+  pub variables-turn : (last : ℕ) → i < count → count ≤ 64 → (inOrder (variableChecks s (22 + 20 * i)) ≡ none) × (bitsAt s (22 + 20 * i) 6 ≡ last) → Seen s count (set counts i ((last + 1) % 256)) (i + 1)
   unfolding countIn
   variables-turn last h k a =
       record {
         within = omega arith;
-        size = length-set lasts i (last % 256) ∙ I .size;
+        size = length-set counts i ((last + 1) % 256) ∙ I .size;
         checks = variables-step h ∙ stage-passes (variableChecks s (22 + 20 * i)) (variablesChecks s (22 + 20 * (i + 1)) (count - (i + 1))) (a .0);
-        right = λ v b. at v b (ℕ-discrete v i);
+        holds = record { right = λ v b. at v b (ℕ-discrete v i); behind = λ v b. past v b };
       }
     where
-      small : last % 256 ≡ last
+      small : (last + 1) % 256 ≡ last + 1
       small = omega (arith, a .1, bitsAt-lt s (22 + 20 * i) 6)
 
-      at : (v : ℕ) → v < i + 1 → Dec (v ≡ i) → getD (set lasts i (last % 256)) v 0 + 1 ≡ bitsAt s (22 + 20 * v) 6 + 1
-      at v b (yes e) = rw (e, getD-set-same lasts i (last % 256) 0 (omega (arith, I .size)), small, a .1) refl
-      at v b (no n) = rw (getD-set-other lasts i v (last % 256) 0 n) (I .right v (omega arith))
+      at : (v : ℕ) → v < i + 1 → Dec (v ≡ i) → getD (set counts i ((last + 1) % 256)) v 0 ≡ bitsAt s (22 + 20 * v) 6 + 1
+      at v b (yes e) = rw (e, getD-set-same counts i ((last + 1) % 256) 0 (omega (arith, I .size)), small, a .1) refl
+      at v b (no n) = rw (getD-set-other counts i v ((last + 1) % 256) 0 n) (I .holds .right v (omega arith))
 
-  pub variables-done : count ≤ i → (_≡_ {A = Answer ℕ} (done 0) (answer (inOrder (variablesChecks s 22 count)) 0)) × Lasts s lasts count
+      past : (v : ℕ) → i + 1 ≤ v → getD (set counts i ((last + 1) % 256)) v 0 ≡ 0
+      past v b = rw (getD-set-other counts i v ((last + 1) % 256) 0 (λ e. omega arith)) (I .holds .behind v (omega arith))
+
+  pub variables-done : count ≤ i → (_≡_ {A = Answer ℕ} (done 0) (answer (inOrder (variablesChecks s 22 count)) 0)) × Counts s counts count
   unfolding variablesChecks inOrder answer
-  variables-done h = let e : count - i ≡ 0 = omega arith in let f : i ≡ count = omega (arith, I .within) in (rw (I .checks, e) refl, λ v b. I .right v (omega arith))
+  variables-done h =
+      let e : count - i ≡ 0 = omega arith in
+      let f : i ≡ count = omega (arith, I .within) in
+      (rw (I .checks, e) refl, rw f at (I .holds))
 
 -- the record from its variables on
 module _ (s : List ℕ) (n a : ℕ) (en : n ≡ variablesIn s) (ea : a ≡ actionsIn s) where

@@ -3,11 +3,12 @@ use mathlib.Core.Path.{_≡_}
 use mathlib.Core.Bool.{Bool, _&&_}
 use mathlib.Core.List.{List, [], _∷_, _++_}
 use mathlib.Core.Option.{none}
-use Prim.Native.Nat.{ℕ, _+_, _*_, _<_}
+use Prim.Native.Nat.{ℕ, _+_, _*_, _/_, _%_, _≤_, _<_}
 use lib.Dec.{eqb, leb, ltb}
-use lib.ListN.{getD}
-use Rattle.planning.specs.Basics.{Check, refuse, check, bitsAt}
+use lib.ListN.{length, getD}
+use Rattle.planning.specs.Basics.{Check, refuse, check, inOrder, bitsAt}
 use Rattle.planning.specs.Record.{variablesIn, actionsIn, countIn, preconditionsIn, effectsIn, effectsFrom, fieldCheck, goalFits, variablesChecks, factsChecks, actionsChecks, endsAt, recordEnd}
+use Rattle.bits.specs.Windows.{Leading}
 use Rattle.record.specs.declared.Checked.{Checked}
 use Rattle.record.specs.declared.Checked.the-variants.{Accepted, Refused}
 
@@ -16,9 +17,26 @@ abbrev pub checkedOf : Checked → Check
 checkedOf Accepted = none
 checkedOf (Refused f) = refuse (f .number) (f .place)
 
--- the greatest value of each variable, in the first entries of the list
-abbrev pub Lasts : List ℕ → List ℕ → ℕ → Type 0
-Lasts s lasts n = (v : ℕ) → v < n → getD lasts v 0 + 1 ≡ countIn s v
+-- the list holds the count of values of each of the first n variables, and 0 behind them
+pub record Counts (s counts : List ℕ) (n : ℕ) : Type 0 where
+  pub right : (v : ℕ) → v < n → getD counts v 0 ≡ countIn s v
+  pub behind : (v : ℕ) → n ≤ v → getD counts v 0 ≡ 0
+
+-- what the quick test of a fact of 12 bits tests
+pub record Sound (counts : List ℕ) (fact low : ℕ) : Type 0 where
+  pub rises : low ≤ fact / 64
+  pub value : fact % 64 < getD counts (fact / 64) 0
+
+-- the first n facts of the window w pass their checks wherever the window stands, and the facts behind start at variable r
+pub record Few (w n low : ℕ) (counts : List ℕ) (r : ℕ) : Type 0 where
+  pub passes :
+      (s : List ℕ) (p m : ℕ) → Leading s p w → p + 12 * n ≤ 8 * length s → Counts s counts (variablesIn s)
+      → inOrder (factsChecks s p low (n + m)) ≡ inOrder (factsChecks s (p + 12 * n) r m)
+
+-- what the quick test of a variable's 20 bits tests
+pub record SoundVariable (b : ℕ) : Type 0 where
+  pub initial : b / 128 % 64 ≤ b / 16384
+  pub goal : b % 64 ≤ b / 16384 * (b / 64 % 2)
 
 unfoldable pub fromEnd : List ℕ → List Check
 fromEnd s = check (endsAt s (recordEnd s)) 6 (recordEnd s) ∷ []

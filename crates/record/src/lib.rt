@@ -3,12 +3,14 @@
 use bits::Read;
 use bits::Refusal;
 ghost use mathlib.Core.Path.{_≡_};
+ghost use mathlib.Core.Bool.{true};
+ghost use mathlib.Core.Option.{none};
 ghost use Prim.Native.Nat.{_+_, _*_, _<_, _≤_};
 ghost use lib.ListN.{length, drop};
 ghost use Rattle.planning.specs.Basics.{answer, done, inOrder, bitsAt};
 ghost use Rattle.planning.specs.Record.{variablesIn, actionsIn, preconditionsIn, effectsIn, actionEnd, actionsEnd, recordEnd, fieldCheck, variableChecks, variablesChecks, factChecks, factsChecks, actionChecks, actionsChecks, recordCheck};
 ghost use Rattle.bits.specs.Answers.{readOf};
-ghost use Rattle.record.specs.Stages.{checkedOf, actionFactsChecks, Lasts, fromEnd, fromActions, fromVariables, fromActionCount, fromVariableCount, goalChecks, initialChecks};
+ghost use Rattle.record.specs.Stages.{checkedOf, actionFactsChecks, Counts, Few, SoundVariable, Sound, fromEnd, fromActions, fromVariables, fromActionCount, fromVariableCount, goalChecks, initialChecks};
 
 pub enum Checked {
     Accepted,
@@ -78,8 +80,8 @@ fn check_short_fact(bytes: &[u8], at: u32, low: u32, variables: u32) -> Read
 }
 
 // The fact at bit `at`, whose variable is to be at least `low`: its variable.
-fn check_fact(bytes: &[u8], at: u32, low: u32, variables: u32, lasts: &[u8; 64]) -> Read
-    requires { ⌜ (at ≤ 400000) × (variables ≡ variablesIn (now bytes)) × (variables ≤ 64) × Lasts (now bytes) (now lasts) variables ⌝ }
+fn check_fact(bytes: &[u8], at: u32, low: u32, variables: u32, counts: &[u8; 64]) -> Read
+    requires { ⌜ (at ≤ 400000) × (variables ≡ variablesIn (now bytes)) × (variables ≤ 64) × Counts (now bytes) (now counts) variables ⌝ }
     ensures { λ r. ⌜ readOf r ≡ answer (inOrder (factChecks (now (bytes .entry)) at low)) (bitsAt (now (bytes .entry)) at 6) ⌝ }
 {
     if bytes.len() < (at as usize + 19) / 8 {
@@ -99,7 +101,7 @@ fn check_fact(bytes: &[u8], at: u32, low: u32, variables: u32, lasts: &[u8; 64])
             place: at,
         });
     }
-    if lasts[v as usize] < (w % 64) as u8 {
+    if counts[v as usize] <= (w % 64) as u8 {
         return Read::Refused(Refusal {
             number: 4,
             place: at + 6,
@@ -109,14 +111,14 @@ fn check_fact(bytes: &[u8], at: u32, low: u32, variables: u32, lasts: &[u8; 64])
 }
 
 // `count` facts from bit `from` on: the bit behind them.
-fn check_facts(bytes: &[u8], from: u32, count: u32, variables: u32, lasts: &[u8; 64]) -> Read
-    requires { ⌜ (from ≤ 399000) × (count ≤ 15) × (variables ≡ variablesIn (now bytes)) × (variables ≤ 64) × Lasts (now bytes) (now lasts) variables ⌝ }
+fn check_facts(bytes: &[u8], from: u32, count: u32, variables: u32, counts: &[u8; 64]) -> Read
+    requires { ⌜ (from ≤ 399000) × (count ≤ 15) × (variables ≡ variablesIn (now bytes)) × (variables ≤ 64) × Counts (now bytes) (now counts) variables ⌝ }
     ensures { λ r. ⌜ readOf r ≡ answer (inOrder (factsChecks (now (bytes .entry)) from 0 count)) (from + 12 * count) ⌝ }
 {
     let mut i: u32 = 0;
     let mut low: u32 = 0;
     while i < count {
-        let f = check_fact(bytes, from + 12 * i, low, variables, lasts);
+        let f = check_fact(bytes, from + 12 * i, low, variables, counts);
         let Read::Value(v) = f else {
             return f;
         };
@@ -133,21 +135,21 @@ fn check_action_facts(
     pre: u32,
     eff: u32,
     variables: u32,
-    lasts: &[u8; 64],
+    counts: &[u8; 64],
 ) -> Read
-    requires { ⌜ (at ≤ 398000) × (pre ≡ preconditionsIn (now bytes) at) × (eff ≡ effectsIn (now bytes) at) × (pre ≤ 15) × (eff ≤ 15) × (variables ≡ variablesIn (now bytes)) × (variables ≤ 64) × Lasts (now bytes) (now lasts) variables ⌝ }
+    requires { ⌜ (at ≤ 398000) × (pre ≡ preconditionsIn (now bytes) at) × (eff ≡ effectsIn (now bytes) at) × (pre ≤ 15) × (eff ≤ 15) × (variables ≡ variablesIn (now bytes)) × (variables ≤ 64) × Counts (now bytes) (now counts) variables ⌝ }
     ensures { λ r. ⌜ readOf r ≡ answer (inOrder (actionFactsChecks (now (bytes .entry)) at)) (actionEnd (now (bytes .entry)) at) ⌝ }
 {
-    let p = check_facts(bytes, at + 24, pre, variables, lasts);
+    let p = check_facts(bytes, at + 24, pre, variables, counts);
     let Read::Value(mid) = p else {
         return p;
     };
-    check_facts(bytes, mid, eff, variables, lasts)
+    check_facts(bytes, mid, eff, variables, counts)
 }
 
-// The action at bit `at`: the bit behind it.
-fn check_action(bytes: &[u8], at: u32, variables: u32, lasts: &[u8; 64]) -> Read
-    requires { ⌜ (at ≤ 398000) × (variables ≡ variablesIn (now bytes)) × (variables ≤ 64) × Lasts (now bytes) (now lasts) variables ⌝ }
+// The action at bit `at`, field by field: the bit behind it.
+fn check_action_fields(bytes: &[u8], at: u32, variables: u32, counts: &[u8; 64]) -> Read
+    requires { ⌜ (at ≤ 398000) × (variables ≡ variablesIn (now bytes)) × (variables ≤ 64) × Counts (now bytes) (now counts) variables ⌝ }
     ensures { λ r. ⌜ readOf r ≡ answer (inOrder (actionChecks (now (bytes .entry)) at)) (actionEnd (now (bytes .entry)) at) ⌝ }
 {
     let c = take(bytes, at, 16);
@@ -162,18 +164,124 @@ fn check_action(bytes: &[u8], at: u32, variables: u32, lasts: &[u8; 64]) -> Read
     let Read::Value(eff) = e else {
         return e;
     };
-    check_action_facts(bytes, at, pre, eff, variables, lasts)
+    check_action_facts(bytes, at, pre, eff, variables, counts)
+}
+
+// Whether a fact of 12 bits is sound: its variable at least `low`, its value below that variable's count, which is 0 for no
+// variable of the task.
+fn is_sound(fact: u64, low: u64, counts: &[u8; 64]) -> bool
+    requires { ⌜ fact < 4096 ⌝ }
+    ensures { λ r. ⌜ (r ≡ true → Sound (now (counts .entry)) fact low) ⌝ }
+{
+    let v = fact / 64;
+    if v < low {
+        return false;
+    }
+    ((fact % 64) as u8) < counts[v as usize]
+}
+
+// The first n facts of a window, of which there are four: the least variable that may follow them, or 0 if one is not sound.
+fn sound_few(w: u64, n: usize, low: u64, counts: &[u8; 64]) -> u64
+    requires { ⌜ (1 ≤ n) × (n ≤ 4) ⌝ }
+    ensures { λ r. ⌜ (0 < r → Few w n low (now (counts .entry)) r) ⌝ }
+{
+    let a = (w >> 52) % 4096;
+    if !is_sound(a, low, counts) {
+        return 0;
+    }
+    if n == 1 {
+        return a / 64 + 1;
+    }
+    let b = (w >> 40) % 4096;
+    if !is_sound(b, a / 64 + 1, counts) {
+        return 0;
+    }
+    if n == 2 {
+        return b / 64 + 1;
+    }
+    let c = (w >> 28) % 4096;
+    if !is_sound(c, b / 64 + 1, counts) {
+        return 0;
+    }
+    if n == 3 {
+        return c / 64 + 1;
+    }
+    let d = (w >> 16) % 4096;
+    if !is_sound(d, c / 64 + 1, counts) {
+        return 0;
+    }
+    d / 64 + 1
+}
+
+// Whether `count` facts from bit `from` on are there and sound: four to a load.
+fn sound_facts(bytes: &[u8], from: usize, count: usize, counts: &[u8; 64]) -> bool
+    requires { ⌜ (8 ≤ length (now bytes)) × (from ≤ 399000) × (count ≤ 15) × Counts (now bytes) (now counts) (variablesIn (now bytes)) ⌝ }
+    ensures { λ r. ⌜ (r ≡ true → inOrder (factsChecks (now (bytes .entry)) from 0 count) ≡ none) ⌝ }
+{
+    if bytes.len() < (from + 12 * count + 7) / 8 {
+        return false;
+    }
+    let mut at = from;
+    let mut left = count;
+    let mut low: u64 = 0;
+    while 4 < left {
+        low = sound_few(bits::window_at(bytes, at), 4, low, counts);
+        if low == 0 {
+            return false;
+        }
+        at += 48;
+        left -= 4;
+    }
+    if left == 0 {
+        return true;
+    }
+    0 < sound_few(bits::window_at(bytes, at), left, low, counts)
+}
+
+// The bit behind the action at bit `at` if all of it is there and sound, else 0.
+fn sound_action(bytes: &[u8], at: usize, counts: &[u8; 64]) -> usize
+    requires { ⌜ (at ≤ 398000) × Counts (now bytes) (now counts) (variablesIn (now bytes)) ⌝ }
+    ensures { λ r. ⌜ (0 < r → (inOrder (actionChecks (now (bytes .entry)) at) ≡ none) × (r ≡ actionEnd (now (bytes .entry)) at)) ⌝ }
+{
+    if bytes.len() < 8 {
+        return 0;
+    }
+    if bytes.len() < (at + 31) / 8 {
+        return 0;
+    }
+    let head = bits::window_at(bytes, at) >> 40;
+    let pre = (head / 16 % 16) as usize;
+    let eff = (head % 16) as usize;
+    if !sound_facts(bytes, at + 24, pre, counts) {
+        return 0;
+    }
+    if !sound_facts(bytes, at + 24 + 12 * pre, eff, counts) {
+        return 0;
+    }
+    at + 24 + 12 * (pre + eff)
+}
+
+// The action at bit `at`: the bit behind it.
+fn check_action(bytes: &[u8], at: u32, variables: u32, counts: &[u8; 64]) -> Read
+    requires { ⌜ (at ≤ 398000) × (variables ≡ variablesIn (now bytes)) × (variables ≤ 64) × Counts (now bytes) (now counts) variables ⌝ }
+    ensures { λ r. ⌜ readOf r ≡ answer (inOrder (actionChecks (now (bytes .entry)) at)) (actionEnd (now (bytes .entry)) at) ⌝ }
+{
+    let end = sound_action(bytes, at as usize, counts);
+    if end == 0 {
+        return check_action_fields(bytes, at, variables, counts);
+    }
+    Read::Value(end as u32)
 }
 
 // All actions, from the bit behind the variables on: the bit behind them.
-fn check_actions(bytes: &[u8], count: u32, variables: u32, lasts: &[u8; 64]) -> Read
-    requires { ⌜ (count ≤ 1024) × (variables ≡ variablesIn (now bytes)) × (variables ≤ 64) × Lasts (now bytes) (now lasts) variables ⌝ }
+fn check_actions(bytes: &[u8], count: u32, variables: u32, counts: &[u8; 64]) -> Read
+    requires { ⌜ (count ≤ 1024) × (variables ≡ variablesIn (now bytes)) × (variables ≤ 64) × Counts (now bytes) (now counts) variables ⌝ }
     ensures { λ r. ⌜ readOf r ≡ answer (inOrder (actionsChecks (now (bytes .entry)) (22 + 20 * variables) count)) (actionsEnd (now (bytes .entry)) (22 + 20 * variables) count) ⌝ }
 {
     let mut at = 22 + 20 * variables;
     let mut i: u32 = 0;
     while i < count {
-        let a = check_action(bytes, at, variables, lasts);
+        let a = check_action(bytes, at, variables, counts);
         let Read::Value(end) = a else {
             return a;
         };
@@ -223,8 +331,8 @@ fn check_initial(bytes: &[u8], at: u32, last: u32) -> Read
     check_goal(bytes, at, last)
 }
 
-// The variable at bit `at`: its greatest value.
-fn check_variable(bytes: &[u8], at: u32) -> Read
+// The variable at bit `at`, field by field: its greatest value.
+fn check_variable_fields(bytes: &[u8], at: u32) -> Read
     requires { ⌜ at ≤ 2000 ⌝ }
     ensures { λ r. ⌜ readOf r ≡ answer (inOrder (variableChecks (now (bytes .entry)) at)) (bitsAt (now (bytes .entry)) at 6) ⌝ }
 {
@@ -239,10 +347,41 @@ fn check_variable(bytes: &[u8], at: u32) -> Read
     check_initial(bytes, at, last)
 }
 
-// All variables: the greatest value of each goes to `lasts`.
-fn check_variables(bytes: &[u8], count: u32, lasts: &mut [u8; 64]) -> Read
-    requires { ⌜ (count ≤ 64) × (length (now lasts) ≡ 64) ⌝ }
-    ensures { λ r. ⌜ (readOf r ≡ answer (inOrder (variablesChecks (now (bytes .entry)) 22 count)) 0) × (readOf r ≡ done 0 → Lasts (now (bytes .entry)) (now (lasts .exit)) count) ⌝ }
+// Whether the 20 bits of a variable are sound: its initial value and its goal are not above its greatest value, and without a
+// goal its value is 0.
+fn is_sound_variable(fields: u64) -> bool
+    requires { ⌜ fields < 1048576 ⌝ }
+    ensures { λ r. ⌜ (r ≡ true → SoundVariable fields) ⌝ }
+{
+    let last = fields / 16384;
+    if last < fields / 128 % 64 {
+        return false;
+    }
+    fields % 64 <= last * (fields / 64 % 2)
+}
+
+// The variable at bit `at`: its greatest value.
+fn check_variable(bytes: &[u8], at: u32) -> Read
+    requires { ⌜ at ≤ 2000 ⌝ }
+    ensures { λ r. ⌜ readOf r ≡ answer (inOrder (variableChecks (now (bytes .entry)) at)) (bitsAt (now (bytes .entry)) at 6) ⌝ }
+{
+    if bytes.len() < 8 {
+        return check_variable_fields(bytes, at);
+    }
+    if bytes.len() < (at as usize + 27) / 8 {
+        return check_variable_fields(bytes, at);
+    }
+    let w = bits::window_at(bytes, at as usize) >> 44;
+    if !is_sound_variable(w) {
+        return check_variable_fields(bytes, at);
+    }
+    Read::Value((w / 16384) as u32)
+}
+
+// All variables: the count of values of each goes to `counts`, which is 0 behind them.
+fn check_variables(bytes: &[u8], count: u32, counts: &mut [u8; 64]) -> Read
+    requires { ⌜ (count ≤ 64) × (length (now counts) ≡ 64) × Counts (now bytes) (now counts) 0 ⌝ }
+    ensures { λ r. ⌜ (readOf r ≡ answer (inOrder (variablesChecks (now (bytes .entry)) 22 count)) 0) × (readOf r ≡ done 0 → Counts (now (bytes .entry)) (now (counts .exit)) count) ⌝ }
 {
     let mut i: u32 = 0;
     while i < count {
@@ -250,18 +389,18 @@ fn check_variables(bytes: &[u8], count: u32, lasts: &mut [u8; 64]) -> Read
         let Read::Value(last) = v else {
             return v;
         };
-        lasts[i as usize] = (last % 256) as u8;
+        counts[i as usize] = ((last + 1) % 256) as u8;
         i += 1;
     }
     Read::Value(0)
 }
 
 // The record from its actions on.
-fn check_from_actions(bytes: &[u8], actions: u32, variables: u32, lasts: &[u8; 64]) -> Read
-    requires { ⌜ (actions ≡ actionsIn (now bytes)) × (actions ≤ 1024) × (variables ≡ variablesIn (now bytes)) × (variables ≤ 64) × Lasts (now bytes) (now lasts) variables ⌝ }
+fn check_from_actions(bytes: &[u8], actions: u32, variables: u32, counts: &[u8; 64]) -> Read
+    requires { ⌜ (actions ≡ actionsIn (now bytes)) × (actions ≤ 1024) × (variables ≡ variablesIn (now bytes)) × (variables ≤ 64) × Counts (now bytes) (now counts) variables ⌝ }
     ensures { λ r. ⌜ readOf r ≡ answer (inOrder (fromActions (now (bytes .entry)))) 0 ⌝ }
 {
-    let a = check_actions(bytes, actions, variables, lasts);
+    let a = check_actions(bytes, actions, variables, counts);
     let Read::Value(end) = a else {
         return a;
     };
@@ -273,12 +412,12 @@ fn check_from_variables(bytes: &[u8], actions: u32, variables: u32) -> Read
     requires { ⌜ (actions ≡ actionsIn (now bytes)) × (actions ≤ 1024) × (variables ≡ variablesIn (now bytes)) × (variables ≤ 64) ⌝ }
     ensures { λ r. ⌜ readOf r ≡ answer (inOrder (fromVariables (now (bytes .entry)))) 0 ⌝ }
 {
-    let mut lasts = [0u8; 64];
-    let v = check_variables(bytes, variables, &mut lasts);
+    let mut counts = [0u8; 64];
+    let v = check_variables(bytes, variables, &mut counts);
     let Read::Value(_) = v else {
         return v;
     };
-    check_from_actions(bytes, actions, variables, &lasts)
+    check_from_actions(bytes, actions, variables, &counts)
 }
 
 // The record from its count of actions on.

@@ -1,89 +1,30 @@
-use Prim.Native.Nat.{_+_}
-use Rattle.bits.proofs.Window.{bitsAt-lt}
-use Rattle.bits.proofs.Stages.{passed, skip, skip-stage, hit, stops, stops-stage}
-use Rattle.record.specs.Stages.{goalChecks, initialChecks, actionFactsChecks}
-use Rattle.planning.specs.Record.{factsChecks, variableChecks, actionChecks, preconditionsIn, effectsIn, effectsFrom, actionEnd}
-use Rattle.planning.specs.Basics.{inOrder, answer, done, bitsAt}
+use Rattle.record.proofs.Laws.{counts-as, action-done}
+use Rattle.planning.proofs.Fields.{actionEnd-le}
 use native.Mathlib.Omega.{arith}
-use mathlib.Core.Path.{_≡_, refl, sym, ap, _∙_}
 use borrow.Author.Needs.{needs}
 use Rattle.record.proofs.check_action.Statement.{statement}
 use Rattle.record.proofs.check_action.Tie as tie
 use Rattle.record.proofs.check_action.Reads as reads
 use Rattle.record.proofs.check_action.Lts as lts
-use Rattle.record.proofs.check_action_facts.Reads as check-action-facts-reads
-use Rattle.record.proofs.take.Reads as take-reads
+use Rattle.record.proofs.check_action_fields.Reads as check-action-fields-reads
+use Rattle.record.proofs.sound_action.Reads as sound-action-reads
 
-take-requires : tie.Need-take-requires
-take-requires c κs = search needs
+sound-action-requires : tie.Need-sound-action-requires
+sound-action-requires c κs = (search needs, counts-as _ _ _ _ (c .before .pre .1) (c .before .pre .3))
 
-enum-told : tie.Need-enum-told
-enum-told c = search needs
-
-enum-told-2 : tie.Need-enum-told-2
-enum-told-2 c = search needs
+check-action-fields-requires : tie.Need-check-action-fields-requires
+check-action-fields-requires c κs = search needs
 
 returns : tie.Need-returns
-unfolding actionChecks
-returns c = stops _ _ _ _ _ _ (c .enum-told2 .given .1) (c .before .before .take .ensures)
+returns c = search needs
 
-add-take : tie.Need-add-take
-add-take c = search needs
-
-take-requires-2 : tie.Need-take-requires-2
-take-requires-2 c κs = search needs
-
-enum-known-p : tie.Need-enum-known-p
-enum-known-p c = search needs
-
-enum-told-3 : tie.Need-enum-told-3
-enum-told-3 c = search needs
+cast-t8 : tie.Need-cast-t8
+cast-t8 c = record { fits = omega (arith, (c .before .sound-action .ensures (omega arith)) .1, actionEnd-le (c .before .before .before .args .bytes .now) (c .before .before .before .args .at)) }
 
 returns-2 : tie.Need-returns-2
-unfolding actionChecks
-returns-2 c = skip _ _ _ _ ((passed _ _ _ _ (c .before .before .before .enum-told .given .1) (c .before .before .before .before .before .take .ensures)) .0) (stops _ _ _ _ _ _ (c .enum-told3 .given .1) (c .before .before .take2 .ensures))
-
-add-take-2 : tie.Need-add-take-2
-add-take-2 c = search needs
-
-take-requires-3 : tie.Need-take-requires-3
-take-requires-3 c κs = search needs
-
-enum-known-e : tie.Need-enum-known-e
-enum-known-e c = search needs
-
-enum-told-4 : tie.Need-enum-told-4
-enum-told-4 c = search needs
-
-returns-3 : tie.Need-returns-3
-unfolding actionChecks
-returns-3 c = skip _ _ _ _ ((passed _ _ _ _ (c .before .before .before .before .before .before .before .enum-told .given .1) (c .before .before .before .before .before .before .before .before .before .take .ensures)) .0) (skip _ _ _ _ ((passed _ _ _ _ (c .before .before .before .before .p .given .1) (c .before .before .before .before .before .before .take2 .ensures)) .0) (stops _ _ _ _ _ _ (c .enum-told4 .given .1) (c .before .before .take3 .ensures)))
-
-check-action-facts-requires : tie.Need-check-action-facts-requires
-unfolding preconditionsIn effectsIn
-check-action-facts-requires c κs = (search needs, sym ((passed _ _ _ _ (c .before .before .before .before .before .p .given .1) (c .before .before .before .before .before .before .before .take2 .ensures)) .1), sym ((passed _ _ _ _ (c .before .e .given .1) (c .before .before .before .take3 .ensures)) .1), omega (arith, (passed _ _ _ _ (c .before .before .before .before .before .p .given .1) (c .before .before .before .before .before .before .before .take2 .ensures)) .1, bitsAt-lt (c .before .before .before .before .before .before .before .before .before .before .before .before .args .bytes .now) (c .before .before .before .before .before .before .before .before .before .before .before .before .args .at + 16) 4), omega (arith, (passed _ _ _ _ (c .before .e .given .1) (c .before .before .before .take3 .ensures)) .1, bitsAt-lt (c .before .before .before .before .before .before .before .before .before .before .before .before .args .bytes .now) (c .before .before .before .before .before .before .before .before .before .before .before .before .args .at + 20) 4), search needs, search needs, search needs)
-
-returns-4 : tie.Need-returns-4
-unfolding actionChecks actionFactsChecks
-returns-4 c = skip _ _ _ _ ((passed _ _ _ _ (c .before .before .before .before .before .before .before .before .before .enum-told .given .1) (c .before .before .before .before .before .before .before .before .before .before .before .take .ensures)) .0) (skip _ _ _ _ ((passed _ _ _ _ (c .before .before .before .before .before .before .p .given .1) (c .before .before .before .before .before .before .before .before .take2 .ensures)) .0) (skip _ _ _ _ ((passed _ _ _ _ (c .before .before .e .given .1) (c .before .before .before .before .take3 .ensures)) .0) (c .check-action-facts .ensures)))
+returns-2 c = action-done _ _ _ (c .before .sound-action .ensures (omega arith))
 
 pub check-action-spec : {M : Type 1} → statement M
 check-action-spec =
     tie.close
-    (tie.spec
-    take-requires
-    enum-told
-    enum-told-2
-    returns
-    add-take
-    take-requires-2
-    enum-known-p
-    enum-told-3
-    returns-2
-    add-take-2
-    take-requires-3
-    enum-known-e
-    enum-told-4
-    returns-3
-    check-action-facts-requires
-    returns-4)
+    (tie.spec sound-action-requires check-action-fields-requires returns cast-t8 returns-2)

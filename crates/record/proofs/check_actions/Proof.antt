@@ -16,10 +16,10 @@ use Rattle.record.proofs.check_actions.Lts as lts
 use Rattle.record.proofs.check_action.Reads as check-action-reads
 
 abbrev Inv-loop : tie.InvT-loop
-Inv-loop bytes count variables lasts at₀ i₀ at i = Behind bytes (22 + 20 * variables) count at i
+Inv-loop bytes count variables counts at₀ i₀ at i = Behind bytes (22 + 20 * variables) count at i
 
 abbrev μ-loop : tie.MeasureT-loop
-μ-loop bytes count variables lasts at₀ i₀ at i = count - i
+μ-loop bytes count variables counts at₀ i₀ at i = count - i
 
 mul-at : tie.Need-mul-at Inv-loop μ-loop
 mul-at c = search needs

@@ -44,10 +44,10 @@ add-t20 : tie.Need-add-t20
 add-t20 c = search needs
 
 returns-4 : tie.Need-returns-4
-returns-4 c = val-above _ _ _ _ _ (search needs) (omega arith) (fact-var _ _ _ (c .before .before .before .before .read-bits .ensures)) (c .before .before .before .if2 .left) (c .before .before .if3 .left) _ _ (c .before .before .before .before .before .before .before .pre .3 _ (c .before .before .before .if2 .left)) (fact-val _ _ _ (c .before .before .before .before .read-bits .ensures)) (omega arith) _ (c .if4 .taken)
+returns-4 c = val-above _ _ _ _ _ (search needs) (omega arith) (fact-var _ _ _ (c .before .before .before .before .read-bits .ensures)) (c .before .before .before .if2 .left) (c .before .before .if3 .left) _ _ (c .before .before .before .before .before .before .before .pre .3 .right _ (c .before .before .before .if2 .left)) (fact-val _ _ _ (c .before .before .before .before .read-bits .ensures)) (omega arith) _ (c .if4 .taken)
 
 returns-5 : tie.Need-returns-5
-returns-5 c = fact-right _ _ _ _ _ (search needs) (omega arith) (fact-var _ _ _ (c .before .before .before .before .read-bits .ensures)) (c .before .before .before .if2 .left) (c .before .before .if3 .left) _ _ (c .before .before .before .before .before .before .before .pre .3 _ (c .before .before .before .if2 .left)) (fact-val _ _ _ (c .before .before .before .before .read-bits .ensures)) (omega arith) (c .if4 .left)
+returns-5 c = fact-right _ _ _ _ _ (search needs) (omega arith) (fact-var _ _ _ (c .before .before .before .before .read-bits .ensures)) (c .before .before .before .if2 .left) (c .before .before .if3 .left) _ _ (c .before .before .before .before .before .before .before .pre .3 .right _ (c .before .before .before .if2 .left)) (fact-val _ _ _ (c .before .before .before .before .read-bits .ensures)) (omega arith) (c .if4 .left)
 
 pub check-fact-spec : {M : Type 1} → statement M
 check-fact-spec =

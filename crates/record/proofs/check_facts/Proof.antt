@@ -16,10 +16,10 @@ use Rattle.record.proofs.check_facts.Lts as lts
 use Rattle.record.proofs.check_fact.Reads as check-fact-reads
 
 abbrev Inv-loop : tie.InvT-loop
-Inv-loop bytes from count variables lasts i₀ low₀ i low = (i ≤ count) × (inOrder (factsChecks bytes from 0 count) ≡ inOrder (factsChecks bytes (from + 12 * i) low (count - i)))
+Inv-loop bytes from count variables counts i₀ low₀ i low = (i ≤ count) × (inOrder (factsChecks bytes from 0 count) ≡ inOrder (factsChecks bytes (from + 12 * i) low (count - i)))
 
 abbrev μ-loop : tie.MeasureT-loop
-μ-loop bytes from count variables lasts i₀ low₀ i low = count - i
+μ-loop bytes from count variables counts i₀ low₀ i low = count - i
 
 loop-holds : tie.Need-loop-holds Inv-loop μ-loop
 loop-holds c = (omega arith, facts-start _ _ _)

@@ -1,4 +1,4 @@
-use Rattle.record.proofs.Laws.{variables-refused, variables-passed}
+use Rattle.record.proofs.Laws.{no-counts, variables-refused, variables-passed}
 use Rattle.bits.proofs.Window.{bitsAt-lt}
 use Rattle.bits.proofs.Stages.{passed, skip, skip-stage, hit, stops, stops-stage, answer-passes}
 use Rattle.record.specs.Stages.{goalChecks, initialChecks, actionFactsChecks}
@@ -15,7 +15,7 @@ use Rattle.record.proofs.check_from_actions.Reads as check-from-actions
 use Rattle.record.proofs.check_variables.Reads as check-variables-reads
 
 check-variables-requires : tie.Need-check-variables-requires
-check-variables-requires c κs = (search needs, refl)
+check-variables-requires c κs = (search needs, refl, no-counts _ 64)
 
 enum-told : tie.Need-enum-told
 enum-told c = search needs

@@ -1,66 +1,60 @@
-use Rattle.record.proofs.Laws.{variable-rest}
-use Rattle.bits.proofs.Window.{bitsAt-lt}
-use Rattle.bits.proofs.Stages.{passed, skip, skip-stage, hit, stops, stops-stage}
-use Rattle.record.specs.Stages.{goalChecks, initialChecks, actionFactsChecks}
-use Rattle.planning.specs.Record.{factsChecks, variableChecks, actionChecks, preconditionsIn, effectsIn, effectsFrom, actionEnd}
-use Rattle.planning.specs.Basics.{inOrder, answer, done, bitsAt}
+use Rattle.record.proofs.Laws.{variable-sound}
 use native.Mathlib.Omega.{arith}
-use mathlib.Core.Path.{_≡_, refl, sym, ap, _∙_}
+use borrow.Author.Tests.{not-false}
 use borrow.Author.Needs.{needs}
 use Rattle.record.proofs.check_variable.Statement.{statement}
 use Rattle.record.proofs.check_variable.Tie as tie
 use Rattle.record.proofs.check_variable.Reads as reads
 use Rattle.record.proofs.check_variable.Lts as lts
-use Rattle.record.proofs.check_initial.Reads as check-initial-reads
-use Rattle.record.proofs.take.Reads as take-reads
+use Rattle.bits.proofs.window_at.Reads as window-at-reads
+use Rattle.record.proofs.check_variable_fields.Reads as check-variable-fields-reads
+use Rattle.record.proofs.is_sound_variable.Reads as is-sound-variable-reads
 
-take-requires : tie.Need-take-requires
-take-requires c κs = search needs
-
-enum-known-l : tie.Need-enum-known-l
-enum-known-l c = search needs
-
-enum-told : tie.Need-enum-told
-enum-told c = search needs
+check-variable-fields-requires : tie.Need-check-variable-fields-requires
+check-variable-fields-requires c κs = search needs
 
 returns : tie.Need-returns
-unfolding variableChecks
-returns c = stops _ _ _ _ _ _ (c .enum-told .given .1) (c .before .before .take .ensures)
+returns c = search needs
 
-add-take : tie.Need-add-take
-add-take c = search needs
+add-if2 : tie.Need-add-if2
+add-if2 c = search needs
 
-take-requires-2 : tie.Need-take-requires-2
-take-requires-2 c κs = search needs
-
-enum-told-2 : tie.Need-enum-told-2
-enum-told-2 c = search needs
-
-enum-told-3 : tie.Need-enum-told-3
-enum-told-3 c = search needs
+check-variable-fields-requires-2 : tie.Need-check-variable-fields-requires-2
+check-variable-fields-requires-2 c κs = search needs
 
 returns-2 : tie.Need-returns-2
-unfolding variableChecks
-returns-2 c = skip _ _ _ _ ((passed _ _ _ _ (c .before .before .before .before .l .given .1) (c .before .before .before .before .before .before .take .ensures)) .0) (stops _ _ _ _ _ _ (c .enum-told3 .given .1) (c .before .before .take2 .ensures))
+returns-2 c = search needs
 
-check-initial-requires : tie.Need-check-initial-requires
-check-initial-requires c κs = (search needs, omega (arith, (passed _ _ _ _ (c .before .before .before .before .l .given .1) (c .before .before .before .before .before .before .take .ensures)) .1, bitsAt-lt (c .before .before .before .before .before .before .before .before .args .bytes .now) (c .before .before .before .before .before .before .before .before .args .at) 6))
+window-at-requires : tie.Need-window-at-requires
+window-at-requires c κs = search needs
+
+is-sound-variable-requires : tie.Need-is-sound-variable-requires
+is-sound-variable-requires c κs = search needs
+
+check-variable-fields-requires-3 : tie.Need-check-variable-fields-requires-3
+check-variable-fields-requires-3 c κs = search needs
 
 returns-3 : tie.Need-returns-3
-returns-3 c = variable-rest _ _ _ _ ((passed _ _ _ _ (c .before .before .before .before .before .l .given .1) (c .before .before .before .before .before .before .before .take .ensures)) .1) ((passed _ _ _ _ (c .before .before .before .before .before .l .given .1) (c .before .before .before .before .before .before .before .take .ensures)) .0) ((passed _ _ _ _ (c .before .enum-told2 .given .1) (c .before .before .before .take2 .ensures)) .0) (c .check-initial .ensures)
+returns-3 c = search needs
+
+cast-t11 : tie.Need-cast-t11
+cast-t11 c = search needs
+
+returns-4 : tie.Need-returns-4
+returns-4 c = variable-sound _ _ _ (c .before .before .window-at .ensures 20 (omega arith) (omega arith)) (omega arith) (c .before .is-sound-variable .ensures (not-false _ (c .if3 .left)))
 
 pub check-variable-spec : {M : Type 1} → statement M
 check-variable-spec =
     tie.close
     (tie.spec
-    take-requires
-    enum-known-l
-    enum-told
+    check-variable-fields-requires
     returns
-    add-take
-    take-requires-2
-    enum-told-2
-    enum-told-3
+    add-if2
+    check-variable-fields-requires-2
     returns-2
-    check-initial-requires
-    returns-3)
+    window-at-requires
+    is-sound-variable-requires
+    check-variable-fields-requires-3
+    returns-3
+    cast-t11
+    returns-4)

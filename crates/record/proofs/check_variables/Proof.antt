@@ -1,5 +1,4 @@
 use Rattle.record.proofs.Laws.{Seen, variables-start, variable-stops, variables-turn, variables-done, not-done}
-use Rattle.record.proofs.Laws.{Seen, variables-start, variable-stops, variables-turn, variables-done}
 use Rattle.bits.proofs.Window.{bitsAt-lt}
 use Rattle.bits.proofs.Stages.{passed, skip, skip-stage, hit, stops, stops-stage}
 use Rattle.record.specs.Stages.{goalChecks, initialChecks, actionFactsChecks}
@@ -17,13 +16,13 @@ use Rattle.record.proofs.check_variables.Lts as lts
 use Rattle.record.proofs.check_variable.Reads as check-variable-reads
 
 abbrev Inv-loop : tie.InvT-loop
-Inv-loop bytes count lasts₀ i₀ lasts i = Seen bytes count lasts i
+Inv-loop bytes count counts₀ i₀ counts i = Seen bytes count counts i
 
 abbrev μ-loop : tie.MeasureT-loop
-μ-loop bytes count lasts₀ i₀ lasts i = count - i
+μ-loop bytes count counts₀ i₀ counts i = count - i
 
 loop-holds : tie.Need-loop-holds Inv-loop μ-loop
-loop-holds c = variables-start _ _ _ (search needs)
+loop-holds c = variables-start _ _ _ (c .before .pre .1) (c .before .pre .2)
 
 mul-check-variable : tie.Need-mul-check-variable Inv-loop μ-loop
 mul-check-variable c = search needs
@@ -43,14 +42,17 @@ enum-told c = search needs
 returns : tie.Need-returns Inv-loop μ-loop
 returns c = (variable-stops _ _ _ _ (c .before .before .before .before .loop .inv) _ _ _ _ (omega arith) (c .enum-told .given .1) (c .before .before .check-variable .ensures), λ z. absurd (not-done _ _ _ (c .enum-told .given .1) z))
 
-cast-lasts : tie.Need-cast-lasts Inv-loop μ-loop
-cast-lasts c = search needs
+add-counts : tie.Need-add-counts Inv-loop μ-loop
+add-counts c = record { fits = omega (arith, (passed _ _ _ _ (c .before .v .given .1) (c .before .before .before .check-variable .ensures)) .1, bitsAt-lt (c .before .before .before .before .before .before .before .args .bytes .now) (22 + 20 * c .before .before .before .before .before .loop .i) 6) }
 
-cast-lasts-2 : tie.Need-cast-lasts-2 Inv-loop μ-loop
-cast-lasts-2 c = search needs
+cast-counts : tie.Need-cast-counts Inv-loop μ-loop
+cast-counts c = search needs
 
-element-write-lasts : tie.Need-element-write-lasts Inv-loop μ-loop
-element-write-lasts c = search needs
+cast-counts-2 : tie.Need-cast-counts-2 Inv-loop μ-loop
+cast-counts-2 c = search needs
+
+element-write-counts : tie.Need-element-write-counts Inv-loop μ-loop
+element-write-counts c = search needs
 
 add-i : tie.Need-add-i Inv-loop μ-loop
 add-i c = search needs
@@ -77,9 +79,10 @@ check-variables-spec =
     enum-known-v
     enum-told
     returns
-    cast-lasts
-    cast-lasts-2
-    element-write-lasts
+    add-counts
+    cast-counts
+    cast-counts-2
+    element-write-counts
     add-i
     loop-less
     loop-again

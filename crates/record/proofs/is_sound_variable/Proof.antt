@@ -1,0 +1,20 @@
+use Rattle.record.proofs.Laws.{false-not, bit-times}
+use Prim.Native.Nat.{_/_, _%_}
+use native.Mathlib.Omega.{arith}
+use borrow.Author.Needs.{needs}
+use Rattle.record.proofs.is_sound_variable.Statement.{statement}
+use Rattle.record.proofs.is_sound_variable.Tie as tie
+use Rattle.record.proofs.is_sound_variable.Reads as reads
+use Rattle.record.proofs.is_sound_variable.Lts as lts
+
+returns : tie.Need-returns
+returns c = λ e. absurd (false-not e)
+
+mul-result : tie.Need-mul-result
+mul-result c = record { fits = omega (arith, bit-times (c .before .args .fields / 16384) (c .before .args .fields / 64 % 2) (omega arith)) }
+
+returns-2 : tie.Need-returns-2
+returns-2 c = search needs
+
+pub is-sound-variable-spec : {M : Type 1} → statement M
+is-sound-variable-spec = tie.close (tie.spec returns mul-result returns-2)
