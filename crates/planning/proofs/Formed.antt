@@ -13,9 +13,9 @@ use native.Mathlib.Decide.{decLt}
 use Rattle.planning.specs.Basics.{Check, check, bitsAt}
 use Rattle.planning.specs.Record.{Fact, Action, Variable, Task, variablesIn, actionsIn, goalOf, variableAt, factsAt, preconditionsIn, effectsIn, effectsFrom, actionEnd, actionAt, actionsEnd, taskOf, headerChecks, goalFits, variableChecks, variablesChecks, countIn, factsChecks, actionChecks, actionsChecks, endsAt, recordEnd, recordChecks, recordCheck}
 use Rattle.planning.specs.Runs.{has, noVariable, noAction, variables, actions, variable, act, count, initial, goalsFrom, goals}
-use Rattle.planning.proofs.Tests.{or-cases, and-l, and-r, and-i}
+use Rattle.planning.proofs.Tests.{and-l, and-r, and-i}
 use Rattle.planning.proofs.Checks.{check-none, Passed, inOrder-passed, passed-++}
-use Rattle.planning.proofs.Facts.{Func}
+use Rattle.planning.proofs.Facts.{has-nil, has-cases, Func}
 use Rattle.planning.proofs.Fields.{bitsAt-below, factsAt-length, actionStart, taskOf-variables, taskOf-actions, taskOf-variable, taskOf-act, taskOf-count, variable-past, act-past}
 
 -- facts of variables below n, each value below its variable's count, variables rising strictly from low on
@@ -44,37 +44,27 @@ pub record Formed (t : Task) : Type 0 where
 
 -- the facts of a sorted list
 pub sorted-has : (n : ℕ) (count : ℕ → ℕ) (low : ℕ) (fs : List Fact) → Sorted n count low fs → (v d : ℕ) → T (has fs v d) → Inside n count low v d
-unfolding has
-sorted-has n count low [] S v d h = absurd h
-sorted-has n count low (f ∷ fs) S v d h = go (or-cases (eqb v (f .var) && eqb d (f .val)) (has fs v d) h) (sorted-has n count (f .var + 1) fs (S .3) v d)
+sorted-has n count low [] S v d h = absurd (has-nil v d h)
+sorted-has n count low (f ∷ fs) S v d h = go (has-cases f fs v d h) (sorted-has n count (f .var + 1) fs (S .3) v d)
   where
-    go : T (eqb v (f .var) && eqb d (f .val)) ⊎ T (has fs v d) → (T (has fs v d) → Inside n count (f .var + 1) v d) → Inside n count low v d
-    go (inl e) k =
-        let p = eqb→eq v (f .var) (search and-l) in
-        let q = eqb→eq d (f .val) (search and-r) in
-        rw (p, q) (record { from = S .0; var-below = S .1; val-below = S .2 })
-    go (inr e) k = let I = k e in let a = S .0 in let b = I .from in record { from = omega arith; var-below = I .var-below; val-below = I .val-below }
+    go : ((v ≡ f .var) × (d ≡ f .val)) ⊎ T (has fs v d) → (T (has fs v d) → Inside n count (f .var + 1) v d) → Inside n count low v d
+    go (inl e) k = rw (e .0, e .1) (record { from = S .0; var-below = S .1; val-below = S .2 })
+    go (inr x) k = let I = k x in record { from = omega (arith, S .0, I .from); var-below = I .var-below; val-below = I .val-below }
 
 pub sorted-func : (n : ℕ) (count : ℕ → ℕ) (low : ℕ) (fs : List Fact) → Sorted n count low fs → Func fs
-unfolding has
-sorted-func n count low [] S u x y h g = absurd h
-sorted-func n count low (f ∷ fs) S u x y h g =
-    go (or-cases (eqb u (f .var) && eqb x (f .val)) (has fs u x) h) (or-cases (eqb u (f .var) && eqb y (f .val)) (has fs u y) g)
-    (sorted-func n count (f .var + 1) fs (S .3) u x y)
+sorted-func n count low [] S u x y h g = absurd (has-nil u x h)
+sorted-func n count low (f ∷ fs) S u x y h g = go (has-cases f fs u x h) (has-cases f fs u y g) (sorted-func n count (f .var + 1) fs (S .3) u x y)
   where
+    Case : ℕ → Type 0
+    Case z = ((u ≡ f .var) × (z ≡ f .val)) ⊎ T (has fs u z)
+
     up : (z : ℕ) → T (has fs u z) → f .var + 1 ≤ u
     up z k = sorted-has n count (f .var + 1) fs (S .3) u z k .from
 
-    same : (z : ℕ) → T (eqb u (f .var) && eqb z (f .val)) → u ≡ f .var
-    same z e = eqb→eq u (f .var) (search and-l)
-
-    val′ : (z : ℕ) → T (eqb u (f .var) && eqb z (f .val)) → z ≡ f .val
-    val′ z e = eqb→eq z (f .val) (search and-r)
-
-    go : T (eqb u (f .var) && eqb x (f .val)) ⊎ T (has fs u x) → T (eqb u (f .var) && eqb y (f .val)) ⊎ T (has fs u y) → (T (has fs u x) → T (has fs u y) → x ≡ y) → x ≡ y
-    go (inl a) (inl b) k = val′ x a ∙ sym (val′ y b)
-    go (inl a) (inr b) k = absurd (omega (arith, up y b, same x a))
-    go (inr a) (inl b) k = absurd (omega (arith, up x a, same y b))
+    go : Case x → Case y → (T (has fs u x) → T (has fs u y) → x ≡ y) → x ≡ y
+    go (inl a) (inl b) k = a .1 ∙ sym (b .1)
+    go (inl a) (inr b) k = absurd (omega (arith, up y b, a .0))
+    go (inr a) (inl b) k = absurd (omega (arith, up x a, b .0))
     go (inr a) (inr b) k = k a b
 
 sorted-map : (n : ℕ) (f g : ℕ → ℕ) → ((v : ℕ) → v < n → f v ≡ g v) → (low : ℕ) (fs : List Fact) → Sorted n f low fs → Sorted n g low fs

@@ -16,7 +16,7 @@ use Rattle.planning.specs.Runs.{State, has, holds, Mode, step, variables
 use Rattle.planning.specs.Relaxed.{adds, forward, addable, forwardRun, forwardEnd, solvable}
 use Rattle.planning.proofs.Tests.{and-l, and-r, and-i, T-cases}
 use Rattle.planning.proofs.Below.{First, First?, first-is, tally-le, tally-cases, tally-pos, tally-sub, total-le, total-lt, total-pred, total-one}
-use Rattle.planning.proofs.Facts.{_⊆_, holds→sub, sub→holds, missing}
+use Rattle.planning.proofs.Facts.{_⊆_, holds→sub, sub→holds, holds-missing}
 use Rattle.planning.proofs.Steps.{step-eff, step-keep, step-cases, run-grows, All, all-map}
 use Rattle.planning.proofs.Formed.{Formed, sorted-has, initial-holds}
 use Rattle.planning.proofs.Plans.{Plan, isPlan-elim, plan-mono}
@@ -53,7 +53,7 @@ module _ (act : ℕ → Action) (A nv : ℕ) (count : ℕ → ℕ) (goal : List 
   grown : (s : State) (i : ℕ) → i < A → T (adds act s i) → size nv count s < size nv count (step relaxed (act i) s)
   unfolding adds
   grown s i b t =
-      let r = missing s (act i .eff) (search and-r) in
+      let r = holds-missing s (act i .eff) (search and-r) in
       let z = ranged i (r .0) (r .1) b (r .2) in
       size-lt nv count s (step relaxed (act i) s) (λ v d h. step-keep relaxed (act i) s v d h (λ x _. x)) (r .0) (r .1) (z .0) (z .1) (step-eff relaxed (act i) s (r .0) (r .1) (r .2)) (r .3)
 

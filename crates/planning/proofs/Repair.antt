@@ -4,11 +4,11 @@
 -- list runs, and the relaxed run goes on within K.
 use Prim.Native.Nat.{ℕ, _+_, _*_, _≤_, _<_}
 use mathlib.Core.Path.{_≡_, refl, ap}
-use mathlib.Core.Logic.{_⊎_, inl, inr}
+use mathlib.Core.Logic.{inl, inr}
 use mathlib.Core.Bool.{Bool, true, false, not, _&&_, _||_}
 use mathlib.Core.List.{List, [], _∷_, _++_}
 use mathlib.Core.Option.{Option, none, some}
-use lib.Dec.{T, T-not, eqb, eqb→eq, eqb-refl}
+use lib.Dec.{T, T-not}
 use lib.ListN.{length, length-append}
 use native.Mathlib.Omega.{arith}
 use native.Mathlib.Nat.{mul-le-mul-right}
@@ -17,7 +17,7 @@ use Rattle.planning.specs.Record.{Fact, Action}
 use Rattle.planning.specs.Runs.{State, has, holds, Mode, step, relaxed, run, runs}
 use Rattle.planning.specs.Painting.{orZero}
 use Rattle.planning.specs.Repair.{known, everAfter, shortest, fill, value, blackMet, moves, repairFrom}
-use Rattle.planning.proofs.Tests.{T→true, or-l, or-r, or-cases, and-l, and-r, and-i, T-cases}
+use Rattle.planning.proofs.Tests.{T→true, or-r, or-cases, and-l, and-r, and-i}
 use Rattle.planning.proofs.Below.{First?, first-is}
 use Rattle.planning.proofs.Facts.{_⊆_, holds→sub, sub→holds, Func}
 use Rattle.planning.proofs.Steps.{step-mono, run-append, runs-append, run-grows, All, all-append, all-map}
@@ -27,22 +27,20 @@ use Rattle.planning.proofs.Short.{shortest-short, shortest-walk}
 use Rattle.planning.proofs.Known.{everAfter-now, known-run}
 use Rattle.planning.proofs.Conn.{Invertible, Inv, Conn, inv-same, conn-same, inv-step, conn-step}
 
+-- a need whose red facts are held is met where its black facts are
+blackMet-holds : (m : Mode) (s : State) (w : List Fact) → blackMet m s w ≡ holds (λ v d. not (m v) || s v d) w
+unfolding blackMet holds
+blackMet-holds m s [] = refl
+blackMet-holds m s (f ∷ fs) = ap (λ b. (not (m (f .var)) || s (f .var) (f .val)) && b) (blackMet-holds m s fs)
+
 blackMet→sub : (m : Mode) (s : State) (w : List Fact) → T (blackMet m s w) → ((v d : ℕ) → T (has w v d) → (T (m v) → ⊥) → T (s v d)) → has w ⊆ s
-unfolding blackMet has
-blackMet→sub m s [] t h v d x = absurd x
-blackMet→sub m s (f ∷ fs) t h v d x =
-    go (T-cases (m v)) (or-cases (eqb v (f .var) && eqb d (f .val)) (has fs v d) x)
-    (blackMet→sub m s fs (search and-r) (λ u y z. h u y (search or-r)) v d)
-  where
-    go : T (m v) ⊎ T (not (m v)) → T (eqb v (f .var) && eqb d (f .val)) ⊎ T (has fs v d) → (T (has fs v d) → T (s v d)) → T (s v d)
-    go (inr r) e k = h v d x (T-not (m v) r)
-    go (inl b) (inr e) k = k e
-    go (inl b) (inl e) k =
-        let p = eqb→eq v (f .var) (search and-l) in
-        let q = eqb→eq d (f .val) (search and-r) in
-        let b′ : T (m (f .var)) = rw p at b in
-        let z : T (not (m (f .var)) || s (f .var) (f .val)) = search and-l in
-        rw (p, q) (elim (or-cases (not (m (f .var))) (s (f .var) (f .val)) z) [ inl n ↦ absurd (T-not (m (f .var)) n b′) | inr g ↦ g ])
+blackMet→sub m s w t r v d h = elim (or-cases (not (m v)) (s v d) (holds→sub (λ v d. not (m v) || s v d) w (rw (blackMet-holds m s w) at t) v d h)) [
+  | inl n ↦ r v d h (T-not (m v) n)
+  | inr x ↦ x
+]
+
+sub→blackMet : (m : Mode) (s : State) (w : List Fact) → has w ⊆ s → T (blackMet m s w)
+sub→blackMet m s w h = rw (blackMet-holds m s w) (sub→holds (λ v d. not (m v) || s v d) w (λ v d t. or-r (not (m v)) (s v d) (h v d t)))
 
 abbrev pub Red : Mode → ℕ → Type 0
 Red m u = T (m u) → ⊥
@@ -158,18 +156,11 @@ module _ (act : ℕ → Action) (A : ℕ) (m : Mode) (count : ℕ → ℕ) (orde
       simp length-append (omega (arith, moves-short s ever (act i .pre), repairFrom-long goal l (run act m k s) (everAfter act m k s ever)))
 
   -- from a state that a relaxed run may start in too, the first action needs no repair
-  blackMet-of : (s : State) (w : List Fact) → has w ⊆ s → T (blackMet m s w)
-  unfolding blackMet has
-  blackMet-of s [] h = tt
-  blackMet-of s (f ∷ fs) h =
-      let g = blackMet-of s fs (λ v d t. h v d (search or-r)) in
-      search (and-i, or-l, or-r, eqb-refl, h) depth 7
-
   moves-none : (s ever : State) (w : List Fact) → has w ⊆ s → moves act A m count order s ever w ≡ []
   unfolding moves
   moves-none s ever w h =
       ap (λ (b : Bool). elim b as (λ _. List ℕ) [ true ↦ [] | false ↦ fill act (λ v. shortest act A (known m s ever) v (count v)) (value count s) order [] w ])
-      (T→true (blackMet m s w) (blackMet-of s w h))
+      (T→true (blackMet m s w) (sub→blackMet m s w h))
 
   pub repairFrom-short : (goal : List Fact) (l : List ℕ) (s ever : State) → T (runs act relaxed l s) → has goal ⊆ run act relaxed l s
       → length (repairFrom act A m count order goal l s ever) ≤ length l * product count order
