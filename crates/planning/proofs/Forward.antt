@@ -65,9 +65,9 @@ module _ (act : ℕ → Action) (A nv : ℕ) (count : ℕ → ℕ) (goal : List 
       go (inl t) = holds→sub s (act i .eff) t
       go (inr t) = absurd (h i b (and-i (holds s (act i .pre)) (not (holds s (act i .eff))) (sub→holds s (act i .pre) p) t))
 
-  pub forward-ok : (k : ℕ) (s : State) → total nv count ≤ size nv count s + k → Ran act A nv count goal s (forward act A goal k s)
+  pub forward-ran : (k : ℕ) (s : State) → total nv count ≤ size nv count s + k → Ran act A nv count goal s (forward act A goal k s)
   unfolding forward run runs adds
-  forward-ok zero s f = record {
+  forward-ran zero s f = record {
     below = tt;
     runs′ = tt;
     size′ = omega arith;
@@ -76,7 +76,7 @@ module _ (act : ℕ → Action) (A nv : ℕ) (count : ℕ → ℕ) (goal : List 
       | inr n ↦ inr (closed-of s (λ i b t. omega (arith, grown s i b t, size-le nv count (step relaxed (act i) s))), n)
     ];
   }
-  forward-ok (suc k) s f = go (holds s goal) refl (forward-ok k)
+  forward-ran (suc k) s f = go (holds s goal) refl (forward-ran k)
     where
       body : Bool → Option ℕ → List ℕ
       body b o = elim b [ true ↦ [] | false ↦ elim o [ none ↦ [] | some i ↦ i ∷ forward act A goal k (step relaxed (act i) s) ] ]
@@ -172,7 +172,7 @@ module _ (t : Task) (F : Formed t) where
 
   pub forwardRun-ran : Ran (act t) (actions t) (variables t) (count t) (goals t) (initial t) (forwardRun t)
   unfolding forwardRun
-  forwardRun-ran = forward-ok (act t) (actions t) (variables t) (count t) (goals t) eff-ranged (addable t) (initial t) (omega (arith, initial-size, facts-total))
+  forwardRun-ran = forward-ran (act t) (actions t) (variables t) (count t) (goals t) eff-ranged (addable t) (initial t) (omega (arith, initial-size, facts-total))
 
   pub forwardRun-length : length (forwardRun t) ≤ addable t
   unfolding forwardEnd

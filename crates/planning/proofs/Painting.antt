@@ -19,7 +19,7 @@ use Rattle.planning.specs.Repair.{known, order, repairFrom, repaired}
 use Rattle.planning.specs.Existence.{share, blackProduct}
 use Rattle.planning.proofs.Tests.{or-l, or-r, and-l, and-r, and-i, T-cases}
 use Rattle.planning.proofs.Below.{some-intro, some-elim, first-none, tally-le, times-same}
-use Rattle.planning.proofs.Graph.{reach-here, reach-move}
+use Rattle.planning.proofs.Graph.{reach-here, reach-move, onCycle-of}
 use Rattle.planning.proofs.Facts.{has-here, has-there, has-cases, has-++, holds→sub, has→touches, Func}
 use Rattle.planning.proofs.Fields.{variable-past}
 use Rattle.planning.proofs.Formed.{Formed, sorted-has, sorted-func, goals-sorted, initial-holds, initial-elim}
@@ -29,8 +29,8 @@ use Rattle.planning.proofs.Walks.{Walk, Usable, stop}
 use Rattle.planning.proofs.Fill.{product}
 use Rattle.planning.proofs.Known.{known-start}
 use Rattle.planning.proofs.Conn.{Returns, Invertible, Inv, Conn, inv-same, conn-same}
-use Rattle.planning.proofs.Order.{untaken, clientsFirst-ok, clientsFirst-product, onCycle-of}
-use Rattle.planning.proofs.Repair.{Red, Accepted, repairFrom-ok, repairFrom-short}
+use Rattle.planning.proofs.Order.{untaken, clientsFirst-ordered, clientsFirst-product}
+use Rattle.planning.proofs.Repair.{Red, Accepted, repairFrom-leads, repairFrom-short}
 
 pub black-inside : (t : Task) (v : ℕ) → T (black t v) → v < variables t
 unfolding black
@@ -163,7 +163,7 @@ module _ (t : Task) (F : Formed t) where
     pub accepted : Accepted (act t) (actions t) (black t) (count t) (order t)
     unfolding order
     accepted =
-        let o = clientsFirst-ok (variables t) (blackArc t) (black t) (black-inside t) (blackArc-ends t) no-cycle (act t) (actions t) arcs
+        let o = clientsFirst-ordered (variables t) (blackArc t) (black t) (black-inside t) (blackArc-ends t) no-cycle (act t) (actions t) arcs
         (variables t) (λ _. false) (Red (black t))
         (record { shut = λ u w z _ _. z; out = λ u q. inl q; in′ = λ u. elim [ inl q ↦ q | inr z ↦ absurd z ] })
         (tally-le (variables t) (untaken (black t) (λ _. false))) in
@@ -180,8 +180,7 @@ module _ (t : Task) (F : Formed t) where
     pub product-order : product (count t) (order t) ≡ blackProduct t
     unfolding order blackProduct
     product-order =
-        clientsFirst-product (variables t) (blackArc t) (black t) (black-inside t) (blackArc-ends t) no-cycle (act t) (actions t) arcs
-        (count t) (variables t) (λ _. false) (tally-le (variables t) (untaken (black t) (λ _. false)))
+        clientsFirst-product (variables t) (blackArc t) (black t) (black-inside t) (blackArc-ends t) no-cycle (count t) (variables t) (λ _. false) (tally-le (variables t) (untaken (black t) (λ _. false)))
         ∙ times-same (variables t) (λ v. share (untaken (black t) (λ _. false) v) (count t v)) (λ v. share (black t v) (count t v)) (λ v _. rw (and-true (black t v)) refl)
 
     -- the repair of a relaxed plan: a red-black plan of at most n × P steps
@@ -190,7 +189,7 @@ module _ (t : Task) (F : Formed t) where
     repaired-is-plan l p =
         let P = isPlan-elim t relaxed l p in
         let k = known-start (black t) (initial t) in
-        let M = repairFrom-ok (act t) (actions t) (black t) (count t) (order t) accepted (goals t) (sorted-func (variables t) (count t) 0 (goals t) (goals-sorted t F))
+        let M = repairFrom-leads (act t) (actions t) (black t) (count t) (order t) accepted (goals t) (sorted-func (variables t) (count t) 0 (goals t) (goals-sorted t F))
         l (initial t) (initial t) (initial t) (λ v d h. h) (P .below) (k .0) (P .runs′) (P .meets)
         (inv-same (act t) (actions t) (black t) (count t) (initial t) (initial t) (known (black t) (initial t) (initial t)) k initial-inv)
         (conn-same (act t) (actions t) (black t) (count t) (initial t) (known (black t) (initial t) (initial t)) k initial-conn) in

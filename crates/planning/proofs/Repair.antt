@@ -22,7 +22,7 @@ use Rattle.planning.proofs.Below.{First?, first-is}
 use Rattle.planning.proofs.Facts.{_⊆_, holds→sub, sub→holds, Func}
 use Rattle.planning.proofs.Steps.{step-mono, run-append, runs-append, run-grows, All, all-append, all-map}
 use Rattle.planning.proofs.Walks.{Walk, Usable}
-use Rattle.planning.proofs.Fill.{withs, Ordered, Sound, fill-ok, ok→runs, product, fill-short}
+use Rattle.planning.proofs.Fill.{withs, Ordered, Sound, fill-meets, meets→runs, product, fill-short}
 use Rattle.planning.proofs.Short.{shortest-short, shortest-walk}
 use Rattle.planning.proofs.Known.{everAfter-now, known-run}
 use Rattle.planning.proofs.Conn.{Invertible, Inv, Conn, inv-same, conn-same, inv-step, conn-step}
@@ -72,14 +72,14 @@ module _ (act : ℕ → Action) (A : ℕ) (m : Mode) (count : ℕ → ℕ) (orde
       go none f = let c = I .val v mv in absurd (f (c .0) (I .ranged v (c .0) (I .ins v (c .0) (c .1))) (c .1))
       go (some c) f = f .passes
 
-  pub record Moved (s : State) (w : List Fact) (l : List ℕ) : Type 0 where
+  pub record Leads (s : State) (w : List Fact) (l : List ℕ) : Type 0 where
     pub below : All (λ i. i < A) l
     pub runs′ : T (runs act m l s)
     pub meets : has w ⊆ run act m l s
 
-  moves-ok : (s ever : State) (w : List Fact) → Func w → has w ⊆ known m s ever → Inv act A m count s (known m s ever) → Conn act A m count (known m s ever) → Moved s w (moves act A m count order s ever w)
+  moves-leads : (s ever : State) (w : List Fact) → Func w → has w ⊆ known m s ever → Inv act A m count s (known m s ever) → Conn act A m count (known m s ever) → Leads s w (moves act A m count order s ever w)
   unfolding moves run runs
-  moves-ok s ever w fw ww I C = go (blackMet m s w) refl
+  moves-leads s ever w fw ww I C = go (blackMet m s w) refl
     where
       W : State
       W = known m s ever
@@ -92,23 +92,23 @@ module _ (act : ℕ → Action) (A : ℕ) (m : Mode) (count : ℕ → ℕ) (orde
           let p = C v c d mv h g in
           shortest-walk act A W v (count v) (K .sound .pres) (K .sound .effs) (λ i e. K .range i v e) c d (I .ranged v c h) (I .ranged v d g) (p .0) (p .1)
 
-      go : (b : Bool) → blackMet m s w ≡ b → Moved s w (elim b [ true ↦ [] | false ↦ fill act path (value count s) order [] w ])
+      go : (b : Bool) → blackMet m s w ≡ b → Leads s w (elim b [ true ↦ [] | false ↦ fill act path (value count s) order [] w ])
       go true e = record { below = tt; runs′ = tt; meets = blackMet→sub m s w (rw e tt) (λ v d h r. I .reds v d r (ww v d h)) }
       go false e =
-          let r = fill-ok act A m (K .sound) W s path (value count s) paths (I .reds) (I .ins) (value-at s W I) w fw ww order (Red m) [] (K .ordered) tt (λ u x h q. I .reds u x q (ww u x h)) in
-          let z = ok→runs act (withs (Red m) order) (K .covers) m w (fill act path (value count s) order [] w) s (r .0) in
+          let r = fill-meets act A m (K .sound) W s path (value count s) paths (I .reds) (I .ins) (value-at s W I) w fw ww order (Red m) [] (K .ordered) tt (λ u x h q. I .reds u x q (ww u x h)) in
+          let z = meets→runs act (withs (Red m) order) (K .covers) m w (fill act path (value count s) order [] w) s (r .0) in
           record { below = all-map _ (λ i. i < A) (λ i o. o .below) (fill act path (value count s) order [] w) (r .1); runs′ = z .0; meets = z .1 }
 
   -- the repaired list runs and meets the goal: X is the state of the relaxed run of the relaxed actions done so far
-  pub repairFrom-ok : (goal : List Fact) → Func goal → (l : List ℕ) (s ever X : State) → s ⊆ ever → All (λ i. i < A) l → X ⊆ known m s ever → T (runs act relaxed l X) → has goal ⊆ run act relaxed l X
-      → Inv act A m count s (known m s ever) → Conn act A m count (known m s ever) → Moved s goal (repairFrom act A m count order goal l s ever)
+  pub repairFrom-leads : (goal : List Fact) → Func goal → (l : List ℕ) (s ever X : State) → s ⊆ ever → All (λ i. i < A) l → X ⊆ known m s ever → T (runs act relaxed l X) → has goal ⊆ run act relaxed l X
+      → Inv act A m count s (known m s ever) → Conn act A m count (known m s ever) → Leads s goal (repairFrom act A m count order goal l s ever)
   unfolding repairFrom run runs
-  repairFrom-ok goal fg [] s ever X e b x r g I C = moves-ok s ever goal fg (λ v d h. x v d (g v d h)) I C
-  repairFrom-ok goal fg (i ∷ l) s ever X e b x r g I C =
+  repairFrom-leads goal fg [] s ever X e b x r g I C = moves-leads s ever goal fg (λ v d h. x v d (g v d h)) I C
+  repairFrom-leads goal fg (i ∷ l) s ever X e b x r g I C =
       let W : State = known m s ever in
       let p = holds→sub X (act i .pre) (search and-l) in
       let j : List ℕ = moves act A m count order s ever (act i .pre) in
-      let M = moves-ok s ever (act i .pre) (K .sound .pres i (b .0)) (λ v d h. x v d (p v d h)) I C in
+      let M = moves-leads s ever (act i .pre) (K .sound .pres i (b .0)) (λ v d h. x v d (p v d h)) I C in
       let k : List ℕ = j ++ (i ∷ []) in
       let kb = all-append (λ i. i < A) j (i ∷ []) (M .below) (b .0, tt) in
       let s₁ : State = run act m j s in
@@ -121,7 +121,7 @@ module _ (act : ℕ → Action) (A : ℕ) (m : Mode) (count : ℕ → ℕ) (orde
       let C′ = conn-same act A m count (run act relaxed k W) (known m s′ ever′) n (J .1) in
       let rest : List ℕ = repairFrom act A m count order goal l s′ ever′ in
       let up : step relaxed (act i) X ⊆ known m s′ ever′ = λ v d h. n .0 v d (rw (run-append act relaxed j (i ∷ []) W) (step-mono relaxed relaxed (act i) X (run act relaxed j W) (λ v t. t) (λ v d h. run-grows act j W v d (x v d h)) v d h)) in
-      let N = repairFrom-ok goal fg l s′ ever′ (step relaxed (act i) X) (everAfter-now act m k s ever e) (b .1) up (search and-r) g I′ C′ in
+      let N = repairFrom-leads goal fg l s′ ever′ (step relaxed (act i) X) (everAfter-now act m k s ever e) (b .1) up (search and-r) g I′ C′ in
       record {
         below = all-append (λ i. i < A) k rest kb (N .below);
         runs′ = runs-append act m k rest s kr (N .runs′);
