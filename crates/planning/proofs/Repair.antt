@@ -1,7 +1,9 @@
 -- The repair of a relaxed plan, over the functions that it needs of a task. `Accepted` is what the record's form and the painting's
--- two conditions give. Invariant after any number of steps: K, the facts of R and B, holds all that the relaxed actions done so far
--- reach, and any two values that a black variable has had are joined by usable walks (`Inv` and `Conn`). So each need can be met, the
--- list runs, and the relaxed run goes on within K.
+-- two conditions give. Invariant after any number of steps: the facts of R and B hold all that the relaxed actions done so far reach,
+-- and any two values that a black variable has had are joined by usable walks (`Inv` and `Conn`). So the facts wanted next were held
+-- before and can be reached again; after the inserted moves the action applies, and the relaxed run goes on within R and B.
+-- Length: moves for one need are fewer than P. The first action applies at the start and needs none, so that n actions have at most n
+-- needs (before the second to the last, and at the end): n + n × (P − 1) steps.
 use Prim.Native.Nat.{ℕ, _+_, _*_, _≤_, _<_}
 use mathlib.Core.Path.{_≡_, refl, ap}
 use mathlib.Core.Logic.{inl, inr}
@@ -42,6 +44,7 @@ blackMet→sub m s w t r v d h = elim (or-cases (not (m v)) (s v d) (holds→sub
 sub→blackMet : (m : Mode) (s : State) (w : List Fact) → has w ⊆ s → T (blackMet m s w)
 sub→blackMet m s w h = rw (blackMet-holds m s w) (sub→holds (λ v d. not (m v) || s v d) w (λ v d t. or-r (not (m v)) (s v d) (h v d t)))
 
+-- at the start the red variables are settled
 abbrev pub Red : Mode → ℕ → Type 0
 Red m u = T (m u) → ⊥
 
@@ -54,6 +57,7 @@ pub record Accepted (act : ℕ → Action) (A : ℕ) (m : Mode) (count : ℕ →
   pub covers : (u : ℕ) → withs (Red m) order u
 
 module _ (act : ℕ → Action) (A : ℕ) (m : Mode) (count : ℕ → ℕ) (order : List ℕ) (K : Accepted act A m count order) where
+  -- the invariant along a run
   inv-run : (l : List ℕ) (s W : State) → All (λ i. i < A) l → T (runs act m l s) → Inv act A m count s W → Conn act A m count W
       → Inv act A m count (run act m l s) (run act relaxed l W) × Conn act A m count (run act relaxed l W)
   unfolding run runs
@@ -64,6 +68,7 @@ module _ (act : ℕ → Action) (A : ℕ) (m : Mode) (count : ℕ → ℕ) (orde
       (inv-step act A m count (K .sound) (K .range) i (b .0) s W h I)
       (conn-step act A m count (K .sound) (K .range) i (b .0) s W h I (K .invertible) C)
 
+  -- the present value of a black variable is held
   value-at : (s W : State) → Inv act A m count s W → (v : ℕ) → T (m v) → T (s v (value count s v))
   unfolding value orZero
   value-at s W I v mv = go (first (count v) (s v)) (first-is (count v) (s v))
@@ -72,6 +77,7 @@ module _ (act : ℕ → Action) (A : ℕ) (m : Mode) (count : ℕ → ℕ) (orde
       go none f = let c = I .val v mv in absurd (f (c .0) (I .ranged v (c .0) (I .ins v (c .0) (c .1))) (c .1))
       go (some c) f = f .passes
 
+  -- the list runs from s and meets w
   pub record Leads (s : State) (w : List Fact) (l : List ℕ) : Type 0 where
     pub below : All (λ i. i < A) l
     pub runs′ : T (runs act m l s)
@@ -128,7 +134,6 @@ module _ (act : ℕ → Action) (A : ℕ) (m : Mode) (count : ℕ → ℕ) (orde
         meets = λ v d h. rw (run-append act m k rest s) (N .meets v d h);
       }
 
-  -- the length
   product-pos : (vs : List ℕ) → 0 < product count vs
   unfolding product
   product-pos [] = omega arith
@@ -155,7 +160,7 @@ module _ (act : ℕ → Action) (A : ℕ) (m : Mode) (count : ℕ → ℕ) (orde
       let k : List ℕ = moves act A m count order s ever (act i .pre) ++ (i ∷ []) in
       simp length-append (omega (arith, moves-short s ever (act i .pre), repairFrom-long goal l (run act m k s) (everAfter act m k s ever)))
 
-  -- from a state that a relaxed run may start in too, the first action needs no repair
+  -- a need that is met takes no moves; at the start that is so of the first action
   moves-none : (s ever : State) (w : List Fact) → has w ⊆ s → moves act A m count order s ever w ≡ []
   unfolding moves
   moves-none s ever w h =
