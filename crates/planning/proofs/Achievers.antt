@@ -145,7 +145,10 @@ module _ (act : ℕ → Action) (by : ℕ → ℕ → Option ℕ) (goal : List F
       K : Kept
       K = keep act by goal l
 
-      go : (c : Bool) → All P (K .actions′) → All P ((elim c as (λ _. Kept) [ true ↦ record { actions′ = i ∷ K .actions′; needed = λ v d. has (act i .pre) v d || K .needed v d } | false ↦ K ]) .actions′)
+      choose : Bool → Kept
+      choose c = elim c [ true ↦ record { actions′ = i ∷ K .actions′; needed = λ v d. has (act i .pre) v d || K .needed v d } | false ↦ K ]
+
+      go : (c : Bool) → All P (K .actions′) → All P (choose c .actions′)
       go true h = (b .0, h)
       go false h = h
 
@@ -157,8 +160,10 @@ module _ (act : ℕ → Action) (by : ℕ → ℕ → Option ℕ) (goal : List F
       K : Kept
       K = keep act by goal l
 
-      go : (c : Bool) → length (K .actions′) ≤ length l
-          → length ((elim c as (λ _. Kept) [ true ↦ record { actions′ = i ∷ K .actions′; needed = λ v d. has (act i .pre) v d || K .needed v d } | false ↦ K ]) .actions′) ≤ suc (length l)
+      choose : Bool → Kept
+      choose c = elim c [ true ↦ record { actions′ = i ∷ K .actions′; needed = λ v d. has (act i .pre) v d || K .needed v d } | false ↦ K ]
+
+      go : (c : Bool) → length (K .actions′) ≤ length l → length (choose c .actions′) ≤ suc (length l)
       go true h = omega arith
       go false h = omega arith
 

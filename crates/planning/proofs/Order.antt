@@ -133,7 +133,8 @@ module _ (n : ℕ) (adj : ℕ → ℕ → Bool) (m : Mode) (inside : (v : ℕ) �
         body o = elim o [ none ↦ [] | some v ↦ v ∷ clientsFirst n adj m k (taking taken v) ]
 
         go : (o : Option ℕ) → First? n (ready n adj m taken) o
-            → ((taken : ℕ → Bool) (Q : ℕ → Type 0) → Chosen taken Q → tally n (untaken m taken) ≤ k → Ordered act A m Q (clientsFirst n adj m k taken) × ((u : ℕ) → withs Q (clientsFirst n adj m k taken) u))
+            → ((taken : ℕ → Bool) (Q : ℕ → Type 0) → Chosen taken Q → tally n (untaken m taken) ≤ k
+            → Ordered act A m Q (clientsFirst n adj m k taken) × ((u : ℕ) → withs Q (clientsFirst n adj m k taken) u))
             → Ordered act A m Q (body o) × ((u : ℕ) → withs Q (body o) u)
         go none f rec = (tt, chosen-all taken Q C (none-ready taken f))
         go (some v) f rec =

@@ -83,7 +83,8 @@ module _ (act : ℕ → Action) (A : ℕ) (m : Mode) (count : ℕ → ℕ) (orde
     pub runs′ : T (runs act m l s)
     pub meets : has w ⊆ run act m l s
 
-  moves-leads : (s ever : State) (w : List Fact) → Func w → has w ⊆ known m s ever → Inv act A m count s (known m s ever) → Conn act A m count (known m s ever) → Leads s w (moves act A m count order s ever w)
+  moves-leads : (s ever : State) (w : List Fact) → Func w → has w ⊆ known m s ever
+      → Inv act A m count s (known m s ever) → Conn act A m count (known m s ever) → Leads s w (moves act A m count order s ever w)
   unfolding moves run runs
   moves-leads s ever w fw ww I C = go (blackMet m s w) refl
     where
@@ -101,12 +102,15 @@ module _ (act : ℕ → Action) (A : ℕ) (m : Mode) (count : ℕ → ℕ) (orde
       go : (b : Bool) → blackMet m s w ≡ b → Leads s w (elim b [ true ↦ [] | false ↦ fill act path (value count s) order [] w ])
       go true e = record { below = tt; runs′ = tt; meets = blackMet→sub m s w (rw e tt) (λ v d h r. I .reds v d r (ww v d h)) }
       go false e =
-          let r = fill-meets act A m (K .sound) W s path (value count s) paths (I .reds) (I .ins) (value-at s W I) w fw ww order (Red m) [] (K .ordered) tt (λ u x h q. I .reds u x q (ww u x h)) in
-          let z = meets→runs act (withs (Red m) order) (K .covers) m w (fill act path (value count s) order [] w) s (r .0) in
-          record { below = all-map _ (λ i. i < A) (λ i o. o .below) (fill act path (value count s) order [] w) (r .1); runs′ = z .0; meets = z .1 }
+          let l : List ℕ = fill act path (value count s) order [] w in
+          let r = fill-meets act A m (K .sound) W s path (value count s) paths (I .reds) (I .ins) (value-at s W I) w fw ww
+          order (Red m) [] (K .ordered) tt (λ u x h q. I .reds u x q (ww u x h)) in
+          let z = meets→runs act (withs (Red m) order) (K .covers) m w l s (r .0) in
+          record { below = all-map _ (λ i. i < A) (λ i o. o .below) l (r .1); runs′ = z .0; meets = z .1 }
 
   -- the repaired list runs and meets the goal: X is the state of the relaxed run of the relaxed actions done so far
-  pub repairFrom-leads : (goal : List Fact) → Func goal → (l : List ℕ) (s ever X : State) → s ⊆ ever → All (λ i. i < A) l → X ⊆ known m s ever → T (runs act relaxed l X) → has goal ⊆ run act relaxed l X
+  pub repairFrom-leads : (goal : List Fact) → Func goal → (l : List ℕ) (s ever X : State) → s ⊆ ever → All (λ i. i < A) l
+      → X ⊆ known m s ever → T (runs act relaxed l X) → has goal ⊆ run act relaxed l X
       → Inv act A m count s (known m s ever) → Conn act A m count (known m s ever) → Leads s goal (repairFrom act A m count order goal l s ever)
   unfolding repairFrom run runs
   repairFrom-leads goal fg [] s ever X e b x r g I C = moves-leads s ever goal fg (λ v d h. x v d (g v d h)) I C
@@ -126,8 +130,10 @@ module _ (act : ℕ → Action) (A : ℕ) (m : Mode) (count : ℕ → ℕ) (orde
       let I′ = inv-same act A m count s′ (run act relaxed k W) (known m s′ ever′) n (J .0) in
       let C′ = conn-same act A m count (run act relaxed k W) (known m s′ ever′) n (J .1) in
       let rest : List ℕ = repairFrom act A m count order goal l s′ ever′ in
-      let up : step relaxed (act i) X ⊆ known m s′ ever′ = λ v d h. n .0 v d (rw (run-append act relaxed j (i ∷ []) W) (step-mono relaxed relaxed (act i) X (run act relaxed j W) (λ v t. t) (λ v d h. run-grows act j W v d (x v d h)) v d h)) in
-      let N = repairFrom-leads goal fg l s′ ever′ (step relaxed (act i) X) (everAfter-now act m k s ever e) (b .1) up (search and-r) g I′ C′ in
+      let X′ : State = step relaxed (act i) X in
+      let x₁ = step-mono relaxed relaxed (act i) X (run act relaxed j W) (λ v t. t) (λ v d h. run-grows act j W v d (x v d h)) in
+      let x′ : X′ ⊆ known m s′ ever′ = λ v d h. n .0 v d (rw (run-append act relaxed j (i ∷ []) W) (x₁ v d h)) in
+      let N = repairFrom-leads goal fg l s′ ever′ X′ (everAfter-now act m k s ever e) (b .1) x′ (search and-r) g I′ C′ in
       record {
         below = all-append (λ i. i < A) k rest kb (N .below);
         runs′ = runs-append act m k rest s kr (N .runs′);
