@@ -18,7 +18,7 @@ use Rattle.planning.proofs.Facts.{_⊆_, has-nil, has-cases, holds→su
 use Rattle.planning.proofs.Steps.{step-eff, step-keep, step-cases, All}
 use Rattle.planning.proofs.Formed.{Formed}
 use Rattle.planning.proofs.Plans.{isPlan-intro}
-use Rattle.planning.proofs.Forward.{Once, forwardRun-ran, forwardRun-length, forwardRun-once, unsolvable-none}
+use Rattle.planning.proofs.Forward.{Once, forwardRun-ran, forwardRun-length, forwardRun-once}
 
 module _ (act : ℕ → Action) where
   -- at each entry of the list, run from the state s, the table names the entry for its effects that are new, and for no other effect
@@ -183,10 +183,6 @@ module _ (t : Task) (F : Formed t) where
   unfolding relaxedPlan
   relaxedPlan-length = omega (arith, forwardRun-length t F, keep-length (act t) (firstBy (act t) (forwardRun t) (initial t)) (goals t) (forwardRun t))
 
-  -- there is a relaxed plan exactly if the forward run reaches the goals
-  pub solvable-of : (l : List ℕ) → isPlan t relaxed l ≡ true → solvable t ≡ true
-  solvable-of l p = go (solvable t) refl
-    where
-      go : (b : Bool) → solvable t ≡ b → b ≡ true
-      go true e = refl
-      go false e = absurd (unsolvable-none t F e relaxed l p)
+  -- with unsolvable-none: the forward run stops short of the goals exactly if no list is a relaxed plan
+  pub unsolvable-of : ((l : List ℕ) → isPlan t relaxed l ≡ true → ⊥) → solvable t ≡ false
+  unsolvable-of h = F→false (solvable t) (λ e. h (relaxedPlan t) (relaxedPlan-is-plan (T→true (solvable t) e)))
