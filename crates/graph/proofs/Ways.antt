@@ -1,0 +1,1 @@
+-- Ways of a graph whose inner nodes are below a bound, one node more at a time (Warshall).
