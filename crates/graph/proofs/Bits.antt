@@ -13,7 +13,7 @@ use lib.Pow.{shr-shr}
 use Rattle.state.specs.Sets.{inSet}
 use Rattle.state.proofs.Members.{inSet-single, inSet-or}
 
-abbrev xor : Bool → Bool → Bool
+abbrev pub xor : Bool → Bool → Bool
 xor true b = not b
 xor false b = b
 
@@ -41,7 +41,7 @@ inSet-and m n x =
     rw (and-shr m n x, and-mod (m / 2 ^ x) (n / 2 ^ x) 1)
     (digits-and (m / 2 ^ x % 2) (n / 2 ^ x % 2) (omega arith) (omega arith))
 
-inSet-xor : (m n x : ℕ) → inSet (bitXor m n) x ≡ xor (inSet m x) (inSet n x)
+pub inSet-xor : (m n x : ℕ) → inSet (bitXor m n) x ≡ xor (inSet m x) (inSet n x)
 unfolding inSet
 inSet-xor m n x =
     rw (xor-shr m n x, xor-mod (m / 2 ^ x) (n / 2 ^ x) 1)

@@ -22,7 +22,7 @@ use Rattle.state.specs.Sets.{inSet, setsOf, modeOf, actionOf, Listed}
 use Rattle.state.proofs.Members.{one-shl, inSet-single, inSet-empty, inSet-or}
 use Rattle.state.proofs.Effects.{factsIn-cons, factsIn-none}
 use Rattle.state.proofs.Rows.{listed, listed-act}
-use Rattle.graph.specs.Given.{Given, Facts, withAction}
+use Rattle.graph.specs.Given.{Given, Facts, Rows, withAction}
 use Rattle.graph.proofs.Bits.{inSet-and, inSet-without}
 use Rattle.graph.proofs.Searches.{both}
 
@@ -40,6 +40,9 @@ pub touches-++ : (fs gs : List Fact) (v : ℕ) → touches (fs ++ gs) v ≡ (tou
 unfolding touches
 touches-++ [] gs v = refl
 touches-++ (f ∷ fs) gs v = rw (touches-++ fs gs v) (sym (or-assoc (eqb v (f .var)) (touches fs v) (touches gs v)))
+
+pub fact-variable : (table : List ℕ) (a b : ℕ) → Facts table a b → (k f : ℕ) → a ≤ k → k < b → f ≡ getD table k 0 → f / 64 < 64
+fact-variable table a b F k f p q e = omega (arith, F .small k p q)
 
 -- the places of an action's effects, and of all its facts
 pub listed-effects : (table : List ℕ) (i : ℕ) → Listed table i → (a b : ℕ) → a ≡ effAt table i → b ≡ endAt table i → Facts table a b
@@ -204,6 +207,7 @@ arcs-more t i = fun-ext (λ u. fun-ext (λ v. rw add-one
 
 pub record Drawing (s : List ℕ) (n : ℕ) (rows : List ℕ) (i : ℕ) : Type 0 where
   pub within : i ≤ n
+  pub long : length rows ≡ 64
   pub drawn : setsOf rows ≡ arcsBelow (taskOf s) i
 
 module _ (s table : List ℕ) (paint n : ℕ) (G : Given s table paint n) where
@@ -215,7 +219,7 @@ module _ (s table : List ℕ) (paint n : ℕ) (G : Given s table paint n) where
 
   pub drawing-start : Drawing s n (replicate 64 0) 0
   unfolding arcsBelow someBelow setsOf
-  drawing-start = record { within = omega arith; drawn = fun-ext (λ u. fun-ext (λ v. rw (zeros 64 u, inSet-empty v, and-false (not (eqb u v))) (sym (and-false (black (taskOf s) u && black (taskOf s) v))))) }
+  drawing-start = record { within = omega arith; long = refl; drawn = fun-ext (λ u. fun-ext (λ v. rw (zeros 64 u, inSet-empty v, and-false (not (eqb u v))) (sym (and-false (black (taskOf s) u && black (taskOf s) v))))) }
     where
       zeros : (n w : ℕ) → _≡_ {A = ℕ} (getD (replicate n 0) w 0) 0
       zeros zero w = refl
@@ -223,10 +227,11 @@ module _ (s table : List ℕ) (paint n : ℕ) (G : Given s table paint n) where
       zeros (suc n) (suc w) = zeros n w
 
   module _ (rows : List ℕ) (i : ℕ) (D : Drawing s n rows i) where
-    pub drawing-turn : i < n → (rows′ : List ℕ) → setsOf rows′ ≡ withAction (modeOf paint) (actionOf table i) (setsOf rows) → Drawing s n rows′ (i + 1)
+    pub drawing-turn : i < n → (rows′ : List ℕ) → Rows rows′ (withAction (modeOf paint) (actionOf table i) (setsOf rows)) → Drawing s n rows′ (i + 1)
     drawing-turn h rows′ e = record {
       within = omega arith;
-      drawn = e ∙ rw (G .colours, given-act i h, D .drawn) (arcs-more (taskOf s) i);
+      long = e .long;
+      drawn = e .states ∙ rw (G .colours, given-act i h, D .drawn) (arcs-more (taskOf s) i);
     }
 
     pub drawing-end : n ≤ i → setsOf rows ≡ blackArc (taskOf s)

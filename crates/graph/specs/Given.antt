@@ -9,7 +9,7 @@ use lib.ListN.{length, getD}
 use Rattle.planning.specs.Record.{Fact, Action, Task, taskOf, recordCheck}
 use Rattle.planning.specs.Runs.{Mode, touches, actions, black}
 use Rattle.table.specs.Table.{Tabled}
-use Rattle.state.specs.Sets.{modeOf}
+use Rattle.state.specs.Sets.{setsOf, modeOf}
 use Rattle.graph.specs.declared.Found.{Found}
 use Rattle.graph.specs.declared.Found.the-variants.{At, Nothing}
 
@@ -29,6 +29,11 @@ pub record Facts (table : List ℕ) (a b : ℕ) : Type 0 where
 abbrev pub foundOf : Found → Option ℕ
 foundOf (At i) = some i
 foundOf Nothing = none
+
+-- 64 rows, and the graph that they state
+pub record Rows (rows : List ℕ) (s : ℕ → ℕ → Bool) : Type 0 where
+  pub long : length rows ≡ 64
+  pub states : setsOf rows ≡ s
 
 -- the arcs of s, and those that an action gives between variables of m
 unfoldable pub withAction : Mode → Action → (ℕ → ℕ → Bool) → ℕ → ℕ → Bool

@@ -13,7 +13,7 @@ ghost use Rattle.planning.specs.Painting.{blackArc, cyclic};
 ghost use Rattle.planning.specs.Repair.{order};
 ghost use Rattle.table.specs.Table.{factsIn};
 ghost use Rattle.state.specs.Sets.{inSet, setsOf, modeOf, actionOf, Listed};
-ghost use Rattle.graph.specs.Given.{Given, Facts, foundOf, withAction, through, via, StartBelow};
+ghost use Rattle.graph.specs.Given.{Given, Facts, Rows, foundOf, withAction, through, via, StartBelow};
 
 fn wide(x: u16) -> usize
     ensures { λ r. ⌜ r ≡ x ⌝ }
@@ -57,8 +57,8 @@ fn add_arcs(
     affected: u64,
     paint: u64,
 )
-    requires { ⌜ Facts (now table) from to ⌝ }
-    ensures { λ _. ⌜ setsOf (now (rows .exit)) ≡ (λ u v. setsOf (now (rows .entry)) u v || (touches (factsIn (now (table .entry)) from to) u && ((inSet paint u && not (eqb u v)) && inSet affected v))) ⌝ }
+    requires { ⌜ Facts (now table) from to × (length (now rows) ≡ 64) ⌝ }
+    ensures { λ _. ⌜ Rows (now (rows .exit)) (λ u v. setsOf (now (rows .entry)) u v || (touches (factsIn (now (table .entry)) from to) u && ((inSet paint u && not (eqb u v)) && inSet affected v))) ⌝ }
 {
     let mut k = from;
     while k < to {
@@ -70,8 +70,8 @@ fn add_arcs(
 
 // The arcs of action i: from the black variables that it mentions to those that it affects.
 fn add_action(rows: &mut [u64; 64], table: &[u16], i: usize, paint: u64)
-    requires { ⌜ Listed (now table) i ⌝ }
-    ensures { λ _. ⌜ setsOf (now (rows .exit)) ≡ withAction (modeOf paint) (actionOf (now (table .entry)) i) (setsOf (now (rows .entry))) ⌝ }
+    requires { ⌜ Listed (now table) i × (length (now rows) ≡ 64) ⌝ }
+    ensures { λ _. ⌜ Rows (now (rows .exit)) (withAction (modeOf paint) (actionOf (now (table .entry)) i) (setsOf (now (rows .entry)))) ⌝ }
 {
     let from = wide(table[4 * i + 1]);
     let mid = wide(table[4 * i + 2]);
@@ -107,8 +107,8 @@ fn extended(row: u64, k: usize, onward: u64) -> u64
 
 // Ways through k.
 fn join_at(rows: &mut [u64; 64], n: usize, k: usize)
-    requires { ⌜ (n ≤ 64) × (k < n) × StartBelow n (setsOf (now rows)) ⌝ }
-    ensures { λ _. ⌜ setsOf (now (rows .exit)) ≡ through k (setsOf (now (rows .entry))) ⌝ }
+    requires { ⌜ (n ≤ 64) × (k < n) × (length (now rows) ≡ 64) × StartBelow n (setsOf (now rows)) ⌝ }
+    ensures { λ _. ⌜ Rows (now (rows .exit)) (through k (setsOf (now (rows .entry)))) ⌝ }
 {
     let onward = rows[k];
     let mut u: usize = 0;

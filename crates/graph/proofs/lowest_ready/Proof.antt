@@ -1,3 +1,7 @@
+use mathlib.Core.Bool.{_&&_, not}
+use Rattle.planning.specs.Basics.{someBelow}
+use Rattle.state.specs.Sets.{inSet, setsOf}
+use Rattle.graph.proofs.Searches.{Searched, searched-start, searched-turn, searched-hit, searched-end}
 use borrow.Author.Needs.{needs}
 use mathlib.Core.Path.{_≡_, refl, sym, ap, _∙_}
 use Prim.Native.Nat.{ℕ, _+_, _*_, _/_, _^_, _-_, _≤_, _<_}
@@ -10,13 +14,13 @@ use Rattle.graph.proofs.lowest_ready.Lts as lts
 use Rattle.graph.proofs.is_ready.Reads as is-ready-reads
 
 abbrev Inv-loop : tie.InvT-loop
-Inv-loop rows left n v₀ v = ?
+Inv-loop rows left n v₀ v = Searched n (λ w. inSet left w && not (someBelow 64 (λ u. inSet left u && setsOf rows w u))) v
 
 abbrev μ-loop : tie.MeasureT-loop
-μ-loop rows left n v₀ v = ?
+μ-loop rows left n v₀ v = n - v
 
 loop-holds : tie.Need-loop-holds Inv-loop μ-loop
-loop-holds c = ?
+loop-holds c = searched-start _ _
 
 mul-is-ready : tie.Need-mul-is-ready Inv-loop μ-loop
 mul-is-ready c = search needs
@@ -28,7 +32,8 @@ is-ready-requires : tie.Need-is-ready-requires Inv-loop μ-loop
 is-ready-requires c κs = search needs
 
 returns : tie.Need-returns Inv-loop μ-loop
-returns c = ?
+unfolding setsOf
+returns c = searched-hit _ _ _ (c .before .before .before .before .loop .inv) (omega arith) (sym (c .before .is-ready .ensures) ∙ c .if1 .taken)
 
 add-v : tie.Need-add-v Inv-loop μ-loop
 add-v c = search needs
@@ -37,10 +42,11 @@ loop-less : tie.Need-loop-less Inv-loop μ-loop
 loop-less c = search needs
 
 loop-again : tie.Need-loop-again Inv-loop μ-loop
-loop-again c = ?
+unfolding setsOf
+loop-again c = searched-turn _ _ _ (c .before .before .before .before .loop .inv) (omega arith) (sym (c .before .is-ready .ensures) ∙ c .if1 .left)
 
 returns-2 : tie.Need-returns-2 Inv-loop μ-loop
-returns-2 c = ?
+returns-2 c = searched-end _ _ _ (c .before .loop .inv) (omega arith)
 
 pub lowest-ready-spec : {M : Type 1} → statement M
 lowest-ready-spec =
