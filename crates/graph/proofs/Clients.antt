@@ -23,7 +23,7 @@ use Rattle.planning.proofs.Tests.{T→true, true→T, F→false, or-l, or-r, or
 use Rattle.planning.proofs.Below.{First?, first-is, some-intro, some-elim}
 use Rattle.planning.proofs.Painting.{black-inside}
 use Rattle.state.specs.Sets.{inSet, setsOf, modeOf}
-use Rattle.state.proofs.Members.{inSet-empty, inSet-single}
+use Rattle.state.proofs.Members.{one-shl, inSet-empty, inSet-single}
 use Rattle.graph.proofs.Bits.{inSet-and, inSet-xor, xor, empty-is}
 use Rattle.graph.proofs.Searches.{both, false-not, first-same, first-found, some-found, some-lacks}
 
@@ -58,6 +58,16 @@ end-black : (t : Task) (v u : ℕ) → T (blackArc t v u) → T (black t u)
 unfolding blackArc
 end-black t v u a = search (and-l, and-r)
 
+-- the first k are taken, and `left` has the others
+pub record Taking (t : Task) (n : ℕ) (vars : List ℕ) (count left k : ℕ) : Type 0 where
+  pub within : k ≤ n
+  pub counted : count ≡ k
+  pub few : n ≤ 64
+  pub long : length vars ≡ 64
+  pub taken : ℕ → Bool
+  pub still : (u : ℕ) → inSet left u ≡ (black t u && not (taken u))
+  pub so-far : take k vars ++ clientsFirst n (blackArc t) (black t) (n - k) taken ≡ order t
+
 module _ (t : Task) (rows : List ℕ) (n : ℕ) (arcs : setsOf rows ≡ blackArc t) (all : n ≡ variables t) where
   -- the test that the code makes of a variable of `left`
   ready-same : (left : ℕ) (taken : ℕ → Bool) → ((u : ℕ) → inSet left u ≡ (black t u && not (taken u))) → n ≤ 64 → (v : ℕ)
@@ -90,16 +100,7 @@ module _ (t : Task) (rows : List ℕ) (n : ℕ) (arcs : setsOf rows ≡ blackArc
   unfolding clientsFirst
   takes-one j taken v e = rw (clientsFirst, e) refl
 
-  pub record Taking (vars : List ℕ) (count left k : ℕ) : Type 0 where
-    pub within : k ≤ n
-    pub counted : count ≡ k
-    pub few : n ≤ 64
-    pub long : length vars ≡ 64
-    pub taken : ℕ → Bool
-    pub still : (u : ℕ) → inSet left u ≡ (black t u && not (taken u))
-    pub so-far : take k vars ++ clientsFirst n (blackArc t) (black t) (n - k) taken ≡ order t
-
-  pub taking-start : (paint : ℕ) → modeOf paint ≡ black t → n ≤ 64 → Taking (replicate 64 0) 0 paint 0
+  pub taking-start : (paint : ℕ) → modeOf paint ≡ black t → n ≤ 64 → Taking t n (replicate 64 0) 0 paint 0
   unfolding modeOf order
   taking-start paint e b = record {
     within = omega arith;
@@ -111,7 +112,7 @@ module _ (t : Task) (rows : List ℕ) (n : ℕ) (arcs : setsOf rows ≡ blackArc
     so-far = let z : n - 0 ≡ n = omega arith in rw (z, all) refl;
   }
 
-  module _ (vars : List ℕ) (count left k : ℕ) (P : Taking vars count left k) where
+  module _ (vars : List ℕ) (count left k : ℕ) (P : Taking t n vars count left k) where
     same-first : (o : Option ℕ) → o ≡ first n (λ v. inSet left v && not (someBelow 64 (λ u. inSet left u && setsOf rows v u))) → first n (ready n (blackArc t) (black t) (P .taken)) ≡ o
     same-first o e = sym (e ∙ first-same n (λ v. inSet left v && not (someBelow 64 (λ u. inSet left u && setsOf rows v u))) (ready n (blackArc t) (black t) (P .taken)) (λ v _. ready-same left (P .taken) (P .still) (P .few) v))
 
@@ -126,14 +127,14 @@ module _ (t : Task) (rows : List ℕ) (n : ℕ) (arcs : setsOf rows ≡ blackArc
             let r : T ((black t w && not (P .taken w)) && not (someBelow n (λ u. not (P .taken u) && blackArc t w u))) = f .passes in
             (omega (arith, f .below), subst (λ (x : ℕ). T (inSet left x)) i (subst T (sym (P .still w)) (and-l (black t w && not (P .taken w)) (not (someBelow n (λ u. not (P .taken u) && blackArc t w u))) r)))
 
-    pub taking-turn : k < n → (v m : ℕ) → some v ≡ first n (λ v. inSet left v && not (someBelow 64 (λ u. inSet left u && setsOf rows v u))) → m ≡ bitXor left (2 ^ v) → Taking (set vars k v) (k + 1) m (k + 1)
-    taking-turn h v m e em = record {
+    pub taking-turn : k < n → (v : ℕ) → some v ≡ first n (λ v. inSet left v && not (someBelow 64 (λ u. inSet left u && setsOf rows v u))) → Taking t n (set vars k v) (k + 1) (bitXor left (1 * 2 ^ v % 2 ^ 64)) (k + 1)
+    taking-turn h v e = record {
       within = omega arith;
       counted = refl;
       few = P .few;
       long = length-set vars k v ∙ P .long;
       taken = λ u. eqb u v || P .taken u;
-      still = λ u. rw (em, inSet-xor left (2 ^ v) u, inSet-single v u) (go u (ℕ-discrete u v));
+      still = λ u. rw (one-shl v (omega (arith, taking-found v e .0, P .few)), inSet-xor left (2 ^ v) u, inSet-single v u) (go u (ℕ-discrete u v));
       so-far =
         let j : n - k ≡ suc (n - (k + 1)) = omega arith in
         rw (add-one k, take-suc-set vars k v (omega (arith, P .long, P .few)), append-assoc)

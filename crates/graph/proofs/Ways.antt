@@ -21,6 +21,7 @@ use Rattle.planning.specs.Painting.{blackArc, onCycle, cyclic}
 use Rattle.planning.proofs.Tests.{T→true, true→T, F→false, or-l, or-r, or-cases, and-l, and-r, and-i}
 use Rattle.planning.proofs.Below.{below-cases, some-intro, some-elim}
 use Rattle.planning.proofs.Graph.{reach-here, reach-move, reach-cases, reach-zero, reach-bound}
+use Rattle.planning.proofs.Formed.{formed-of}
 use Rattle.planning.proofs.Painting.{black-inside}
 use Rattle.state.specs.Sets.{inSet, setsOf, modeOf}
 use Rattle.state.proofs.Members.{inSet-or, inSet-empty}
@@ -196,6 +197,9 @@ module _ (s : ℕ → ℕ → Bool) where
         back t =
             let r = some-elim n (λ u. s v u && reach n s (pred n) u v) t in
             reach-via (pred n) v (r .0) v (and-l (s v (r .0)) (reach n s (pred n) (r .0) v) (r .2)) (and-r (s v (r .0)) (reach n s (pred n) (r .0) v) (r .2))
+
+pub few-variables : (s : List ℕ) (n : ℕ) → recordCheck s ≡ none → n ≡ variables (taskOf s) → n ≤ 64
+few-variables s n e q = omega (arith, formed-of s e .variables-max)
 
 -- the black causal graph
 blackArc-ends : (t : Task) (u v : ℕ) → T (blackArc t u v) → (u < variables t) × (v < variables t)
