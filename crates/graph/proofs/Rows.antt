@@ -21,7 +21,7 @@ use Rattle.table.specs.Table.{factOf, factsIn, preAt, effAt, endAt}
 use Rattle.state.specs.Sets.{inSet, setsOf, modeOf, actionOf, Listed}
 use Rattle.state.proofs.Members.{one-shl, inSet-single, inSet-empty, inSet-or}
 use Rattle.state.proofs.Effects.{factsIn-cons, factsIn-none}
-use Rattle.state.proofs.Rows.{listed, listed-act}
+use Rattle.state.proofs.Tabled.{tabled-action, tabled-listed}
 use Rattle.graph.specs.Given.{Given, Facts, Rows, withAction}
 use Rattle.graph.proofs.Bits.{inSet-and, inSet-without}
 use Rattle.graph.proofs.Searches.{both}
@@ -212,10 +212,10 @@ pub record Drawing (s : List ℕ) (n : ℕ) (rows : List ℕ) (i : ℕ) : Type 0
 
 module _ (s table : List ℕ) (paint n : ℕ) (G : Given s table paint n) where
   pub given-listed : (i : ℕ) → i < n → Listed table i
-  given-listed i h = listed (taskOf s) table (formed-of s (G .accepted)) (G .tabled) i (omega (arith, G .all))
+  given-listed i h = tabled-listed (taskOf s) table (formed-of s (G .accepted)) (G .tabled) i (omega (arith, G .all))
 
   pub given-act : (i : ℕ) → i < n → actionOf table i ≡ act (taskOf s) i
-  given-act i h = listed-act (taskOf s) table (formed-of s (G .accepted)) (G .tabled) i (omega (arith, G .all))
+  given-act i h = tabled-action (taskOf s) table i (G .tabled i (omega (arith, G .all)))
 
   pub drawing-start : Drawing s n (replicate 64 0) 0
   unfolding arcsBelow someBelow setsOf
