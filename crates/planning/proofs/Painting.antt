@@ -55,7 +55,7 @@ unfolding blackArc
 blackArc-ends t u v a = (search (and-l, and-r), search (and-l, and-r))
 
 -- the outside condition: the facts of a list on other variables
-has-outside : (v : ℕ) (fs : List Fact) (u x : ℕ) → u ≢ v → T (has fs u x) → T (has (outside v fs) u x)
+pub has-outside : (v : ℕ) (fs : List Fact) (u x : ℕ) → u ≢ v → T (has fs u x) → T (has (outside v fs) u x)
 unfolding outside
 has-outside v [] u x n h = h
 has-outside v (f ∷ fs) u x n h = go (eqb (f .var) v) refl (has-cases f fs u x h) (has-outside v fs u x n)
@@ -67,7 +67,7 @@ has-outside v (f ∷ fs) u x n h = go (eqb (f .var) v) refl (has-cases f fs u x 
     go false e (inl z) k = rw (z .0, z .1) (has-here f (outside v fs))
     go false e (inr z) k = has-there f (outside v fs) u x (k z)
 
-outside-has : (v : ℕ) (fs : List Fact) (u x : ℕ) → T (has (outside v fs) u x) → T (has fs u x)
+pub outside-has : (v : ℕ) (fs : List Fact) (u x : ℕ) → T (has (outside v fs) u x) → T (has fs u x)
 unfolding outside
 outside-has v [] u x h = h
 outside-has v (f ∷ fs) u x h = go (eqb (f .var) v) h (outside-has v fs u x)

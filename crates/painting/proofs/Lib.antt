@@ -1,0 +1,4 @@
+pub mod Walks
+pub mod Chains
+pub mod Marks
+pub mod Returns
