@@ -150,7 +150,7 @@ module _ (s table : List ℕ) (paint n : ℕ) (G : Given s table paint n) (Y : c
             (L .heads v e (omega (arith, r .0, M .small)) (omega (arith, r .1)) o)
         behind v e j (no q) o l k h = rw (getD-set-other chain i j (getD head f 0) 0 q) (L .links v e j o (omega arith) k h)
 
-    pub linking-turn : (head′ chain′ : List ℕ) → i < n → Linked (moveOf (modeOf paint) (actionOf table i .eff)) i head chain head′ chain′ → Linking s head′ chain′ i
+    linking-turn : (head′ chain′ : List ℕ) → i < n → Linked (moveOf (modeOf paint) (actionOf table i .eff)) i head chain head′ chain′ → Linking s head′ chain′ i
     linking-turn head′ chain′ h K = go (moveOf (black (taskOf s)) (act (taskOf s) i .eff)) moved
         (move-is (black (taskOf s)) (variables (taskOf s)) (count (taskOf s)) (F .variables-max) (F .count-max) 0 (act (taskOf s) i .eff) (F .eff-sorted i))
       where
@@ -170,6 +170,10 @@ module _ (s table : List ℕ) (paint n : ℕ) (G : Given s table paint n) (Y : c
             let a : head′ ≡ set head f i = K .heads ∙ rw o refl in
             let c : chain′ ≡ set chain i (getD head f 0) = K .links ∙ rw o refl in
             rw (a, c) (linked-move f M)
+
+  pub linking-back : (head chain : List ℕ) (i : ℕ) → Linking s head chain i → 0 < i → (head′ chain′ : List ℕ) → Linked (moveOf (modeOf paint) (actionOf table (i - 1) .eff)) (i - 1) head chain head′ chain′ → Linking s head′ chain′ (i - 1)
+  linking-back head chain i L h head′ chain′ K =
+      linking-turn head chain (i - 1) (subst (Linking s head chain) (omega arith) L) head′ chain′ (omega (arith, L .within, G .all)) K
 
   pub linking-end : (head chain : List ℕ) (i : ℕ) → Linking s head chain i → i ≤ 0 → Chained (taskOf s) head chain
   linking-end head chain i L h =

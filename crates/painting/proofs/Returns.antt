@@ -14,13 +14,16 @@ use lib.ListN.{length, getD}
 use Rattle.planning.specs.Basics.{Check, someBelow, first, refuseAt, andThen}
 use Rattle.planning.specs.Record.{Fact, Action, Task, taskOf, recordCheck}
 use Rattle.planning.specs.Runs.{State, has, look, holds, touches, variables, actions, act, black, count}
-use Rattle.planning.specs.Painting.{arcFrom, target, outside, returnBy, lacksReturn, cyclic, unreturned, acyclicCheck, returnCheck}
+use Rattle.planning.specs.Painting.{arcFrom, target, orZero, outside, returnBy, lacksReturn, cyclic, unreturned, acyclicCheck, returnCheck}
 use Rattle.planning.proofs.Tests.{T→true, true→T, F→false, or-l, or-r, or-cases, and-l, and-r, and-i}
 use Rattle.planning.proofs.Below.{First?, first-is, some-intro, some-elim}
 use Rattle.planning.proofs.Facts.{has-cases, has-here, has-there, has-nil, has-++, holds→sub, sub→holds, has→touches, Func, look-some, look-none, look-is}
 use Rattle.planning.proofs.Arcs.{Arc, arcFrom-elim, arcFrom-intro}
 use Rattle.planning.proofs.Formed.{Formed, Sorted, formed-of, sorted-func, sorted-has}
 use Rattle.planning.proofs.Painting.{black-inside, has-outside, outside-has, one-black}
+use Rattle.table.specs.Table.{factsIn, preAt, effAt}
+use Rattle.state.specs.Sets.{Listed}
+use Rattle.state.proofs.Tabled.{tabled-listed}
 use Rattle.graph.proofs.Searches.{both, false-not, first-same, some-same, some-found, some-lacks}
 use Rattle.painting.specs.Chains.{Next, Sets, Chained, moveOf}
 use Rattle.painting.specs.Returns.{returned, unreturnedFrom, arcsBy, lacksBy, lacks, asked, Ground}
@@ -241,7 +244,7 @@ module _ (t : Task) (m : State) (v d : ℕ) (head chain : List ℕ) (C : Chained
   unset : (k : ℕ) → (Sets t v d k → ⊥) → (has (act t k .eff) v d && holds m (act t k .pre)) ≡ false
   unset k n = F→false (has (act t k .eff) v d && holds m (act t k .pre)) (λ h. n (and-l (has (act t k .eff) v d) (holds m (act t k .pre)) h))
 
-  pub chasing-start : (j : ℕ) → v < 64 → d < 64 → j ≡ getD head (64 * v + d) 0 → Chasing t m v d j
+  chasing-start : (j : ℕ) → v < 64 → d < 64 → j ≡ getD head (64 * v + d) 0 → Chasing t m v d j
   chasing-start j vb db e =
       let N : Next (actions t) (Sets t v d) 0 j = subst (Next (actions t) (Sets t v d) 0) (sym e) (C .heads v d vb db o) in
       record {
@@ -276,3 +279,35 @@ module _ (t : Task) (m : State) (v d : ℕ) (head chain : List ℕ) (C : Chained
     pub chasing-end : j ≡ 65535 → false ≡ returned t m v d
     unfolding returned
     chasing-end e = sym (some-lacks (actions t) (λ j. has (act t j .eff) v d && holds m (act t j .pre)) (λ k b. J .passed k b (omega arith)))
+
+pub chasing-first : (t : Task) (m : State) (f : ℕ) (head chain : List ℕ) → Chained t head chain → T (black t (f / 64)) → actions t ≤ 1024 → f < 4096 → (j : ℕ) → j ≡ getD head f 0 → Chasing t m (f / 64) (f % 64) j
+chasing-first t m f head chain C o few l j e =
+    let q : f ≡ 64 * (f / 64) + f % 64 = omega arith in
+    chasing-start t m (f / 64) (f % 64) head chain C o few j (omega arith) (omega arith) (e ∙ ap (λ (g : ℕ). getD head g 0) q)
+
+-- the row of an action of the chain
+module _ (s table head chain : List ℕ) (G : Ground s table head chain) where
+  pub ground-few : actions (taskOf s) ≤ 1024
+  ground-few = formed-of s (G .accepted) .actions-max
+
+  pub ground-listed : (j : ℕ) → j < actions (taskOf s) → Listed table j
+  ground-listed j b = tabled-listed (taskOf s) table (formed-of s (G .accepted)) (G .tabled) j b
+
+  pub ground-pre : (j a b : ℕ) → j < actions (taskOf s) → a ≡ preAt table j → b ≡ effAt table j → factsIn table a b ≡ act (taskOf s) j .pre
+  ground-pre j a b h ea eb = rw (ea, eb) (G .tabled j h .pre)
+
+  pub chasing-row : (m : State) (v d j : ℕ) → Chasing (taskOf s) m v d j → (j ≡ 65535 → ⊥) → (j < 1024) × Listed table j
+  chasing-row m v d j J n =
+      let b : j < actions (taskOf s) = elim (J .valid) [ inl q ↦ absurd (n q) | inr q ↦ q .0 ] in
+      (omega (arith, ground-few), ground-listed j b)
+
+  pub chasing-on : (m : State) (v d j : ℕ) → Chasing (taskOf s) m v d j → T (black (taskOf s) v) → (n : j ≡ 65535 → ⊥) → (a b : ℕ) → a ≡ preAt table j → b ≡ effAt table j → holds m (factsIn table a b) ≡ false → (x : ℕ) → x ≡ getD chain j 0
+      → Chasing (taskOf s) m v d x × (j < x)
+  chasing-on m v d j J o n a b ea eb f x e =
+      let h = chasing-at (taskOf s) m v d head chain (G .chained) o ground-few j J n in
+      chasing-turn (taskOf s) m v d head chain (G .chained) o ground-few j J n x e (ap (holds m) (sym (ground-pre j a b (h .0) ea eb)) ∙ f)
+
+  pub chasing-found : (m : State) (v d j : ℕ) → Chasing (taskOf s) m v d j → T (black (taskOf s) v) → (n : j ≡ 65535 → ⊥) → (a b : ℕ) → a ≡ preAt table j → b ≡ effAt table j → holds m (factsIn table a b) ≡ true → true ≡ returned (taskOf s) m v d
+  chasing-found m v d j J o n a b ea eb f =
+      let h = chasing-at (taskOf s) m v d head chain (G .chained) o ground-few j J n in
+      chasing-hit (taskOf s) m v d head chain (G .chained) o ground-few j J n (ap (holds m) (sym (ground-pre j a b (h .0) ea eb)) ∙ f)

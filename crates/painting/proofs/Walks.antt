@@ -1,21 +1,23 @@
 -- Loops over the facts of an action: what is computed of all facts is what is computed of those still to come. One law for the
 -- move, the value asked and the test of marks.
 use mathlib.Core.Path.{_≡_, refl, sym, ap, _∙_}
+use mathlib.Core.Logic.{_⊎_, inl, inr}
 use mathlib.Core.Bool.{Bool, true, false}
 use mathlib.Core.List.{List, [], _∷_}
 use mathlib.Core.Option.{Option, none, some}
-use Prim.Native.Nat.{ℕ, _+_, _*_, _/_, _%_, _<_, _≤_}
+use Prim.Native.Nat.{ℕ, zero, suc, _+_, _-_, _*_, _/_, _%_, _<_, _≤_}
 use native.Mathlib.Omega.{arith}
 use borrow.Author.Tests.{eq-eqb, ne-eqb}
 use lib.Dec.{eqb}
-use lib.ListN.{length, getD}
+use lib.ListN.{length, getD, set}
 use Rattle.planning.specs.Record.{Fact}
 use Rattle.planning.specs.Runs.{Mode, State, look, holds}
-use Rattle.table.specs.Table.{factOf, factsIn}
-use Rattle.state.specs.Sets.{inSet, modeOf}
+use Rattle.table.specs.Table.{factOf, factsIn, effAt, endAt}
+use Rattle.state.specs.Sets.{inSet, modeOf, actionOf, Listed}
 use Rattle.state.proofs.Effects.{factsIn-cons, factsIn-none}
 use Rattle.graph.specs.Given.{Facts}
-use Rattle.painting.specs.Chains.{moveOf}
+use Rattle.graph.proofs.Rows.{listed-effects}
+use Rattle.painting.specs.Chains.{moveOf, Linked}
 use Rattle.painting.specs.Returns.{marked, asked}
 
 pub record Walking (A : Type 0) (of : List Fact → A) (table : List ℕ) (a b k : ℕ) : Type 0 where
@@ -59,6 +61,35 @@ move-skip paint f e fs = rw (moveOf, e) refl
 pub move-none : (m : Mode) → moveOf m [] ≡ 65535
 unfolding moveOf
 move-none m = refl
+
+-- a move is a fact
+pub move-small : (paint : ℕ) (table : List ℕ) (n a b : ℕ) → a + n ≡ b → Facts table a b → (moveOf (modeOf paint) (factsIn table a b) ≡ 65535) ⊎ (moveOf (modeOf paint) (factsIn table a b) < 4096)
+move-small paint table zero a b e F = inl (ap (moveOf (modeOf paint)) (factsIn-none table a b (omega arith)) ∙ move-none (modeOf paint))
+move-small paint table (suc n) a b e F =
+    go (inSet paint (getD table a 0 / 64)) refl (move-small paint table n (a + 1) b (omega arith) (record { rises = omega arith; within = F .within; small = λ k p q. F .small k (omega arith) q }))
+  where
+    all : moveOf (modeOf paint) (factsIn table a b) ≡ moveOf (modeOf paint) (factOf (getD table a 0) ∷ factsIn table (a + 1) b)
+    all = ap (moveOf (modeOf paint)) (factsIn-cons table a b (omega arith) (F .within))
+
+    go : (x : Bool) → inSet paint (getD table a 0 / 64) ≡ x → (moveOf (modeOf paint) (factsIn table (a + 1) b) ≡ 65535) ⊎ (moveOf (modeOf paint) (factsIn table (a + 1) b) < 4096)
+        → (moveOf (modeOf paint) (factsIn table a b) ≡ 65535) ⊎ (moveOf (modeOf paint) (factsIn table a b) < 4096)
+    go true q r = inr (rw (all ∙ move-hit paint (getD table a 0) q (factsIn table (a + 1) b)) (F .small a (omega arith) (omega arith)))
+    go false q r = rw (all ∙ move-skip paint (getD table a 0) q (factsIn table (a + 1) b)) r
+
+-- the move of action i
+module _ (paint : ℕ) (table : List ℕ) (i : ℕ) (L : Listed table i) (a b f : ℕ) (ea : a ≡ effAt table i) (eb : b ≡ endAt table i) (ef : f ≡ moveOf (modeOf paint) (factsIn table a b)) where
+  pub move-of-act : f ≡ moveOf (modeOf paint) (actionOf table i .eff)
+  unfolding actionOf
+  move-of-act = ef ∙ rw (ea, eb) refl
+
+  pub move-fact : (f ≡ 65535 → ⊥) → f < 4096
+  move-fact n = elim (move-small paint table (b - a) a b (omega (arith, L .eff-below)) (listed-effects table i L a b ea eb)) [ inl q ↦ absurd (n (ef ∙ q)) | inr q ↦ rw ef q ]
+
+  pub linked-none : (head chain : List ℕ) → f ≡ 65535 → Linked (moveOf (modeOf paint) (actionOf table i .eff)) i head chain head chain
+  linked-none head chain e = rw (← move-of-act) (record { heads = rw (eq-eqb f 65535 e) refl; links = rw (eq-eqb f 65535 e) refl })
+
+  pub linked-one : (head chain : List ℕ) → (f ≡ 65535 → ⊥) → Linked (moveOf (modeOf paint) (actionOf table i .eff)) i head chain (set head f i) (set chain i (getD head f 0))
+  linked-one head chain n = rw (← move-of-act) (record { heads = rw (ne-eqb f 65535 n) refl; links = rw (ne-eqb f 65535 n) refl })
 
 pub asked-hit : (v f : ℕ) → f / 64 ≡ v → (fs : List Fact) → asked (look (factOf f ∷ fs) v) ≡ f % 64
 unfolding asked look factOf

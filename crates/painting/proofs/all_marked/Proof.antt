@@ -32,13 +32,13 @@ wide-requires : tie.Need-wide-requires Inv-loop μ-loop
 wide-requires c κs = search needs
 
 mul-if1 : tie.Need-mul-if1 Inv-loop μ-loop
-mul-if1 c = search needs
+mul-if1 c = let l = c .before .before .before in let p = l .before .before .pre in let q = walking-small _ _ _ _ _ p _ (l .loop .inv) (omega arith) _ (c .wide .ensures) in omega (arith, q)
 
 element-copy-out-if1 : tie.Need-element-copy-out-if1 Inv-loop μ-loop
-element-copy-out-if1 c = search needs
+element-copy-out-if1 c = let l = c .before .before .before in let p = l .before .before .pre in let q = walking-small _ _ _ _ _ p _ (l .loop .inv) (omega arith) _ (c .wide .ensures) in q
 
 returns : tie.Need-returns Inv-loop μ-loop
-returns c = ?
+returns c = let l = c .before .before .before .before .before in let p = l .before .before .pre in walking-hit _ _ _ _ _ p _ (l .loop .inv) (omega arith) _ (c .before .before .wide .ensures) _ (marked-hit _ _ _ (c .if1 .taken))
 
 add-k : tie.Need-add-k Inv-loop μ-loop
 add-k c = search needs
@@ -47,7 +47,7 @@ loop-less : tie.Need-loop-less Inv-loop μ-loop
 loop-less c = search needs
 
 loop-again : tie.Need-loop-again Inv-loop μ-loop
-loop-again c = ?
+loop-again c = let l = c .before .before .before .before .before in let p = l .before .before .pre in walking-turn _ _ _ _ _ p _ (l .loop .inv) (omega arith) _ (c .before .before .wide .ensures) (marked-skip _ _ _ (c .if1 .left))
 
 returns-2 : tie.Need-returns-2 Inv-loop μ-loop
 returns-2 c = walking-end _ _ _ _ _ (c .before .before .before .pre) _ (c .before .loop .inv) (omega arith) _ (marked-none _ _)

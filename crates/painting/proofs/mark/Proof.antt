@@ -33,10 +33,10 @@ place-of-requires : tie.Need-place-of-requires Inv-loop μ-loop
 place-of-requires c κs = search needs
 
 mul-marks : tie.Need-mul-marks Inv-loop μ-loop
-mul-marks c = search needs
+mul-marks c = let l = c .before .before .before .before in let p = l .before .before .pre in omega (arith, marking-small _ _ _ _ _ _ (p .0) _ _ (l .loop .inv) (omega arith) (p .1) _ _ (c .before .wide .ensures) (c .place-of .ensures))
 
 element-write-marks : tie.Need-element-write-marks Inv-loop μ-loop
-element-write-marks c = search needs
+element-write-marks c = let l = c .before .before .before .before in let p = l .before .before .pre in marking-small _ _ _ _ _ _ (p .0) _ _ (l .loop .inv) (omega arith) (p .1) _ _ (c .before .wide .ensures) (c .place-of .ensures)
 
 add-k : tie.Need-add-k Inv-loop μ-loop
 add-k c = search needs
@@ -45,7 +45,7 @@ loop-less : tie.Need-loop-less Inv-loop μ-loop
 loop-less c = search needs
 
 loop-again : tie.Need-loop-again Inv-loop μ-loop
-loop-again c = ?
+loop-again c = let l = c .before .before .before .before in let p = l .before .before .pre in marking-turn _ _ _ _ _ _ (p .0) _ _ (l .loop .inv) (omega arith) _ _ (c .before .wide .ensures) (c .place-of .ensures)
 
 returns : tie.Need-returns Inv-loop μ-loop
 returns c = marking-end _ _ _ _ _ _ (c .before .before .before .pre .0) _ _ (c .before .loop .inv) (omega arith)
