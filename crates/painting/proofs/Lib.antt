@@ -2,3 +2,4 @@ pub mod Walks
 pub mod Chains
 pub mod Marks
 pub mod Returns
+pub mod Arcs

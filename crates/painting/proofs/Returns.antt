@@ -38,7 +38,7 @@ has-left (f ∷ fs) gs u x h = go (has-cases f fs u x h) (has-left fs gs u x)
     go (inl e) k = rw (e .0, e .1) (has-here f (fs ++ gs))
     go (inr h) k = has-there f (fs ++ gs) u x (k h)
 
-has-right : (fs gs : List Fact) (u x : ℕ) → T (has gs u x) → T (has (fs ++ gs) u x)
+pub has-right : (fs gs : List Fact) (u x : ℕ) → T (has gs u x) → T (has (fs ++ gs) u x)
 has-right [] gs u x h = h
 has-right (f ∷ fs) gs u x h = has-there f (fs ++ gs) u x (has-right fs gs u x h)
 

@@ -96,7 +96,7 @@ onward c =
     chasing-on _ _ _ _ (p .0) _ _ _ _ (l .loop .inv) (p .2) (n .loop-test .taken) _ _ (w2 .wide2 .ensures) (w3 .wide3 .ensures) (sym (m .all-marked .ensures) ∙ c .before .before .if1 .left) _ (c .wide4 .ensures)
 
 loop-less : tie.Need-loop-less Inv-loop μ-loop
-loop-less c = let q = onward c .1 in omega arith
+loop-less c = let r = row (c .before .before .before .before .before .before .before .before) in let q = onward c .1 in omega (arith, r .0)
 
 loop-again : tie.Need-loop-again Inv-loop μ-loop
 loop-again c = onward c .0
