@@ -100,6 +100,9 @@ module _ (s table head chain : List ℕ) (G : Ground s table head chain) (m : St
           let I = sorted-has (variables (taskOf s)) (count (taskOf s)) 0 (act (taskOf s) i .pre) (F .pre-sorted i) v x (look-some (act (taskOf s) i .pre) v x y) in
           absurd (omega (arith, I .val-below, F .count-max v))
 
+pub few-values : (s : List ℕ) (v n : ℕ) → recordCheck s ≡ none → n ≡ count (taskOf s) v → n ≤ 64
+few-values s v n e q = omega (arith, formed-of s e .count-max v)
+
 -- one action
 module _ (s table : List ℕ) (paint : ℕ) (head chain : List ℕ) (M : Moved s table paint head chain) (i : ℕ) (h : i < actions (taskOf s)) (marks : List ℕ) (U : Unmarked i marks)
     (a b c f : ℕ) (ea : a ≡ preAt table i) (eb : b ≡ effAt table i) (ec : c ≡ endAt table i) (ef : f ≡ moveOf (modeOf paint) (factsIn table b c)) where

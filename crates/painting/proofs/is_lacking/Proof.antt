@@ -1,3 +1,4 @@
+use borrow.Author.Needs.{needs}
 use Rattle.painting.proofs.Arcs.{the-move, lacking-none, lacking-move}
 use Rattle.painting.proofs.Returns.{ground-few, ground-listed}
 use Rattle.graph.proofs.Rows.{listed-effects, listed-facts}

@@ -1,4 +1,5 @@
-use Rattle.painting.proofs.Arcs.{asked-one, asked-all}
+use borrow.Author.Needs.{needs}
+use Rattle.painting.proofs.Arcs.{asked-all, asked-one, few-values}
 use Rattle.painting.proofs.Returns.{ground-few, ground-listed}
 use Rattle.graph.proofs.Rows.{listed-preconditions}
 use Rattle.planning.proofs.Painting.{black-inside}
@@ -66,7 +67,7 @@ cast-lacks-between-2 : tie.Need-cast-lacks-between-2
 cast-lacks-between-2 c = let p = c .before .before .before .before .before .before .before .before .before .pre in omega (arith, p .3, ground-few _ _ _ _ (p .0))
 
 lacks-between-requires-2 : tie.Need-lacks-between-requires-2
-lacks-between-requires-2 c κs = let p = c .before .before .before .before .before .before .before .before .before .pre in let q = formed-of _ (p .0 .accepted) .count-max _ in (p .0, p .1, p .2, omega arith, omega (arith, q, c .count .ensures))
+lacks-between-requires-2 c κs = let p = c .before .before .before .before .before .before .before .before .before .pre in (p .0, p .1, p .2, omega arith, few-values _ _ _ (p .0 .accepted) (c .count .ensures))
 
 returns-2 : tie.Need-returns-2
 returns-2 c = let p = c .before .before .before .before .before .before .before .before .before .before .pre in let k = c .before .before .before in let w2 = k .before in let w1 = w2 .before .before in c .lacks-between2 .ensures ∙ asked-all _ _ _ _ (p .0) _ _ _ _ _ (p .3) _ _ (w1 .wide .ensures) (w2 .wide2 .ensures) (k .asked-of .ensures) (omega arith) _ (c .before .count .ensures)
