@@ -89,7 +89,7 @@ module _ (l : List ℕ) (k t : ℕ) (h : k < t) (b : t ≤ length l) where
   unfolding putAll
   putAll-turn m ms = rw factsIn-cons refl
 
-factsIn-none : (l : List ℕ) (k t : ℕ) → k ≡ t → factsIn l k t ≡ []
+pub factsIn-none : (l : List ℕ) (k t : ℕ) → k ≡ t → factsIn l k t ≡ []
 unfolding factsIn
 factsIn-none l k t e = rw (e, slice-empty t l) refl
 

@@ -1,5 +1,6 @@
 pub mod Members
 pub mod Effects
-pub mod Tabled
 pub mod Loading
 pub mod Count
+pub mod Rows
+pub mod Tabled

@@ -1,0 +1,5 @@
+pub mod Walks
+pub mod Chains
+pub mod Marks
+pub mod Returns
+pub mod Arcs

@@ -1,0 +1,199 @@
+-- Marks: after action i has marked its facts, marked i are exactly those that a return of its move v = e may need: v = e itself,
+-- and its own facts on other variables.
+use mathlib.Core.Path.{_≡_, refl, sym, ap, _∙_, subst}
+use mathlib.Core.Logic.{_⊎_, inl, inr, _≢_}
+use mathlib.Core.Bool.{Bool, true, false, not, _&&_, _||_, or-assoc}
+use mathlib.Core.List.{List, [], _∷_, _++_}
+use Prim.Native.Nat.{ℕ, zero, suc, _+_, _-_, _*_, _/_, _%_, _<_, _≤_}
+use native.Mathlib.Omega.{arith}
+use native.Mathlib.Decide.{ℕ-discrete}
+use borrow.Author.Tests.{eq-eqb, ne-eqb}
+use lib.Dec.{T, eqb, eqb→eq, eqb-refl}
+use lib.ListN.{length, getD, set, replicate, length-set, length-replicate, getD-replicate}
+use lib.Seq.{getD-set-same, getD-set-other}
+use Rattle.planning.specs.Record.{Fact}
+use Rattle.planning.specs.Runs.{State, has}
+use Rattle.planning.proofs.Tests.{true→T, or-l, or-r, or-cases}
+use Rattle.planning.proofs.Facts.{has-here, has-there, has-nil, has-cases}
+use Rattle.table.specs.Table.{factOf, factsIn}
+use Rattle.state.proofs.Effects.{factsIn-cons, factsIn-none}
+use Rattle.graph.specs.Given.{Facts}
+use Rattle.painting.specs.Returns.{place, markAll, marked, Unmarked}
+
+pub place-own : (f g : ℕ) → g / 64 ≡ f / 64 → place f g ≡ f
+unfolding place
+place-own f g e = rw (eq-eqb (g / 64) (f / 64) e) refl
+
+pub place-other : (f g : ℕ) → (g / 64 ≡ f / 64 → ⊥) → place f g ≡ g
+unfolding place
+place-other f g n = rw (ne-eqb (g / 64) (f / 64) n) refl
+
+place-small : (f g : ℕ) → f < 4096 → g < 4096 → place f g < 4096
+place-small f g a b = go (ℕ-discrete (g / 64) (f / 64))
+  where
+    go : Dec (g / 64 ≡ f / 64) → place f g < 4096
+    go (yes e) = rw (place-own f g e) a
+    go (no n) = rw (place-other f g n) b
+
+-- the loop
+pub record Marking (table : List ℕ) (a b f i : ℕ) (marks₀ marks : List ℕ) (k : ℕ) : Type 0 where
+  pub from : a ≤ k
+  pub to : k ≤ b
+  pub so-far : markAll i f (factsIn table a b) marks₀ ≡ markAll i f (factsIn table k b) marks
+
+module _ (table : List ℕ) (a b f i : ℕ) (marks₀ : List ℕ) (F : Facts table a b) where
+  pub marking-start : Marking table a b f i marks₀ marks₀ a
+  marking-start = record { from = omega arith; to = F .rises; so-far = refl }
+
+  module _ (marks : List ℕ) (k : ℕ) (M : Marking table a b f i marks₀ marks k) where
+    pub marking-small : k < b → f < 4096 → (g p : ℕ) → g ≡ getD table k 0 → p ≡ place f g → p < 4096
+    marking-small h l g p e q = rw q (place-small f g l (omega (arith, F .small k (M .from) h)))
+
+    pub marking-turn : k < b → (g p : ℕ) → g ≡ getD table k 0 → p ≡ place f g → Marking table a b f i marks₀ (set marks p i) (k + 1)
+    unfolding markAll factOf
+    marking-turn h g p e q = record {
+      from = omega (arith, M .from);
+      to = omega arith;
+      so-far = M .so-far ∙ rw (factsIn-cons table k b h (F .within), markAll, number (getD table k 0), ← e, ← q) refl;
+    }
+      where
+        number : (w : ℕ) → 64 * (w / 64) + w % 64 ≡ w
+        number w = omega arith
+
+    pub marking-end : b ≤ k → marks ≡ markAll i f (factsIn table a b) marks₀
+    unfolding markAll
+    marking-end h = sym (M .so-far ∙ rw (factsIn-none table k b (omega (arith, M .to))) refl)
+
+-- variables and values below 64
+abbrev pub Small : List Fact → Type 0
+Small [] = Unit {0}
+Small (g ∷ gs) = (g .var < 64) × (g .val < 64) × Small gs
+
+-- some fact of the list is marked at p
+placed : ℕ → List Fact → ℕ → Bool
+placed f [] p = false
+placed f (g ∷ gs) p = eqb p (place f (64 * g .var + g .val)) || placed f gs p
+
+module _ (i f : ℕ) (l : f < 4096) where
+  unmarked-set : (marks : List ℕ) (p : ℕ) → p < 4096 → Unmarked (i + 1) marks → Unmarked (i + 1) (set marks p i)
+  unmarked-set marks p b U = record {
+    long = length-set marks p i ∙ U .long;
+    before = λ g h. go g h (ℕ-discrete g p);
+  }
+    where
+      go : (g : ℕ) → g < 4096 → Dec (g ≡ p) → (getD (set marks p i) g 0 < i + 1) ⊎ (getD (set marks p i) g 0 ≡ 65535)
+      go g h (yes e) = inl (rw (e, getD-set-same marks p i 0 (omega (arith, U .long))) (omega arith))
+      go g h (no e) = rw (getD-set-other marks p g i 0 e) (U .before g h)
+
+  pub unmarked-all : (fs : List Fact) (marks : List ℕ) → Small fs → Unmarked (i + 1) marks → Unmarked (i + 1) (markAll i f fs marks)
+  unfolding markAll
+  unmarked-all [] marks S U = U
+  unmarked-all (g ∷ gs) marks S U = unmarked-all gs (set marks (place f (64 * g .var + g .val)) i) (S .2)
+      (unmarked-set marks (place f (64 * g .var + g .val)) (place-small f (64 * g .var + g .val) l (omega (arith, S .0, S .1))) U)
+
+  marks-at : (fs : List Fact) (marks : List ℕ) → Small fs → length marks ≡ 4096 → (p : ℕ) → eqb (getD (markAll i f fs marks) p 0) i ≡ (placed f fs p || eqb (getD marks p 0) i)
+  unfolding markAll placed
+  marks-at [] marks S n p = refl
+  marks-at (g ∷ gs) marks S n p =
+      marks-at gs (set marks q i) (S .2) (length-set marks q i ∙ n) p ∙ go (ℕ-discrete p q)
+    where
+      q : ℕ
+      q = place f (64 * g .var + g .val)
+
+      hit : (x y z : Bool) → x ≡ true → (y || x) ≡ ((true || y) || z)
+      hit x true z e = refl
+      hit x false z e = e
+
+      go : Dec (p ≡ q) → (placed f gs p || eqb (getD (set marks q i) p 0) i) ≡ ((eqb p q || placed f gs p) || eqb (getD marks p 0) i)
+      go (yes e) = rw (e, getD-set-same marks q i 0 (omega (arith, n, place-small f (64 * g .var + g .val) l (omega (arith, S .0, S .1)))), eq-eqb q q refl) (hit (eqb i i) (placed f gs q) (eqb (getD marks q 0) i) (eq-eqb i i refl))
+      go (no e) = rw (ne-eqb p q e, getD-set-other marks q p i 0 e) refl
+
+-- what is marked
+module _ (f : ℕ) where
+  placed-elim : (fs : List Fact) (p : ℕ) → T (placed f fs p) → (u : ℕ) × (x : ℕ) × T (has fs u x) × (p ≡ place f (64 * u + x))
+  unfolding placed
+  placed-elim [] p h = absurd h
+  placed-elim (g ∷ gs) p h = go (or-cases (eqb p (place f (64 * g .var + g .val))) (placed f gs p) h) (placed-elim gs p)
+    where
+      go : T (eqb p (place f (64 * g .var + g .val))) ⊎ T (placed f gs p) → (T (placed f gs p) → (u : ℕ) × (x : ℕ) × T (has gs u x) × (p ≡ place f (64 * u + x))) → (u : ℕ) × (x : ℕ) × T (has (g ∷ gs) u x) × (p ≡ place f (64 * u + x))
+      go (inl e) k = (g .var, g .val, has-here g gs, eqb→eq p (place f (64 * g .var + g .val)) e)
+      go (inr e) k = let r = k e in (r .0, r .1, has-there g gs (r .0) (r .1) (r .2), r .3)
+
+  placed-intro : (fs : List Fact) (u x : ℕ) → T (has fs u x) → T (placed f fs (place f (64 * u + x)))
+  unfolding placed
+  placed-intro [] u x h = absurd (has-nil u x h)
+  placed-intro (g ∷ gs) u x h = go (has-cases g gs u x h) (placed-intro gs u x)
+    where
+      go : ((u ≡ g .var) × (x ≡ g .val)) ⊎ T (has gs u x) → (T (has gs u x) → T (placed f gs (place f (64 * u + x)))) → T (eqb (place f (64 * u + x)) (place f (64 * g .var + g .val)) || placed f gs (place f (64 * u + x)))
+      go (inl e) k = rw (e .0, e .1) (or-l (eqb (place f (64 * g .var + g .val)) (place f (64 * g .var + g .val))) (placed f gs (place f (64 * g .var + g .val))) (eqb-refl (place f (64 * g .var + g .val))))
+      go (inr e) k = or-r (eqb (place f (64 * u + x)) (place f (64 * g .var + g .val))) (placed f gs (place f (64 * u + x))) (k e)
+
+small-has : (fs : List Fact) → Small fs → (u x : ℕ) → T (has fs u x) → (u < 64) × (x < 64)
+small-has [] S u x h = absurd (has-nil u x h)
+small-has (g ∷ gs) S u x h = elim (has-cases g gs u x h) [ inl e ↦ (omega (arith, S .0, e .0), omega (arith, S .1, e .1)) | inr k ↦ small-has gs (S .2) u x k ]
+
+-- the facts that a return may need: m is the set of marked facts, fs are the facts of the action, v = e is its move
+pub record Allows (v e : ℕ) (fs : List Fact) (m : State) : Type 0 where
+  pub own : T (m v e)
+  pub only : (x : ℕ) → x < 64 → T (m v x) → x ≡ e
+  pub other : (u x : ℕ) → u ≢ v → T (has fs u x) → T (m u x)
+  pub others : (u x : ℕ) → u < 64 → x < 64 → u ≢ v → T (m u x) → T (has fs u x)
+
+pub marks-allow : (i f : ℕ) (fs : List Fact) (marks : List ℕ) → f < 4096 → Small fs → i < 65535 → Unmarked i marks → T (has fs (f / 64) (f % 64)) → Allows (f / 64) (f % 64) fs (marked i (markAll i f fs marks))
+unfolding marked
+marks-allow i f fs marks l S b U h = record {
+  own = mark-of (f / 64) (f % 64) (subst (λ (p : ℕ). T (placed f fs p)) own-place (placed-intro f fs (f / 64) (f % 64) h));
+  only = λ x c t. only-own x c (find (f / 64) x (omega arith) c t);
+  other = λ u x n g. mark-of u x (subst (λ (p : ℕ). T (placed f fs p)) (place-other f (64 * u + x) (λ e. n (away u x (small-has fs S u x g .1) e))) (placed-intro f fs u x g));
+  others = λ u x ub c n t. found u x c n (placed-elim f fs (64 * u + x) (find u x ub c t));
+}
+  where
+    own-place : place f (64 * (f / 64) + f % 64) ≡ 64 * (f / 64) + f % 64
+    own-place = let q : 64 * (f / 64) + f % 64 ≡ f = omega arith in rw q (place-own f f refl)
+
+    away : (u x : ℕ) → x < 64 → (64 * u + x) / 64 ≡ f / 64 → u ≡ f / 64
+    away u x c e = omega arith
+
+    mark-of : (u x : ℕ) → T (placed f fs (64 * u + x)) → T (eqb (getD (markAll i f fs marks) (64 * u + x) 0) i)
+    mark-of u x t = subst T (sym (marks-at i f l fs marks S (U .long) (64 * u + x))) (or-l (placed f fs (64 * u + x)) (eqb (getD marks (64 * u + x) 0) i) t)
+
+    -- nothing was marked i before
+    fresh : (p : ℕ) → p < 4096 → T (eqb (getD marks p 0) i) → ⊥
+    fresh p c t = let q = eqb→eq (getD marks p 0) i t in elim (U .before p c) [ inl k ↦ omega arith | inr k ↦ omega arith ]
+
+    find : (u x : ℕ) → u < 64 → x < 64 → T (eqb (getD (markAll i f fs marks) (64 * u + x) 0) i) → T (placed f fs (64 * u + x))
+    find u x ub xb t = elim (or-cases (placed f fs (64 * u + x)) (eqb (getD marks (64 * u + x) 0) i) (subst T (marks-at i f l fs marks S (U .long) (64 * u + x)) t)) [
+      | inl k ↦ k
+      | inr k ↦ absurd (fresh (64 * u + x) (omega arith) k)
+    ]
+
+    only-own : (x : ℕ) → x < 64 → T (placed f fs (64 * (f / 64) + x)) → x ≡ f % 64
+    only-own x c t = go (placed-elim f fs (64 * (f / 64) + x) t)
+      where
+        go : (u : ℕ) × (y : ℕ) × T (has fs u y) × (64 * (f / 64) + x ≡ place f (64 * u + y)) → x ≡ f % 64
+        go r = pick (ℕ-discrete ((64 * r .0 + r .1) / 64) (f / 64))
+          where
+            pick : Dec ((64 * r .0 + r .1) / 64 ≡ f / 64) → x ≡ f % 64
+            pick (yes e) = omega (arith, r .3, place-own f (64 * r .0 + r .1) e)
+            pick (no e) = absurd (e (omega (arith, r .3, place-other f (64 * r .0 + r .1) e)))
+
+    found : (u x : ℕ) → x < 64 → u ≢ f / 64 → (w : ℕ) × (y : ℕ) × T (has fs w y) × (64 * u + x ≡ place f (64 * w + y)) → T (has fs u x)
+    found u x c n r = pick (ℕ-discrete ((64 * r .0 + r .1) / 64) (f / 64))
+      where
+        pick : Dec ((64 * r .0 + r .1) / 64 ≡ f / 64) → T (has fs u x)
+        pick (yes e) = absurd (n (omega (arith, r .3, place-own f (64 * r .0 + r .1) e)))
+        pick (no e) =
+            let b = small-has fs S (r .0) (r .1) (r .2) in
+            let p : r .0 ≡ u = omega (arith, b .1, r .3, place-other f (64 * r .0 + r .1) e) in
+            let q : r .1 ≡ x = omega (arith, b .1, r .3, place-other f (64 * r .0 + r .1) e) in
+            subst (λ (z : ℕ). T (has fs u z)) q (subst (λ (z : ℕ). T (has fs z (r .1))) p (r .2))
+
+-- at the start nothing is marked
+pub unmarked-start : Unmarked 0 (replicate 4096 65535)
+unmarked-start = record {
+  long = length-replicate {A = ℕ} 4096 65535;
+  before = λ g h. inr (getD-replicate {A = ℕ} 4096 g 65535 0 h);
+}
+
+pub unmarked-more : (i : ℕ) (marks : List ℕ) → Unmarked i marks → Unmarked (i + 1) marks
+unmarked-more i marks U = record { long = U .long; before = λ g h. elim (U .before g h) [ inl k ↦ inl (omega arith) | inr k ↦ inr k ] }

@@ -1,0 +1,313 @@
+-- Check 8 by chains and marks. An action with the move v = e gives arcs of v alone, since 7 passes; its arc from d has its
+-- return exactly if some action sets v = d and needs marked facts alone.
+use mathlib.Core.Path.{_≡_, refl, sym, ap, _∙_, subst}
+use mathlib.Core.Logic.{_⊎_, inl, inr, _≢_}
+use mathlib.Core.Bool.{Bool, true, false, not, _&&_, _||_}
+use mathlib.Core.List.{List, [], _∷_, _++_}
+use mathlib.Core.Option.{Option, none, some}
+use Prim.Native.Nat.{ℕ, zero, suc, _+_, _-_, _*_, _/_, _%_, _<_, _≤_}
+use native.Mathlib.Omega.{arith}
+use native.Mathlib.Decide.{ℕ-discrete, decLt}
+use borrow.Author.Tests.{eq-eqb, ne-eqb, not-true, not-false}
+use lib.Dec.{T, T-not, not-T, eqb, eqb→eq, eqb-refl}
+use lib.ListN.{length, getD}
+use Rattle.planning.specs.Basics.{Check, someBelow, first, refuseAt, andThen}
+use Rattle.planning.specs.Record.{Fact, Action, Task, taskOf, recordCheck}
+use Rattle.planning.specs.Runs.{State, has, look, holds, touches, variables, actions, act, black, count}
+use Rattle.planning.specs.Painting.{arcFrom, target, orZero, outside, returnBy, lacksReturn, cyclic, unreturned, acyclicCheck, returnCheck}
+use Rattle.planning.proofs.Tests.{T→true, true→T, F→false, or-l, or-r, or-cases, and-l, and-r, and-i}
+use Rattle.planning.proofs.Below.{First?, first-is, some-intro, some-elim}
+use Rattle.planning.proofs.Facts.{has-cases, has-here, has-there, has-nil, has-++, holds→sub, sub→holds, has→touches, Func, look-some, look-none, look-is}
+use Rattle.planning.proofs.Arcs.{Arc, arcFrom-elim, arcFrom-intro}
+use Rattle.planning.proofs.Formed.{Formed, Sorted, formed-of, sorted-func, sorted-has}
+use Rattle.planning.proofs.Painting.{black-inside, has-outside, outside-has, one-black}
+use Rattle.table.specs.Table.{factsIn, preAt, effAt}
+use Rattle.state.specs.Sets.{Listed}
+use Rattle.state.proofs.Tabled.{tabled-listed}
+use Rattle.graph.proofs.Searches.{both, false-not, first-same, some-same, some-found, some-lacks}
+use Rattle.painting.specs.Chains.{Next, Sets, Chained, moveOf}
+use Rattle.painting.specs.Returns.{returned, unreturnedFrom, arcsBy, lacksBy, lacks, asked, Ground}
+use Rattle.painting.proofs.Chains.{Move, NoMove}
+use Rattle.painting.proofs.Marks.{Small, Allows}
+
+has-left : (fs gs : List Fact) (u x : ℕ) → T (has fs u x) → T (has (fs ++ gs) u x)
+has-left [] gs u x h = absurd (has-nil u x h)
+has-left (f ∷ fs) gs u x h = go (has-cases f fs u x h) (has-left fs gs u x)
+  where
+    go : ((u ≡ f .var) × (x ≡ f .val)) ⊎ T (has fs u x) → (T (has fs u x) → T (has (fs ++ gs) u x)) → T (has (f ∷ (fs ++ gs)) u x)
+    go (inl e) k = rw (e .0, e .1) (has-here f (fs ++ gs))
+    go (inr h) k = has-there f (fs ++ gs) u x (k h)
+
+pub has-right : (fs gs : List Fact) (u x : ℕ) → T (has gs u x) → T (has (fs ++ gs) u x)
+has-right [] gs u x h = h
+has-right (f ∷ fs) gs u x h = has-there f (fs ++ gs) u x (has-right fs gs u x h)
+
+outside-not : (v : ℕ) (fs : List Fact) (u x : ℕ) → T (has (outside v fs) u x) → u ≢ v
+unfolding outside
+outside-not v [] u x h = absurd (has-nil u x h)
+outside-not v (f ∷ fs) u x h = go (eqb (f .var) v) refl h (outside-not v fs u x)
+  where
+    rest : Bool → List Fact
+    rest b = elim b [ true ↦ outside v fs | false ↦ f ∷ outside v fs ]
+
+    go : (b : Bool) → eqb (f .var) v ≡ b → T (has (rest b) u x) → (T (has (outside v fs) u x) → u ≢ v) → u ≢ v
+    go true e h k = k h
+    go false e h k = elim (has-cases f (outside v fs) u x h) [
+      | inl q ↦ λ z. false-not (eqb (f .var) v) e (subst (λ (y : ℕ). T (eqb y v)) (q .0) (subst (λ (y : ℕ). T (eqb u y)) z (eqb-refl u)))
+      | inr q ↦ k q
+    ]
+
+-- facts of a formed task are small
+pub sorted-small : (n : ℕ) (count : ℕ → ℕ) → n ≤ 64 → ((v : ℕ) → count v ≤ 64) → (low : ℕ) (fs : List Fact) → Sorted n count low fs → Small fs
+sorted-small n count b c low [] S = tt
+sorted-small n count b c low (f ∷ fs) S = (omega (arith, S .1), omega (arith, S .2, c (f .var)), sorted-small n count b c (f .var + 1) fs (S .3))
+
+pub small-++ : (fs gs : List Fact) → Small fs → Small gs → Small (fs ++ gs)
+small-++ [] gs S R = R
+small-++ (f ∷ fs) gs S R = (S .0, S .1, small-++ fs gs (S .2) R)
+
+module _ (t : Task) (F : Formed t) where
+  pre-func : (i : ℕ) → Func (act t i .pre)
+  pre-func i = sorted-func (variables t) (count t) 0 (act t i .pre) (F .pre-sorted i)
+
+  eff-func : (i : ℕ) → Func (act t i .eff)
+  eff-func i = sorted-func (variables t) (count t) 0 (act t i .eff) (F .eff-sorted i)
+
+  pre-small : (i u x : ℕ) → T (has (act t i .pre) u x) → (u < 64) × (x < 64)
+  pre-small i u x h =
+      let I = sorted-has (variables t) (count t) 0 (act t i .pre) (F .pre-sorted i) u x h in
+      (omega (arith, I .var-below, F .variables-max), omega (arith, I .val-below, F .count-max u))
+
+  pub facts-small : (i : ℕ) → Small (act t i .pre ++ act t i .eff)
+  facts-small i = small-++ (act t i .pre) (act t i .eff) (sorted-small (variables t) (count t) (F .variables-max) (F .count-max) 0 (act t i .pre) (F .pre-sorted i))
+      (sorted-small (variables t) (count t) (F .variables-max) (F .count-max) 0 (act t i .eff) (F .eff-sorted i))
+
+  module _ (i v e : ℕ) (m : State) (sets : T (has (act t i .eff) v e)) (A : Allows v e (act t i .pre ++ act t i .eff) m) where
+    aim : target (act t) v i ≡ e
+    unfolding target orZero
+    aim = rw (look-is (act t i .eff) v e (eff-func i) sets (look (act t i .eff) v) refl) refl
+
+    union : List Fact
+    union = outside v (act t i .pre) ++ outside v (act t i .eff)
+
+    in-union : (u x : ℕ) → u ≢ v → T (has (act t i .pre ++ act t i .eff) u x) → T (has union u x)
+    unfolding union
+    in-union u x n h = elim (has-++ (act t i .pre) (act t i .eff) u x h) [
+      | inl k ↦ has-left (outside v (act t i .pre)) (outside v (act t i .eff)) u x (has-outside v (act t i .pre) u x n k)
+      | inr k ↦ has-right (outside v (act t i .pre)) (outside v (act t i .eff)) u x (has-outside v (act t i .eff) u x n k)
+    ]
+
+    of-union : (u x : ℕ) → T (has union u x) → T (has (act t i .pre ++ act t i .eff) u x)
+    unfolding union
+    of-union u x h = elim (has-++ (outside v (act t i .pre)) (outside v (act t i .eff)) u x h) [
+      | inl k ↦ has-left (act t i .pre) (act t i .eff) u x (outside-has v (act t i .pre) u x k)
+      | inr k ↦ has-right (act t i .pre) (act t i .eff) u x (outside-has v (act t i .eff) u x k)
+    ]
+
+    -- what returns is what sets v = d and needs marked facts alone
+    return-is : (d : ℕ) → d ≢ e → (j : ℕ) → returnBy t v d i j ≡ (has (act t j .eff) v d && holds m (act t j .pre))
+    unfolding returnBy union
+    return-is d n j = both (returnBy t v d i j) (has (act t j .eff) v d && holds m (act t j .pre)) there back
+      where
+        there : T ((arcFrom (act t) v (target (act t) v i) j && eqb (target (act t) v j) d) && holds (has (outside v (act t i .pre) ++ outside v (act t i .eff))) (outside v (act t j .pre))) → T (has (act t j .eff) v d && holds m (act t j .pre))
+        there h =
+            let a : T (arcFrom (act t) v (target (act t) v i) j) = search (and-l, and-r) in
+            let q : target (act t) v j ≡ d = eqb→eq (target (act t) v j) d (search (and-l, and-r)) in
+            let o : T (holds (has (outside v (act t i .pre) ++ outside v (act t i .eff))) (outside v (act t j .pre))) = search (and-l, and-r) in
+            let x = arcFrom-elim (act t) v (target (act t) v i) j (pre-func j) a in
+            and-i (has (act t j .eff) v d) (holds m (act t j .pre)) (subst (λ (y : ℕ). T (has (act t j .eff) v y)) q (x .into))
+            (sub→holds m (act t j .pre) (λ u y g. need u y g (ℕ-discrete u v) x o))
+          where
+            need : (u y : ℕ) → T (has (act t j .pre) u y) → Dec (u ≡ v) → Arc (act t) v j (target (act t) v i) (target (act t) v j)
+                → T (holds (has (outside v (act t i .pre) ++ outside v (act t i .eff))) (outside v (act t j .pre))) → T (m u y)
+            need u y g (yes z) x o =
+                let k : y ≡ e = x .from y (subst (λ (w : ℕ). T (has (act t j .pre) w y)) z g) ∙ aim in
+                rw (z, k) (A .own)
+            need u y g (no z) x o =
+                A .other u y z (of-union u y (holds→sub (has (outside v (act t i .pre) ++ outside v (act t i .eff))) (outside v (act t j .pre)) o u y (has-outside v (act t j .pre) u y z g)))
+
+        back : T (has (act t j .eff) v d && holds m (act t j .pre)) → T ((arcFrom (act t) v (target (act t) v i) j && eqb (target (act t) v j) d) && holds (has (outside v (act t i .pre) ++ outside v (act t i .eff))) (outside v (act t j .pre)))
+        back h =
+            let s : T (has (act t j .eff) v d) = search (and-l, and-r) in
+            let p : T (holds m (act t j .pre)) = search (and-l, and-r) in
+            let r = arcFrom-intro (act t) v (target (act t) v i) d j (eff-func j) (record {
+              from = λ x g. A .only x (pre-small j v x g .1) (holds→sub m (act t j .pre) p v x g) ∙ sym aim;
+              into = s;
+              leaves′ = λ z. n (sym z ∙ aim);
+            }) in
+            let q : T (eqb (target (act t) v j) d) = rw (r .1) (eqb-refl d) in
+            let a : T (arcFrom (act t) v (target (act t) v i) j) = r .0 in
+            let o : T (holds (has (outside v (act t i .pre) ++ outside v (act t i .eff))) (outside v (act t j .pre))) = sub→holds (has (outside v (act t i .pre) ++ outside v (act t i .eff))) (outside v (act t j .pre)) (λ u x g.
+              let z = outside-not v (act t j .pre) u x g in
+              let k = outside-has v (act t j .pre) u x g in
+              in-union u x z (A .others u x (pre-small j u x k .0) (pre-small j u x k .1) z (holds→sub m (act t j .pre) p u x k))) in
+            and-i (arcFrom (act t) v (target (act t) v i) j && eqb (target (act t) v j) d) (holds (has (outside v (act t i .pre) ++ outside v (act t i .eff))) (outside v (act t j .pre)))
+            (and-i (arcFrom (act t) v (target (act t) v i) j) (eqb (target (act t) v j) d) a q) o
+
+    returned-is : (d : ℕ) → d ≢ e → someBelow (actions t) (returnBy t v d i) ≡ returned t m v d
+    unfolding returned
+    returned-is d n = some-same (actions t) (returnBy t v d i) (λ j. has (act t j .eff) v d && holds m (act t j .pre)) (λ j _. return-is d n j)
+
+    module _ (ib : i < actions t) (Y : cyclic t ≡ none) (bv : T (black t v)) where
+      vb : v < variables t
+      vb = black-inside t v bv
+
+      -- an arc of v from d by action i that lacks its return
+      lack-of : (d : ℕ) → T (lacksReturn t i v d) → (d ≢ e) × ((x : ℕ) → T (has (act t i .pre) v x) → x ≡ d) × T (not (returned t m v d))
+      unfolding lacksReturn
+      lack-of d h =
+          let a : T (arcFrom (act t) v d i) = search (and-l, and-r) in
+          let x = arcFrom-elim (act t) v d i (pre-func i) a in
+          let n : d ≢ e = λ z. x .leaves′ (z ∙ sym aim) in
+          let r : T (not (someBelow (actions t) (returnBy t v d i))) = search (and-l, and-r) in
+          (n, x .from, subst (λ (b : Bool). T (not b)) (returned-is d n) r)
+
+      lack-intro : (d : ℕ) → d ≢ e → ((x : ℕ) → T (has (act t i .pre) v x) → x ≡ d) → T (not (returned t m v d)) → T (lacksReturn t i v d)
+      unfolding lacksReturn
+      lack-intro d n f r =
+          let a = arcFrom-intro (act t) v d e i (eff-func i) (record { from = f; into = sets; leaves′ = n }) in
+          let b : T (arcFrom (act t) v d i) = a .0 in
+          let q : T (not (someBelow (actions t) (returnBy t v d i))) = subst (λ (b : Bool). T (not b)) (sym (returned-is d n)) r in
+          and-i (black t v && arcFrom (act t) v d i) (not (someBelow (actions t) (returnBy t v d i))) (and-i (black t v) (arcFrom (act t) v d i) bv b) q
+
+      -- arcs of another black variable it has none
+      only-move : (w d : ℕ) → T (lacksReturn t i w d) → w ≡ v
+      unfolding lacksReturn
+      only-move w d h =
+          let a : T (arcFrom (act t) w d i) = search (and-l, and-r) in
+          let o : T (black t w) = search (and-l, and-r) in
+          let x = arcFrom-elim (act t) w d i (pre-func i) a in
+          one-black t F Y i w v ib (has→touches (act t i .eff) w (target (act t) w i) (x .into)) (has→touches (act t i .eff) v e sets) o bv
+
+      from-in : (a n k : ℕ) → k < n → a + k ≢ e → T (not (returned t m v (a + k))) → T (unreturnedFrom t m v e a n)
+      unfolding unreturnedFrom
+      from-in a n k b z r = some-intro n (λ k. not (eqb (a + k) e) && not (returned t m v (a + k))) k b (and-i (not (eqb (a + k) e)) (not (returned t m v (a + k))) (not-T (eqb (a + k) e) (λ q. z (eqb→eq (a + k) e q))) r)
+
+      from-out : (a n : ℕ) → T (unreturnedFrom t m v e a n) → (k : ℕ) × (k < n) × (a + k ≢ e) × T (not (returned t m v (a + k)))
+      unfolding unreturnedFrom
+      from-out a n h =
+          let r = some-elim n (λ k. not (eqb (a + k) e) && not (returned t m v (a + k))) h in
+          let k : ℕ = r .0 in
+          let p : T (not (eqb (a + k) e) && not (returned t m v (a + k))) = r .2 in
+          (k, r .1, λ z. T-not (eqb (a + k) e) (search and-l) (rw z (eqb-refl e)), search and-r)
+
+      pub lacks-is : lacksBy t m i v e ≡ lacks t i
+      unfolding lacksBy lacks
+      lacks-is = both (arcsBy (look (act t i .pre) v) t m v e) (someBelow (variables t) (λ v. someBelow (count t v) (lacksReturn t i v))) (there (look (act t i .pre) v) refl) back
+        where
+          at-v : (d : ℕ) → d < count t v → T (lacksReturn t i v d) → T (someBelow (variables t) (λ v. someBelow (count t v) (lacksReturn t i v)))
+          at-v d b h = some-intro (variables t) (λ v. someBelow (count t v) (lacksReturn t i v)) v vb (some-intro (count t v) (lacksReturn t i v) d b h)
+
+          there : (o : Option ℕ) → look (act t i .pre) v ≡ o → T (arcsBy o t m v e) → T (someBelow (variables t) (λ v. someBelow (count t v) (lacksReturn t i v)))
+          there none q h =
+              let r = from-out 0 (count t v) h in
+              at-v (0 + r .0) (omega (arith, r .1)) (lack-intro (0 + r .0) (r .2) (λ x g. absurd (look-none (act t i .pre) v x q g)) (r .3))
+          there (some d) q h =
+              let r = from-out d 1 h in
+              let z : d + r .0 ≡ d = omega (arith, r .1) in
+              let g : T (has (act t i .pre) v d) = look-some (act t i .pre) v d q in
+              at-v d (sorted-has (variables t) (count t) 0 (act t i .pre) (F .pre-sorted i) v d g .val-below)
+              (lack-intro d (λ y. r .2 (z ∙ y)) (λ x k. pre-func i v x d k g) (subst (λ (y : ℕ). T (not (returned t m v y))) z (r .3)))
+
+          look-here : (o : Option ℕ) → look (act t i .pre) v ≡ o → (d : ℕ) → d < count t v → T (lacksReturn t i v d) → T (arcsBy o t m v e)
+          look-here none q d b h =
+              let r = lack-of d h in
+              let z : 0 + d ≡ d = omega arith in
+              from-in 0 (count t v) d b (λ y. r .0 (sym z ∙ y)) (subst (λ (y : ℕ). T (not (returned t m v y))) (sym z) (r .2))
+          look-here (some x) q d b h =
+              let r = lack-of d h in
+              let z : x + 0 ≡ d = (omega (arith, r .1 x (look-some (act t i .pre) v x q))) in
+              from-in x 1 0 (omega arith) (λ y. r .0 (sym z ∙ y)) (subst (λ (y : ℕ). T (not (returned t m v y))) (sym z) (r .2))
+
+          back : T (someBelow (variables t) (λ v. someBelow (count t v) (lacksReturn t i v))) → T (arcsBy (look (act t i .pre) v) t m v e)
+          back h =
+              let r = some-elim (variables t) (λ v. someBelow (count t v) (lacksReturn t i v)) h in
+              let w : ℕ = r .0 in
+              let y = some-elim (count t w) (lacksReturn t i w) (r .2) in
+              let q = only-move w (y .0) (y .2) in
+              look-here (look (act t i .pre) v) refl (y .0) (subst (λ (z : ℕ). y .0 < count t z) q (y .1)) (subst (λ (z : ℕ). T (lacksReturn t i z (y .0))) q (y .2))
+
+  -- an action with no move has no arc
+  pub lacks-none : (i : ℕ) → NoMove (black t) (act t i .eff) → lacks t i ≡ false
+  unfolding lacks lacksReturn
+  lacks-none i absent = some-lacks (variables t) (λ v. someBelow (count t v) (lacksReturn t i v)) (λ v _. some-lacks (count t v) (lacksReturn t i v) (λ d _. F→false (lacksReturn t i v d) (λ h.
+      let a : T (arcFrom (act t) v d i) = search (and-l, and-r) in
+      let o : T (black t v) = search (and-l, and-r) in
+      absent v (target (act t) v i) o (arcFrom-elim (act t) v d i (pre-func i) a .into))))
+
+-- the chain of v = d, gone through up to action j
+pub record Chasing (t : Task) (m : State) (v d j : ℕ) : Type 0 where
+  pub valid : (j ≡ 65535) ⊎ ((j < actions t) × Sets t v d j)
+  pub passed : (k : ℕ) → k < actions t → k < j → (has (act t k .eff) v d && holds m (act t k .pre)) ≡ false
+
+module _ (t : Task) (m : State) (v d : ℕ) (head chain : List ℕ) (C : Chained t head chain) (o : T (black t v)) (few : actions t ≤ 1024) where
+  unset : (k : ℕ) → (Sets t v d k → ⊥) → (has (act t k .eff) v d && holds m (act t k .pre)) ≡ false
+  unset k n = F→false (has (act t k .eff) v d && holds m (act t k .pre)) (λ h. n (and-l (has (act t k .eff) v d) (holds m (act t k .pre)) h))
+
+  chasing-start : (j : ℕ) → v < 64 → d < 64 → j ≡ getD head (64 * v + d) 0 → Chasing t m v d j
+  chasing-start j vb db e =
+      let N : Next (actions t) (Sets t v d) 0 j = subst (Next (actions t) (Sets t v d) 0) (sym e) (C .heads v d vb db o) in
+      record {
+        valid = elim (N .found) [ inl q ↦ inl q | inr q ↦ inr (q .1, q .2) ];
+        passed = λ k b l. unset k (N .least k (omega arith) b l);
+      }
+
+  module _ (j : ℕ) (J : Chasing t m v d j) where
+    pub chasing-at : (j ≡ 65535 → ⊥) → (j < actions t) × Sets t v d j
+    chasing-at n = elim (J .valid) [ inl q ↦ absurd (n q) | inr q ↦ q ]
+
+    pub chasing-turn : (j ≡ 65535 → ⊥) → (x : ℕ) → x ≡ getD chain j 0 → holds m (act t j .pre) ≡ false → Chasing t m v d x × (j < x)
+    chasing-turn n x e f = (record { valid = elim (N .found) [ inl q ↦ inl q | inr q ↦ inr (q .1, q .2) ]; passed = λ k b l. go k b l (ℕ-discrete k j) },
+        elim (N .found) [ inl q ↦ omega (arith, chasing-at n .0) | inr q ↦ omega (arith, q .0) ])
+      where
+        N : Next (actions t) (Sets t v d) (j + 1) x
+        N = subst (Next (actions t) (Sets t v d) (j + 1)) (sym e) (C .links v d j o (chasing-at n .0) (chasing-at n .1))
+
+        later : (k : ℕ) → k < actions t → k < x → k ≢ j → Dec (k < j) → (has (act t k .eff) v d && holds m (act t k .pre)) ≡ false
+        later k b l z (yes y) = J .passed k b y
+        later k b l z (no y) = unset k (N .least k (omega arith) b l)
+
+        go : (k : ℕ) → k < actions t → k < x → Dec (k ≡ j) → (has (act t k .eff) v d && holds m (act t k .pre)) ≡ false
+        go k b l (yes z) = F→false (has (act t k .eff) v d && holds m (act t k .pre)) (λ h. false-not (holds m (act t j .pre)) f (subst (λ (y : ℕ). T (holds m (act t y .pre))) z (and-r (has (act t k .eff) v d) (holds m (act t k .pre)) h)))
+        go k b l (no z) = later k b l z (decLt k j)
+
+    pub chasing-hit : (j ≡ 65535 → ⊥) → holds m (act t j .pre) ≡ true → true ≡ returned t m v d
+    unfolding returned
+    chasing-hit n e = sym (some-found (actions t) (λ j. has (act t j .eff) v d && holds m (act t j .pre)) j (chasing-at n .0)
+        (T→true (has (act t j .eff) v d && holds m (act t j .pre)) (and-i (has (act t j .eff) v d) (holds m (act t j .pre)) (chasing-at n .1) (true→T (holds m (act t j .pre)) e))))
+
+    pub chasing-end : j ≡ 65535 → false ≡ returned t m v d
+    unfolding returned
+    chasing-end e = sym (some-lacks (actions t) (λ j. has (act t j .eff) v d && holds m (act t j .pre)) (λ k b. J .passed k b (omega arith)))
+
+pub chasing-first : (t : Task) (m : State) (f : ℕ) (head chain : List ℕ) → Chained t head chain → T (black t (f / 64)) → actions t ≤ 1024 → f < 4096 → (j : ℕ) → j ≡ getD head f 0 → Chasing t m (f / 64) (f % 64) j
+chasing-first t m f head chain C o few l j e =
+    let q : f ≡ 64 * (f / 64) + f % 64 = omega arith in
+    chasing-start t m (f / 64) (f % 64) head chain C o few j (omega arith) (omega arith) (e ∙ ap (λ (g : ℕ). getD head g 0) q)
+
+-- the row of an action of the chain
+module _ (s table head chain : List ℕ) (G : Ground s table head chain) where
+  pub ground-few : actions (taskOf s) ≤ 1024
+  ground-few = formed-of s (G .accepted) .actions-max
+
+  pub ground-listed : (j : ℕ) → j < actions (taskOf s) → Listed table j
+  ground-listed j b = tabled-listed (taskOf s) table (formed-of s (G .accepted)) (G .tabled) j b
+
+  pub ground-pre : (j a b : ℕ) → j < actions (taskOf s) → a ≡ preAt table j → b ≡ effAt table j → factsIn table a b ≡ act (taskOf s) j .pre
+  ground-pre j a b h ea eb = rw (ea, eb) (G .tabled j h .pre)
+
+  pub chasing-row : (m : State) (v d j : ℕ) → Chasing (taskOf s) m v d j → (j ≡ 65535 → ⊥) → (j < 1024) × Listed table j
+  chasing-row m v d j J n =
+      let b : j < actions (taskOf s) = elim (J .valid) [ inl q ↦ absurd (n q) | inr q ↦ q .0 ] in
+      (omega (arith, ground-few), ground-listed j b)
+
+  pub chasing-on : (m : State) (v d j : ℕ) → Chasing (taskOf s) m v d j → T (black (taskOf s) v) → (n : j ≡ 65535 → ⊥) → (a b : ℕ) → a ≡ preAt table j → b ≡ effAt table j → holds m (factsIn table a b) ≡ false → (x : ℕ) → x ≡ getD chain j 0
+      → Chasing (taskOf s) m v d x × (j < x)
+  chasing-on m v d j J o n a b ea eb f x e =
+      let h = chasing-at (taskOf s) m v d head chain (G .chained) o ground-few j J n in
+      chasing-turn (taskOf s) m v d head chain (G .chained) o ground-few j J n x e (ap (holds m) (sym (ground-pre j a b (h .0) ea eb)) ∙ f)
+
+  pub chasing-found : (m : State) (v d j : ℕ) → Chasing (taskOf s) m v d j → T (black (taskOf s) v) → (n : j ≡ 65535 → ⊥) → (a b : ℕ) → a ≡ preAt table j → b ≡ effAt table j → holds m (factsIn table a b) ≡ true → true ≡ returned (taskOf s) m v d
+  chasing-found m v d j J o n a b ea eb f =
+      let h = chasing-at (taskOf s) m v d head chain (G .chained) o ground-few j J n in
+      chasing-hit (taskOf s) m v d head chain (G .chained) o ground-few j J n (ap (holds m) (sym (ground-pre j a b (h .0) ea eb)) ∙ f)

@@ -1,0 +1,29 @@
+use Rattle.graph.specs.Given.{foundOf}
+use Rattle.planning.specs.Basics.{refuseAt}
+use native.Mathlib.Omega.{arith}
+use mathlib.Core.Path.{sym, ap, refl}
+use borrow.Author.Needs.{needs}
+use Rattle.painting.proofs.refused_at.Statement.{statement}
+use Rattle.painting.proofs.refused_at.Tie as tie
+use Rattle.painting.proofs.refused_at.Reads as reads
+use Rattle.painting.proofs.refused_at.Lts as lts
+
+enum-known-found : tie.Need-enum-known-found
+enum-known-found c = search needs
+
+enum-told : tie.Need-enum-told
+enum-told c = search needs
+
+returns : tie.Need-returns
+unfolding refuseAt
+returns c = rw (ap foundOf (c .enum-told .given .1)) refl
+
+cast-t4 : tie.Need-cast-t4
+cast-t4 c = omega (arith, c .before .before .before .pre _ (ap foundOf (c .before .found .given .1)))
+
+returns-2 : tie.Need-returns-2
+unfolding refuseAt
+returns-2 c = rw (ap foundOf (c .before .found .given .1)) refl
+
+pub refused-at-spec : {M : Type 1} → statement M
+refused-at-spec = tie.close (tie.spec enum-known-found enum-told returns cast-t4 returns-2)

@@ -1,0 +1,3 @@
+pub mod Chains
+pub mod Returns
+pub mod Answers

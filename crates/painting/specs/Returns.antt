@@ -1,0 +1,80 @@
+-- Returns of arcs, by marks: action i marks each fact that its return may need with its own number.
+use mathlib.Core.Path.{_≡_}
+use mathlib.Core.Logic.{_⊎_}
+use mathlib.Core.Bool.{Bool, true, false, not, _&&_}
+use mathlib.Core.List.{List, [], _∷_}
+use mathlib.Core.Option.{Option, none, some}
+use Prim.Native.Nat.{ℕ, _+_, _*_, _/_, _%_, _<_, _≤_}
+use lib.Dec.{eqb}
+use lib.ListN.{length, getD, set}
+use Rattle.planning.specs.Basics.{someBelow}
+use Rattle.planning.specs.Record.{Fact, Task, taskOf, recordCheck}
+use Rattle.planning.specs.Runs.{State, has, look, holds, variables, actions, act, black, count}
+use Rattle.planning.specs.Painting.{cyclic, lacksReturn}
+use Rattle.table.specs.Table.{Tabled}
+use Rattle.state.specs.Sets.{modeOf}
+use Rattle.painting.specs.Chains.{Chained}
+
+abbrev pub pickPlace : Bool → ℕ → ℕ → ℕ
+pickPlace true g f = f
+pickPlace false g f = g
+
+-- where an action that sets f marks its fact g: a fact of the same variable stands for f
+unfoldable pub place : ℕ → ℕ → ℕ
+place f g = pickPlace (eqb (g / 64) (f / 64)) g f
+
+-- the marks i of the facts of a list
+unfoldable pub markAll : ℕ → ℕ → List Fact → List ℕ → List ℕ
+markAll i f [] marks = marks
+markAll i f (g ∷ gs) marks = markAll i f gs (set marks (place f (64 * g .var + g .val)) i)
+
+-- the facts that are marked i
+unfoldable pub marked : ℕ → List ℕ → State
+marked i marks u x = eqb (getD marks (64 * u + x) 0) i
+
+-- no fact is marked by an action from i on
+pub record Unmarked (i : ℕ) (marks : List ℕ) : Type 0 where
+  pub long : length marks ≡ 4096
+  pub before : (g : ℕ) → g < 4096 → (getD marks g 0 < i) ⊎ (getD marks g 0 ≡ 65535)
+
+-- some action sets v = d and needs marked facts only
+unfoldable pub returned : Task → State → ℕ → ℕ → Bool
+returned t m v d = someBelow (actions t) (λ j. has (act t j .eff) v d && holds m (act t j .pre))
+
+-- for some d from a on, of n, other than e, none does
+unfoldable pub unreturnedFrom : Task → State → ℕ → ℕ → ℕ → ℕ → Bool
+unreturnedFrom t m v e a n = someBelow n (λ k. not (eqb (a + k) e) && not (returned t m v (a + k)))
+
+-- action i has an arc that lacks its return
+unfoldable pub lacks : Task → ℕ → Bool
+lacks t i = someBelow (variables t) (λ v. someBelow (count t v) (lacksReturn t i v))
+
+-- the value asked, 64 if none is
+unfoldable pub asked : Option ℕ → ℕ
+asked none = 64
+asked (some d) = d
+
+-- of action i, which sets v = e, the arc from the value needed, or the arcs from every value
+abbrev pub arcsBy : Option ℕ → Task → State → ℕ → ℕ → Bool
+arcsBy none t m v e = unreturnedFrom t m v e 0 (count t v)
+arcsBy (some d) t m v e = unreturnedFrom t m v e d 1
+
+unfoldable pub lacksBy : Task → State → ℕ → ℕ → ℕ → Bool
+lacksBy t m i v e = arcsBy (look (act t i .pre) v) t m v e
+
+-- what the search for a return stands on
+pub record Ground (s table head chain : List ℕ) : Type 0 where
+  pub accepted : recordCheck s ≡ none
+  pub tabled : Tabled (taskOf s) table
+  pub chained : Chained (taskOf s) head chain
+
+-- and with it that 7 passes, so that an action has one move at most
+pub record Moved (s table : List ℕ) (paint : ℕ) (head chain : List ℕ) : Type 0 where
+  pub ground : Ground s table head chain
+  pub colours : modeOf paint ≡ black (taskOf s)
+  pub acyclic : cyclic (taskOf s) ≡ none
+
+-- the answer r for action i, and the marks left for the next one
+pub record Lacking (t : Task) (i : ℕ) (marks : List ℕ) (r : Bool) : Type 0 where
+  pub answer : r ≡ lacks t i
+  pub unmarked : Unmarked (i + 1) marks
