@@ -124,3 +124,7 @@ bitsAt-turn s q j acc b l e eb h =
     let e2 : q + (j - q) ≡ j = omega arith in
     let h2 : getD s (q + (j - q)) 0 < 256 = rw e2 (omega arith) in
     rw (bitsAt-more s q (j - q) ((j + 1 - q) * 8) (omega arith) h2, e2, e, eb) refl
+
+-- the first 48 of 64 bits
+pub bitsAt-front : (s : List ℕ) (p w : ℕ) → w ≡ bitsAt s p 64 → w / 65536 ≡ bitsAt s p 48
+bitsAt-front s p w e = omega (arith, bitsAt-add s p 48 16, bitsAt-lt s (p + 48) 16)
