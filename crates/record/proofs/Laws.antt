@@ -16,7 +16,7 @@ use Rattle.planning.specs.Basics.{Check, refuse, check, andThen, inOrder, Answe
 use Rattle.planning.specs.Record.{variablesIn, actionsIn, countIn, headerChecks, recordChecks, recordCheck, preconditionsIn, effectsIn, effectsFrom, actionEnd, actionsEnd, fieldCheck, goalFits, variableChecks, variablesChecks, endsAt, recordEnd, factChecks, factsChecks, actionChecks, actionsChecks}
 use Rattle.planning.proofs.Fields.{actionEnd-le, actionsEnd-le}
 use Rattle.bits.proofs.Window.{bitsAt-lt, bitsAt-add}
-use Rattle.bits.proofs.Stages.{answer-done, stage-passes, skip, skip-stage, stops-stage, pass-end}
+use Rattle.bits.proofs.Stages.{stage-passes, skip, skip-stage, stops-stage, pass-end}
 use Rattle.bits.specs.Windows.{Leading}
 use Rattle.bits.specs.declared.Refusal.{Refusal}
 use Rattle.bits.specs.declared.Read.{Read}
@@ -73,59 +73,34 @@ module _ (s : List ℕ) (p : ℕ) (e : p ≡ recordEnd s) where
 
 -- a fact's two fields in one
 module _ (s : List ℕ) (p w : ℕ) (e : w ≡ bitsAt s p 12) where
-  pub fact-var : w / 64 ≡ bitsAt s p 6
+  fact-var : w / 64 ≡ bitsAt s p 6
   fact-var = omega (arith, bitsAt-add s p 6 6, bitsAt-lt s (p + 6) 6)
 
-  pub fact-val : w % 64 ≡ bitsAt s (p + 6) 6
+  fact-val : w % 64 ≡ bitsAt s (p + 6) 6
   fact-val = omega (arith, bitsAt-add s p 6 6, bitsAt-lt s (p + 6) 6)
 
--- the checks of a fact: its variable is refused, its value is not there, its value is refused, all is well
-module _ (s : List ℕ) (p low n v : ℕ) (en : n ≡ variablesIn s) (there : p + 6 ≤ 8 * length s) (ev : v ≡ bitsAt s p 6) where
-  pub var-above : (b : ℕ) → n ≤ v → refused 5 p ≡ answer (inOrder (factChecks s p low)) b
-  unfolding factChecks inOrder andThen check answer
-  var-above b h = rw (field-there s p 6 there, ← ev, ← en, le-ltb v n h) refl
+-- the checks of a fact: its variable, and its value against the count of that variable
+module _ (s : List ℕ) (p low n v : ℕ) (en : n ≡ variablesIn s) (ev : bitsAt s p 6 ≡ v) where
+  pub var-above : n ≤ v → check (ltb (bitsAt s p 6) (variablesIn s) && leb low (bitsAt s p 6)) 5 p ≡ refuse 5 p
+  unfolding check
+  var-above h = rw (ev, ← en, le-ltb v n h) refl
 
-  pub var-low : (b : ℕ) → v < n → v < low → refused 5 p ≡ answer (inOrder (factChecks s p low)) b
-  unfolding factChecks inOrder andThen check answer
-  var-low b h k = rw (field-there s p 6 there, ← ev, ← en, lt-ltb v n h, lt-leb low v k) refl
+  pub var-low : v < n → v < low → check (ltb (bitsAt s p 6) (variablesIn s) && leb low (bitsAt s p 6)) 5 p ≡ refuse 5 p
+  unfolding check
+  var-low h k = rw (ev, ← en, lt-ltb v n h, lt-leb low v k) refl
 
-  module _ (h : v < n) (k : low ≤ v) where
-    pub val-short : (b : ℕ) → 8 * length s < p + 12 → refused 1 (p + 6) ≡ answer (inOrder (factChecks s p low)) b
-    unfolding factChecks inOrder andThen check answer
-    val-short b g = rw (field-there s p 6 there, ← ev, ← en, lt-ltb v n h, le-leb low v k, field-short s (p + 6) 6 (omega arith)) refl
+  pub var-right : v < n → low ≤ v → check (ltb (bitsAt s p 6) (variablesIn s) && leb low (bitsAt s p 6)) 5 p ≡ none
+  unfolding check
+  var-right h k = rw (ev, ← en, lt-ltb v n h, le-leb low v k) refl
 
-    module _ (l d : ℕ) (el : l ≡ countIn s v) (ed : d ≡ bitsAt s (p + 6) 6) (all : p + 12 ≤ 8 * length s) where
-      pub val-above : (b : ℕ) → l ≤ d → refused 4 (p + 6) ≡ answer (inOrder (factChecks s p low)) b
-      unfolding factChecks inOrder andThen check answer
-      val-above b g =
-          rw (
-            field-there s p 6 there,
-            ← ev,
-            ← en,
-            lt-ltb v n h,
-            le-leb low v k,
-            field-there s (p + 6) 6 (omega arith),
-            ← ed,
-            ← el,
-            le-ltb d l g,
-          )
-          refl
+module _ (s : List ℕ) (p v l d : ℕ) (ev : bitsAt s p 6 ≡ v) (el : l ≡ countIn s v) (ed : bitsAt s (p + 6) 6 ≡ d) where
+  pub val-above : l ≤ d % 64 → check (ltb (bitsAt s (p + 6) 6) (countIn s (bitsAt s p 6))) 4 (p + 6) ≡ refuse 4 (p + 6)
+  unfolding check
+  val-above h = rw (ev, ← el, ed, le-ltb d l (omega (arith, ed, bitsAt-lt s (p + 6) 6))) refl
 
-      pub fact-right : d < l → done v ≡ answer (inOrder (factChecks s p low)) (bitsAt s p 6)
-      unfolding factChecks inOrder andThen check answer
-      fact-right g =
-          rw (
-            field-there s p 6 there,
-            ← ev,
-            ← en,
-            lt-ltb v n h,
-            le-leb low v k,
-            field-there s (p + 6) 6 (omega arith),
-            ← ed,
-            ← el,
-            lt-ltb d l g,
-          )
-          refl
+  pub val-right : d % 64 < l → check (ltb (bitsAt s (p + 6) 6) (countIn s (bitsAt s p 6))) 4 (p + 6) ≡ none
+  unfolding check
+  val-right h = rw (ev, ← el, ed, lt-ltb d l (omega (arith, ed, bitsAt-lt s (p + 6) 6))) refl
 
 -- a run of facts: one more that is right, one that is refused, and the end
 module _ (s : List ℕ) (p low n i : ℕ) (h : i < n) where
@@ -160,9 +135,17 @@ module _ (s : List ℕ) (p low f : ℕ) (counts : List ℕ) (e : f ≡ bitsAt s 
   known (no h) = absurd (omega (arith, S .value, C .behind (f / 64) (omega arith)))
 
   sound-passes : inOrder (factChecks s p low) ≡ none
+  unfolding factChecks inOrder andThen
   sound-passes =
       let h : f / 64 < variablesIn s = known (decLt (f / 64) (variablesIn s)) in
-      answer-done (inOrder (factChecks s p low)) (bitsAt s p 6) (f / 64) (sym (fact-right s p low (variablesIn s) (f / 64) refl (omega arith) (fact-var s p f e) h (S .rises) (getD counts (f / 64) 0) (f % 64) (C .right (f / 64) h) (fact-val s p f e) all (S .value))) .0
+      let ev = sym (fact-var s p f e) in
+      rw (
+        field-there s p 6 (omega arith),
+        var-right s p low (variablesIn s) (f / 64) refl ev h (S .rises),
+        field-there s (p + 6) 6 (omega arith),
+        val-right s p (f / 64) (getD counts (f / 64) 0) (f % 64) ev (C .right (f / 64) h) (sym (fact-val s p f e)) (omega (arith, S .value)),
+      )
+      refl
 
   sound-step : (m : ℕ) → inOrder (factsChecks s p low (suc m)) ≡ inOrder (factsChecks s (p + 12) (f / 64 + 1) m)
   unfolding factsChecks

@@ -1,5 +1,7 @@
-// The check of a record: 1 to 6, in bit order, at each field 1 before the rest. A function for each field or kind of field;
-// each takes the answer of the one below apart and hands on the refusal with its place.
+// The check of a record: 1 to 6, in bit order, at each field 1 before the rest. A whole variable, the head of an action and four
+// facts at a time are read in one load and tested quickly; these tests only say that all is sound. Where they do not, the fields
+// are gone through one by one: a function for each field or kind of field takes the answer of the one below apart and hands on
+// the refusal with its place.
 use bits::Read;
 use bits::Refusal;
 ghost use mathlib.Core.Path.{_≡_};
@@ -52,9 +54,9 @@ fn check_end(bytes: &[u8], at: u32) -> Read
     Read::Value(0)
 }
 
-// A fact that the record ends in.
-fn check_short_fact(bytes: &[u8], at: u32, low: u32, variables: u32) -> Read
-    requires { ⌜ (at ≤ 400000) × (8 * length (now bytes) < at + 12) × (variables ≡ variablesIn (now bytes)) ⌝ }
+// The fact at bit `at`, field by field, whose variable is to be at least `low`: its variable.
+fn check_fact(bytes: &[u8], at: u32, low: u32, variables: u32, counts: &[u8; 64]) -> Read
+    requires { ⌜ (at ≤ 400000) × (variables ≡ variablesIn (now bytes)) × (variables ≤ 64) × Counts (now bytes) (now counts) variables ⌝ }
     ensures { λ r. ⌜ readOf r ≡ answer (inOrder (factChecks (now (bytes .entry)) at low)) (bitsAt (now (bytes .entry)) at 6) ⌝ }
 {
     let a = take(bytes, at, 6);
@@ -73,35 +75,11 @@ fn check_short_fact(bytes: &[u8], at: u32, low: u32, variables: u32) -> Read
             place: at,
         });
     }
-    Read::Refused(Refusal {
-        number: 1,
-        place: at + 6,
-    })
-}
-
-// The fact at bit `at`, whose variable is to be at least `low`: its variable.
-fn check_fact(bytes: &[u8], at: u32, low: u32, variables: u32, counts: &[u8; 64]) -> Read
-    requires { ⌜ (at ≤ 400000) × (variables ≡ variablesIn (now bytes)) × (variables ≤ 64) × Counts (now bytes) (now counts) variables ⌝ }
-    ensures { λ r. ⌜ readOf r ≡ answer (inOrder (factChecks (now (bytes .entry)) at low)) (bitsAt (now (bytes .entry)) at 6) ⌝ }
-{
-    if bytes.len() < (at as usize + 19) / 8 {
-        return check_short_fact(bytes, at, low, variables);
-    }
-    let w = bits::read_bits(bytes, at as usize, 12);
-    let v = (w / 64) as u32;
-    if variables <= v {
-        return Read::Refused(Refusal {
-            number: 5,
-            place: at,
-        });
-    }
-    if v < low {
-        return Read::Refused(Refusal {
-            number: 5,
-            place: at,
-        });
-    }
-    if counts[v as usize] <= (w % 64) as u8 {
+    let b = take(bytes, at + 6, 6);
+    let Read::Value(value) = b else {
+        return b;
+    };
+    if counts[v as usize] <= (value % 64) as u8 {
         return Read::Refused(Refusal {
             number: 4,
             place: at + 6,

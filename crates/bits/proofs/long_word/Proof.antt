@@ -1,3 +1,4 @@
+-- Four bytes and four bytes behind them.
 use Prim.Native.Nat.{_^_, _<_}
 use native.Mathlib.Omega.{arith}
 use Rattle.bits.proofs.Window.{bitsAt-lt, bitsAt-long}

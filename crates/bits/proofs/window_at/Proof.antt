@@ -1,3 +1,4 @@
+-- The bits in front of `at` are shifted out, and each field of at most 57 bits lies within the eight bytes.
 use native.Mathlib.Omega.{arith}
 use Rattle.bits.proofs.Window.{bitsAt-window}
 use borrow.Author.Needs.{needs}

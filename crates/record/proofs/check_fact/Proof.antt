@@ -1,68 +1,91 @@
-use Rattle.record.proofs.Laws.{fact-var, fact-val, var-above, var-low, val-above, fact-right}
-use Rattle.bits.proofs.Window.{bitsAt-lt}
-use native.Mathlib.Omega.{arith}
-use mathlib.Core.Path.{_≡_, refl, sym, ap, _∙_}
+-- The checks one by one: each field is there (`passed`) or refuses (`stops`), each test is decided by the code's.
+use Rattle.record.proofs.Laws.{var-above, var-low, var-right, val-above, val-right}
+use Rattle.bits.proofs.Stages.{passed, skip, hit, stops, pass-end}
+use Rattle.planning.specs.Record.{factChecks}
+use Rattle.planning.specs.Basics.{done}
+use mathlib.Core.Path.{sym, ap, _∙_}
 use borrow.Author.Needs.{needs}
 use Rattle.record.proofs.check_fact.Statement.{statement}
 use Rattle.record.proofs.check_fact.Tie as tie
 use Rattle.record.proofs.check_fact.Reads as reads
 use Rattle.record.proofs.check_fact.Lts as lts
-use Rattle.bits.proofs.read_bits.Reads as read-bits-reads
-use Rattle.record.proofs.check_short_fact.Reads as check-short-fact-reads
+use Rattle.record.proofs.take.Reads as take-reads
 
-add-if1 : tie.Need-add-if1
-add-if1 c = search needs
+take-requires : tie.Need-take-requires
+take-requires c κs = search needs
 
-check-short-fact-requires : tie.Need-check-short-fact-requires
-check-short-fact-requires c κs = search needs
+enum-known-a : tie.Need-enum-known-a
+enum-known-a c = search needs
+
+enum-told : tie.Need-enum-told
+enum-told c = search needs
 
 returns : tie.Need-returns
-returns c = search needs
-
-read-bits-requires : tie.Need-read-bits-requires
-read-bits-requires c κs = search needs
-
-cast-v : tie.Need-cast-v
-cast-v c = record { fits = omega (arith, c .read-bits .ensures, bitsAt-lt (c .before .before .before .args .bytes .now) (c .before .before .before .args .at) 12) }
+unfolding factChecks
+returns c = stops _ _ _ _ _ _ (c .enum-told .given .1) (c .before .before .take .ensures)
 
 returns-2 : tie.Need-returns-2
-returns-2 c = var-above _ _ _ _ _ (search needs) (omega arith) (fact-var _ _ _ (c .before .read-bits .ensures)) _ (c .if2 .taken)
+unfolding factChecks
+returns-2 c = skip _ _ _ _ ((passed _ _ _ _ (c .before .before .a .given .1) (c .before .before .before .before .take .ensures)) .0) (hit _ _ _ _ _ (var-above _ _ _ _ _ (c .before .before .before .before .before .before .pre .1) ((passed _ _ _ _ (c .before .before .a .given .1) (c .before .before .before .before .take .ensures)) .1) (c .if1 .taken)))
 
 returns-3 : tie.Need-returns-3
-returns-3 c = var-low _ _ _ _ _ (search needs) (omega arith) (fact-var _ _ _ (c .before .before .read-bits .ensures)) _ (c .before .if2 .left) (c .if3 .taken)
+unfolding factChecks
+returns-3 c = skip _ _ _ _ ((passed _ _ _ _ (c .before .before .before .a .given .1) (c .before .before .before .before .before .take .ensures)) .0) (hit _ _ _ _ _ (var-low _ _ _ _ _ (c .before .before .before .before .before .before .before .pre .1) ((passed _ _ _ _ (c .before .before .before .a .given .1) (c .before .before .before .before .before .take .ensures)) .1) (c .before .if1 .left) (c .if2 .taken)))
 
-cast-if4 : tie.Need-cast-if4
-cast-if4 c = search needs
+add-take : tie.Need-add-take
+add-take c = search needs
 
-element-copy-out-if4 : tie.Need-element-copy-out-if4
-element-copy-out-if4 c = search needs
+take-requires-2 : tie.Need-take-requires-2
+take-requires-2 c κs = search needs
 
-cast-if4-2 : tie.Need-cast-if4-2
-cast-if4-2 c = search needs
+enum-known-b : tie.Need-enum-known-b
+enum-known-b c = search needs
 
-add-t20 : tie.Need-add-t20
-add-t20 c = search needs
+enum-told-2 : tie.Need-enum-told-2
+enum-told-2 c = search needs
 
 returns-4 : tie.Need-returns-4
-returns-4 c = val-above _ _ _ _ _ (search needs) (omega arith) (fact-var _ _ _ (c .before .before .before .before .read-bits .ensures)) (c .before .before .before .if2 .left) (c .before .before .if3 .left) _ _ (c .before .before .before .before .before .before .before .pre .3 .right _ (c .before .before .before .if2 .left)) (fact-val _ _ _ (c .before .before .before .before .read-bits .ensures)) (omega arith) _ (c .if4 .taken)
+unfolding factChecks
+returns-4 c = skip _ _ _ _ ((passed _ _ _ _ (c .before .before .before .before .before .before .a .given .1) (c .before .before .before .before .before .before .before .before .take .ensures)) .0) (skip _ _ _ _ (var-right _ _ _ _ _ (c .before .before .before .before .before .before .before .before .before .before .pre .1) ((passed _ _ _ _ (c .before .before .before .before .before .before .a .given .1) (c .before .before .before .before .before .before .before .before .take .ensures)) .1) (c .before .before .before .before .if1 .left) (c .before .before .before .if2 .left)) (stops _ _ _ _ _ _ (c .enum-told2 .given .1) (c .before .before .take2 .ensures)))
+
+cast-if3 : tie.Need-cast-if3
+cast-if3 c = search needs
+
+element-copy-out-if3 : tie.Need-element-copy-out-if3
+element-copy-out-if3 c = search needs
+
+cast-if3-2 : tie.Need-cast-if3-2
+cast-if3-2 c = search needs
+
+add-t19 : tie.Need-add-t19
+add-t19 c = search needs
 
 returns-5 : tie.Need-returns-5
-returns-5 c = fact-right _ _ _ _ _ (search needs) (omega arith) (fact-var _ _ _ (c .before .before .before .before .read-bits .ensures)) (c .before .before .before .if2 .left) (c .before .before .if3 .left) _ _ (c .before .before .before .before .before .before .before .pre .3 .right _ (c .before .before .before .if2 .left)) (fact-val _ _ _ (c .before .before .before .before .read-bits .ensures)) (omega arith) (c .if4 .left)
+unfolding factChecks
+returns-5 c = skip _ _ _ _ ((passed _ _ _ _ (c .before .before .before .before .before .before .before .before .before .a .given .1) (c .before .before .before .before .before .before .before .before .before .before .before .take .ensures)) .0) (skip _ _ _ _ (var-right _ _ _ _ _ (c .before .before .before .before .before .before .before .before .before .before .before .before .before .pre .1) ((passed _ _ _ _ (c .before .before .before .before .before .before .before .before .before .a .given .1) (c .before .before .before .before .before .before .before .before .before .before .before .take .ensures)) .1) (c .before .before .before .before .before .before .before .if1 .left) (c .before .before .before .before .before .before .if2 .left)) (skip _ _ _ _ ((passed _ _ _ _ (c .before .before .before .b .given .1) (c .before .before .before .before .before .take2 .ensures)) .0) (hit _ _ _ _ _ (val-above _ _ _ _ _ ((passed _ _ _ _ (c .before .before .before .before .before .before .before .before .before .a .given .1) (c .before .before .before .before .before .before .before .before .before .before .before .take .ensures)) .1) (c .before .before .before .before .before .before .before .before .before .before .before .before .before .pre .3 .right _ (c .before .before .before .before .before .before .before .if1 .left)) ((passed _ _ _ _ (c .before .before .before .b .given .1) (c .before .before .before .before .before .take2 .ensures)) .1) (c .if3 .taken)))))
+
+returns-6 : tie.Need-returns-6
+unfolding factChecks
+returns-6 c = ap done (sym ((passed _ _ _ _ (c .before .before .before .before .before .before .before .before .before .a .given .1) (c .before .before .before .before .before .before .before .before .before .before .before .take .ensures)) .1)) ∙ skip _ _ _ _ ((passed _ _ _ _ (c .before .before .before .before .before .before .before .before .before .a .given .1) (c .before .before .before .before .before .before .before .before .before .before .before .take .ensures)) .0) (skip _ _ _ _ (var-right _ _ _ _ _ (c .before .before .before .before .before .before .before .before .before .before .before .before .before .pre .1) ((passed _ _ _ _ (c .before .before .before .before .before .before .before .before .before .a .given .1) (c .before .before .before .before .before .before .before .before .before .before .before .take .ensures)) .1) (c .before .before .before .before .before .before .before .if1 .left) (c .before .before .before .before .before .before .if2 .left)) (skip _ _ _ _ ((passed _ _ _ _ (c .before .before .before .b .given .1) (c .before .before .before .before .before .take2 .ensures)) .0) (skip _ _ _ _ (val-right _ _ _ _ _ ((passed _ _ _ _ (c .before .before .before .before .before .before .before .before .before .a .given .1) (c .before .before .before .before .before .before .before .before .before .before .before .take .ensures)) .1) (c .before .before .before .before .before .before .before .before .before .before .before .before .before .pre .3 .right _ (c .before .before .before .before .before .before .before .if1 .left)) ((passed _ _ _ _ (c .before .before .before .b .given .1) (c .before .before .before .before .before .take2 .ensures)) .1) (c .if3 .left)) (pass-end _))))
 
 pub check-fact-spec : {M : Type 1} → statement M
 check-fact-spec =
     tie.close
     (tie.spec
-    add-if1
-    check-short-fact-requires
+    take-requires
+    enum-known-a
+    enum-told
     returns
-    read-bits-requires
-    cast-v
     returns-2
     returns-3
-    cast-if4
-    element-copy-out-if4
-    cast-if4-2
-    add-t20
+    add-take
+    take-requires-2
+    enum-known-b
+    enum-told-2
     returns-4
-    returns-5)
+    cast-if3
+    element-copy-out-if3
+    cast-if3-2
+    add-t19
+    returns-5
+    returns-6)

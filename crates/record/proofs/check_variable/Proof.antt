@@ -1,3 +1,4 @@
+-- The quick test found the 20 bits sound, or the checks are made field by field.
 use Rattle.record.proofs.Laws.{variable-sound}
 use native.Mathlib.Omega.{arith}
 use borrow.Author.Tests.{not-false}

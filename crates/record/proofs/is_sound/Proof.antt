@@ -1,3 +1,4 @@
+-- `false` says nothing; where the last test is the answer, both tests hold.
 use Rattle.record.proofs.Laws.{false-not}
 use borrow.Author.Needs.{needs}
 use Rattle.record.proofs.is_sound.Statement.{statement}

@@ -1,3 +1,4 @@
+-- `false` says nothing; where the last test is the answer, both tests hold. A bit times a number is no greater than it.
 use Rattle.record.proofs.Laws.{false-not, bit-times}
 use Prim.Native.Nat.{_/_, _%_}
 use native.Mathlib.Omega.{arith}

@@ -1,3 +1,4 @@
+-- The head's counts are the last 8 of its 24 bits; fields that are there and two lists that pass make the action pass.
 use Rattle.record.proofs.Laws.{action-sound}
 use native.Mathlib.Omega.{arith}
 use borrow.Author.Tests.{not-false}

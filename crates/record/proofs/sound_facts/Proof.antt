@@ -1,3 +1,4 @@
+-- The invariant: the checks of the whole list are those of the facts left, from variable `low` on (`Run`).
 use Rattle.record.proofs.Laws.{false-not, Run, run-start, run-turn, run-last, run-none}
 use borrow.Author.Tests.{ltb-true}
 use borrow.Author.Needs.{needs}

@@ -1,3 +1,4 @@
+-- The facts of a window, one more at each test that passes (`few-more`); 0 says nothing.
 use Rattle.record.proofs.Laws.{few-none, few-more, few-as}
 use Rattle.record.specs.Stages.{Few}
 use Prim.Native.Nat.{_+_, _/_, _%_, _^_}
