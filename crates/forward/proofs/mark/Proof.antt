@@ -1,0 +1,28 @@
+use borrow.Author.Needs.{needs}
+use Rattle.forward.proofs.mark.Statement.{statement}
+use Rattle.forward.proofs.mark.Tie as tie
+use Rattle.forward.proofs.mark.Reads as reads
+use Rattle.forward.proofs.mark.Lts as lts
+
+mul-ready : tie.Need-mul-ready
+mul-ready c = search needs
+
+element-copy-out-ready : tie.Need-element-copy-out-ready
+element-copy-out-ready c = search needs
+
+shl-ready : tie.Need-shl-ready
+shl-ready c = search needs
+
+mul-ready-2 : tie.Need-mul-ready-2
+mul-ready-2 c = search needs
+
+element-write-ready : tie.Need-element-write-ready
+element-write-ready c = search needs
+
+returns : tie.Need-returns
+returns c = ?
+
+pub mark-spec : {M : Type 1} → statement M
+mark-spec =
+    tie.close
+    (tie.spec mul-ready element-copy-out-ready shl-ready mul-ready-2 element-write-ready returns)

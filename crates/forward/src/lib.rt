@@ -1,0 +1,167 @@
+// The forward run. Its cost grows with the work and not with actions × steps: an action that does not apply waits for one of its
+// preconditions, and is looked at again when that fact is reached.
+use state::State;
+ghost use mathlib.Core.Path.{_≡_};
+ghost use mathlib.Core.Bool.{not};
+ghost use Prim.Native.Nat.{ℕ, _+_, _*_, _<_, _≤_};
+ghost use lib.ListN.{length, getD, set};
+ghost use lib.Dec.{T};
+ghost use Rattle.planning.specs.Runs.{has, holds};
+ghost use Rattle.table.specs.Table.{factsIn};
+ghost use Rattle.state.specs.Sets.{singles, setsOf, actionOf, Listed};
+ghost use Rattle.forward.specs.Waiting.{Unmet, member, Lowest, With, Without, Settled, Sites, Noted};
+
+fn wide(x: u16) -> usize
+    ensures { λ r. ⌜ r ≡ x ⌝ }
+{
+    x as usize
+}
+
+// The first place from `from` up to `to` whose fact is not in the state; `to` if each is.
+fn unmet(masks: &[u64; 64], sets: &[u64; 64], facts: &[u16], from: usize, to: usize) -> usize
+    requires { ⌜ (from ≤ to) × (to ≤ length (now facts)) × (now masks ≡ singles) × ((k : ℕ) → from ≤ k → k < to → getD (now facts) k 0 < 4096) ⌝ }
+    ensures { λ r. ⌜ Unmet (setsOf (now (sets .entry))) (now (facts .entry)) from to r ⌝ }
+{
+    let mut k = from;
+    while k < to {
+        let f = wide(facts[k]);
+        if !state::holds(masks, sets, f / 64, f % 64) {
+            return k;
+        }
+        k += 1;
+    }
+    to
+}
+
+// The lowest of the ready actions; 1,024 if there is none.
+fn lowest(ready: &[u64; 16]) -> usize
+    ensures { λ r. ⌜ Lowest (now (ready .entry)) r ⌝ }
+{
+    let mut w: usize = 0;
+    while w < 16 {
+        if ready[w] != 0 {
+            return 64 * w + u64::trailing_zeros(ready[w]) as usize;
+        }
+        w += 1;
+    }
+    1024
+}
+
+fn mark(ready: &mut [u64; 16], i: usize)
+    requires { ⌜ i < 1024 ⌝ }
+    ensures { λ _. ⌜ With (now (ready .entry)) i (now (ready .exit)) ⌝ }
+{
+    ready[i / 64] = ready[i / 64] | 1 << (i % 64);
+}
+
+fn unmark(ready: &mut [u64; 16], i: usize)
+    requires { ⌜ (i < 1024) × T (member (now ready) i) ⌝ }
+    ensures { λ _. ⌜ Without (now (ready .entry)) i (now (ready .exit)) ⌝ }
+{
+    ready[i / 64] = ready[i / 64] - (1 << (i % 64));
+}
+
+// Action j hangs on the chain of fact f, in front.
+fn hang(head: &mut [u16; 4096], next: &mut [u16; 1024], f: usize, j: u16)
+    requires { ⌜ (f < 4096) × (j < 1024) ⌝ }
+    ensures { λ _. ⌜ (now (head .exit) ≡ set (now (head .entry)) f j) × (now (next .exit) ≡ set (now (next .entry)) j (getD (now (head .entry)) f 0)) ⌝ }
+{
+    next[j as usize] = head[f];
+    head[f] = j;
+}
+
+// Action j is ready, or waits for a precondition that is not reached.
+fn settle(
+    masks: &[u64; 64],
+    sets: &[u64; 64],
+    table: &[u16],
+    head: &mut [u16; 4096],
+    next: &mut [u16; 1024],
+    ready: &mut [u64; 16],
+    j: u16,
+)
+    requires { ⌜ Listed (now table) j × (j < 1024) × (now masks ≡ singles) ⌝ }
+    ensures { λ _. ⌜ Settled (setsOf (now (sets .entry))) (actionOf (now (table .entry)) j) j (now (head .entry)) (now (next .entry)) (now (ready .entry)) (now (head .exit)) (now (next .exit)) (now (ready .exit)) ⌝ }
+{
+    let i = wide(j);
+    let to = wide(table[4 * i + 2]);
+    let k = unmet(masks, sets, table, wide(table[4 * i + 1]), to);
+    if k < to {
+        hang(head, next, wide(table[k]), j);
+    } else {
+        mark(ready, i);
+    }
+}
+
+// Settles the actions on the chain from h on. The facts of the table from place `from` up to `to` are still to be looked at.
+fn settle_all(
+    masks: &[u64; 64],
+    sets: &[u64; 64],
+    table: &[u16],
+    actions: usize,
+    head: &mut [u16; 4096],
+    next: &mut [u16; 1024],
+    ready: &mut [u64; 16],
+    h: u16,
+    from: usize,
+    to: usize,
+)
+    requires { ⌜ ((i : ℕ) → i < actions → Listed (now table) i) × (now masks ≡ singles) × Sites (actionOf (now table)) actions (setsOf (now sets)) (has (factsIn (now table) from to)) (now head) (now next) (now ready) h 1024 ⌝ }
+    ensures { λ _. ⌜ Sites (actionOf (now (table .entry))) actions (setsOf (now (sets .entry))) (has (factsIn (now (table .entry)) from to)) (now (head .exit)) (now (next .exit)) (now (ready .exit)) 65535 0 ⌝ }
+{
+    let mut j = h;
+    let mut left: usize = 1024;
+    while 0 < left {
+        if 1024 <= j {
+            return;
+        }
+        let after = next[j as usize];
+        settle(masks, sets, table, head, next, ready, j);
+        j = after;
+        left -= 1;
+    }
+}
+
+// Takes off the chains of the facts from place `from` up to `to`, which are reached, and settles their actions.
+fn wake(
+    masks: &[u64; 64],
+    sets: &[u64; 64],
+    table: &[u16],
+    actions: usize,
+    head: &mut [u16; 4096],
+    next: &mut [u16; 1024],
+    ready: &mut [u64; 16],
+    from: usize,
+    to: usize,
+)
+    requires { ⌜ ((i : ℕ) → i < actions → Listed (now table) i) × (now masks ≡ singles) × (from ≤ to) × (to ≤ length (now table)) × ((k : ℕ) → from ≤ k → k < to → getD (now table) k 0 < 4096) × Sites (actionOf (now table)) actions (setsOf (now sets)) (has (factsIn (now table) from to)) (now head) (now next) (now ready) 65535 0 ⌝ }
+    ensures { λ _. ⌜ Sites (actionOf (now (table .entry))) actions (setsOf (now (sets .entry))) (has (factsIn (now (table .entry)) to to)) (now (head .exit)) (now (next .exit)) (now (ready .exit)) 65535 0 ⌝ }
+{
+    let mut k = from;
+    while k < to {
+        let f = wide(table[k]);
+        let h = head[f];
+        head[f] = 65535;
+        k += 1;
+        settle_all(masks, sets, table, actions, head, next, ready, h, k, to);
+    }
+}
+
+// Action i is the first to reach those of its effects that are not in the state. True if there is one.
+fn note(masks: &[u64; 64], sets: &[u64; 64], table: &[u16], i: usize, first: &mut [u16; 4096]) -> bool
+    requires { ⌜ Listed (now table) i × (i < 1024) × (now masks ≡ singles) ⌝ }
+    ensures { λ r. ⌜ (r ≡ not (holds (setsOf (now (sets .entry))) (actionOf (now (table .entry)) i .eff))) × Noted (setsOf (now (sets .entry))) (has (actionOf (now (table .entry)) i .eff)) i (now (first .entry)) (now (first .exit)) ⌝ }
+{
+    let to = wide(table[4 * i + 3]);
+    let mut k = wide(table[4 * i + 2]);
+    let mut new = false;
+    while k < to {
+        let f = wide(table[k]);
+        if !state::holds(masks, sets, f / 64, f % 64) {
+            first[f] = i as u16;
+            new = true;
+        }
+        k += 1;
+    }
+    new
+}
