@@ -11,7 +11,7 @@ use lib.ListN.{length, getD, set}
 use Rattle.planning.specs.Record.{Action}
 use Rattle.planning.specs.Runs.{State, has, holds}
 use Rattle.table.specs.Table.{factsIn, preAt, effAt}
-use Rattle.state.specs.Sets.{setsOf, actionOf}
+use Rattle.state.specs.Sets.{inSet, setsOf, actionOf}
 
 -- fact f, 64 × variable + value, is in the state
 unfoldable pub reaches : State → ℕ → Bool
@@ -28,6 +28,12 @@ pub record Unmet (s : State) (facts : List ℕ) (a b r : ℕ) : Type 0 where
 unfoldable pub member : List ℕ → ℕ → Bool
 member ready i = setsOf ready (i / 64) (i % 64)
 
+-- t is the least member of a set of k
+pub record LowestIn (m k t : ℕ) : Type 0 where
+  pub below : t < k
+  pub is : T (inSet m t)
+  pub least : (x : ℕ) → x < t → T (inSet m x) → ⊥
+
 -- r is the least member, 1,024 if there is none
 pub record Lowest (ready : List ℕ) (r : ℕ) : Type 0 where
   pub few : r ≤ 1024
@@ -35,11 +41,13 @@ pub record Lowest (ready : List ℕ) (r : ℕ) : Type 0 where
   pub least : (j : ℕ) → j < r → T (member ready j) → ⊥
 
 -- a set with i, and without i
-abbrev pub With : List ℕ → ℕ → List ℕ → Type 0
-With ready i new = (j : ℕ) → j < 1024 → member new j ≡ (eqb j i || member ready j)
+pub record With (ready : List ℕ) (i : ℕ) (new : List ℕ) : Type 0 where
+  pub long : length new ≡ length ready
+  pub are : (j : ℕ) → member new j ≡ (eqb j i || member ready j)
 
-abbrev pub Without : List ℕ → ℕ → List ℕ → Type 0
-Without ready i new = (j : ℕ) → j < 1024 → member new j ≡ (member ready j && not (eqb j i))
+pub record Without (ready : List ℕ) (i : ℕ) (new : List ℕ) : Type 0 where
+  pub long : length new ≡ length ready
+  pub are : (j : ℕ) → member new j ≡ (member ready j && not (eqb j i))
 
 -- what settling action j does: it is ready, or hangs on the chain of a precondition f that is not reached
 pub data Settled (s : State) (a : Action) (j : ℕ) (head next ready head′ next′ ready′ : List ℕ) : Type 0 where
@@ -66,6 +74,9 @@ Chain next h (j ∷ l) = (h ≡ j) × (j < 1024) × Each (λ i. i ≢ j) l × Ch
 -- not reached, unless the chain is owed: it is to be taken off next.
 pub record Sites (act : ℕ → Action) (A : ℕ) (s owed : State) (head next ready : List ℕ) (h n : ℕ) : Type 0 where
   pub few : A ≤ 1024
+  pub head-long : length head ≡ 4096
+  pub next-long : length next ≡ 1024
+  pub ready-long : length ready ≡ 16
   pub w : ℕ → ℕ
   pub line : ℕ → List ℕ
   pub rest : List ℕ
@@ -79,7 +90,7 @@ pub record Sites (act : ℕ → Action) (A : ℕ) (s owed : State) (head next re
   pub needs : (j : ℕ) → j < A → w j < 4096 → T (has (act j .pre) (w j / 64) (w j % 64))
   pub unreached : (j : ℕ) → j < A → w j < 4096 → T (reaches s (w j)) → T (reaches owed (w j))
   pub out : (j : ℕ) → j < A → 4096 < w j → T (member ready j) ⊎ T (holds s (act j .eff))
-  pub sound : (j : ℕ) → j < 1024 → T (member ready j) → (j < A) × T (holds s (act j .pre))
+  pub sound : (j : ℕ) → T (member ready j) → (j < A) × T (holds s (act j .pre))
 
 -- each effect that was not reached is noted as reached by i
 pub record Noted (s : State) (effects : State) (i : ℕ) (first first′ : List ℕ) : Type 0 where

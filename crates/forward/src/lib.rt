@@ -9,7 +9,7 @@ ghost use lib.Dec.{T};
 ghost use Rattle.planning.specs.Runs.{has, holds};
 ghost use Rattle.table.specs.Table.{factsIn};
 ghost use Rattle.state.specs.Sets.{singles, setsOf, actionOf, Listed};
-ghost use Rattle.forward.specs.Waiting.{Unmet, member, Lowest, With, Without, Settled, Sites, Noted};
+ghost use Rattle.forward.specs.Waiting.{Unmet, member, LowestIn, Lowest, With, Without, Settled, Sites, Noted};
 
 fn wide(x: u16) -> usize
     ensures { λ r. ⌜ r ≡ x ⌝ }
@@ -33,6 +33,14 @@ fn unmet(masks: &[u64; 64], sets: &[u64; 64], facts: &[u16], from: usize, to: us
     to
 }
 
+// The lowest member of a set that has one.
+fn lowest_in(m: u64) -> usize
+    requires { ⌜ 0 < m ⌝ }
+    ensures { λ r. ⌜ LowestIn m 64 r ⌝ }
+{
+    u64::trailing_zeros(m) as usize
+}
+
 // The lowest of the ready actions; 1,024 if there is none.
 fn lowest(ready: &[u64; 16]) -> usize
     ensures { λ r. ⌜ Lowest (now (ready .entry)) r ⌝ }
@@ -40,7 +48,7 @@ fn lowest(ready: &[u64; 16]) -> usize
     let mut w: usize = 0;
     while w < 16 {
         if ready[w] != 0 {
-            return 64 * w + u64::trailing_zeros(ready[w]) as usize;
+            return 64 * w + lowest_in(ready[w]);
         }
         w += 1;
     }
@@ -48,14 +56,14 @@ fn lowest(ready: &[u64; 16]) -> usize
 }
 
 fn mark(ready: &mut [u64; 16], i: usize)
-    requires { ⌜ i < 1024 ⌝ }
+    requires { ⌜ (i < 1024) × (length (now ready) ≡ 16) ⌝ }
     ensures { λ _. ⌜ With (now (ready .entry)) i (now (ready .exit)) ⌝ }
 {
     ready[i / 64] = ready[i / 64] | 1 << (i % 64);
 }
 
 fn unmark(ready: &mut [u64; 16], i: usize)
-    requires { ⌜ (i < 1024) × T (member (now ready) i) ⌝ }
+    requires { ⌜ (i < 1024) × (length (now ready) ≡ 16) × T (member (now ready) i) ⌝ }
     ensures { λ _. ⌜ Without (now (ready .entry)) i (now (ready .exit)) ⌝ }
 {
     ready[i / 64] = ready[i / 64] - (1 << (i % 64));
@@ -80,7 +88,7 @@ fn settle(
     ready: &mut [u64; 16],
     j: u16,
 )
-    requires { ⌜ Listed (now table) j × (j < 1024) × (now masks ≡ singles) ⌝ }
+    requires { ⌜ Listed (now table) j × (j < 1024) × (length (now ready) ≡ 16) × (now masks ≡ singles) ⌝ }
     ensures { λ _. ⌜ Settled (setsOf (now (sets .entry))) (actionOf (now (table .entry)) j) j (now (head .entry)) (now (next .entry)) (now (ready .entry)) (now (head .exit)) (now (next .exit)) (now (ready .exit)) ⌝ }
 {
     let i = wide(j);
@@ -149,7 +157,7 @@ fn wake(
 
 // Action i is the first to reach those of its effects that are not in the state. True if there is one.
 fn note(masks: &[u64; 64], sets: &[u64; 64], table: &[u16], i: usize, first: &mut [u16; 4096]) -> bool
-    requires { ⌜ Listed (now table) i × (i < 1024) × (now masks ≡ singles) ⌝ }
+    requires { ⌜ Listed (now table) i × (i < 1024) × (length (now first) ≡ 4096) × (now masks ≡ singles) ⌝ }
     ensures { λ r. ⌜ (r ≡ not (holds (setsOf (now (sets .entry))) (actionOf (now (table .entry)) i .eff))) × Noted (setsOf (now (sets .entry))) (has (actionOf (now (table .entry)) i .eff)) i (now (first .entry)) (now (first .exit)) ⌝ }
 {
     let to = wide(table[4 * i + 3]);

@@ -1,3 +1,8 @@
+use mathlib.Core.Path.{_≡_, refl, sym, ap, _∙_}
+use lib.ListN.{length, getD}
+use lib.Bits.{bitOr}
+use Rattle.state.proofs.Members.{one-shl}
+use Rattle.forward.proofs.Bits.{marked}
 use borrow.Author.Needs.{needs}
 use Rattle.forward.proofs.mark.Statement.{statement}
 use Rattle.forward.proofs.mark.Tie as tie
@@ -20,7 +25,7 @@ element-write-ready : tie.Need-element-write-ready
 element-write-ready c = search needs
 
 returns : tie.Need-returns
-returns c = ?
+returns c = let a = c .before .args in marked (a .ready .now) (a .i) _ (search needs) (search needs) (ap (bitOr (getD (a .ready .now) _ 0)) (one-shl _ (search needs)))
 
 pub mark-spec : {M : Type 1} → statement M
 mark-spec =
