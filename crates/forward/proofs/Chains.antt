@@ -11,7 +11,7 @@ use native.Mathlib.Omega.{arith}
 use native.Mathlib.Decide.{ℕ-discrete, decLt}
 use borrow.Author.Tests.{ne-eqb, eq-eqb}
 use lib.Dec.{T, T-not, not-T, eqb, eqb→eq, eqb-refl}
-use lib.ListN.{length, getD, set, length-set}
+use lib.ListN.{length, getD, set, length-set, replicate, length-replicate, getD-replicate, List·getD-eq-default}
 use lib.Seq.{getD-set-same, getD-set-other}
 use Rattle.planning.specs.Basics.{tally, first}
 use Rattle.planning.specs.Record.{Action}
@@ -20,6 +20,8 @@ use Rattle.planning.specs.Relaxed.{adds}
 use Rattle.planning.proofs.Tests.{T→true, F→false, and-l, and-r, and-i, or-l, or-r, or-cases, T-cases}
 use Rattle.planning.proofs.Below.{First, First?, first-is, tally-le, tally-cases}
 use Rattle.planning.proofs.Facts.{_⊆_, holds→sub, sub→holds}
+use Rattle.state.specs.Sets.{setsOf}
+use Rattle.state.proofs.Members.{inSet-empty}
 use Rattle.forward.specs.Waiting.{reaches, member, Lowest, With, Without, Settled, goes, waits, mem, Each, Chain, Sites}
 
 -- a function changed at one place
@@ -376,3 +378,74 @@ module _ (act : ℕ → Action) (A : ℕ) (s owed : State) (head next ready : Li
       let k = S .sound i (L .is b) in
       first-some-is A (adds act s) i
       (record { below = k .0; passes = and-i (holds s (act i .pre)) (not (holds s (act i .eff))) (k .1) (rw e tt); least = λ j l t. L .least j l (adds-ready S free j (omega (arith, k .0)) t) })
+
+-- One action more: it is on no chain, and left to settle.
+module _ (act : ℕ → Action) (s owed : State) where
+  pub sites-enter : (j : ℕ) (head next ready : List ℕ) → Sites act j s owed head next ready 65535 0 → j < 1024 → 1024 ≤ getD next j 0 → Sites act (j + 1) s owed head next ready j 1
+  unfolding mem
+  sites-enter j head next ready S b e = record {
+    few = omega arith;
+    head-long = S .head-long;
+    next-long = S .next-long;
+    ready-long = S .ready-long;
+    w = put (S .w) j 4096;
+    line = S .line;
+    rest = j ∷ [];
+    left = omega arith;
+    chained = S .chained;
+    chained-rest = (refl, b, tt, e);
+    owns = λ f l. each-map (λ i. (S .w i ≡ f) × (i < j)) (λ i. (put (S .w) j 4096 i ≡ f) × (i < j + 1)) (λ i p. (put-other (S .w) j 4096 i (omega (arith, p .1)) ∙ p .0, omega (arith, p .1))) (S .line f) (S .owns f l);
+    owns-rest = ((put-same (S .w) j 4096, omega arith), tt);
+    on-line = put-cases (λ i y. i < j + 1 → y < 4096 → T (mem i (S .line y))) (S .w) j 4096 (λ _ l. absurd (omega arith)) (λ i q l. S .on-line i (omega arith));
+    on-rest = put-cases (λ i y. i < j + 1 → y ≡ 4096 → T (mem i (j ∷ []))) (S .w) j 4096 (λ _ _. or-l (eqb j j) (mem j []) (eqb-refl j)) (λ i q l z. absurd (rw (empty-by-length (S .rest) (S .left)) at (S .on-rest i (omega arith) z)));
+    needs = put-cases (λ i y. i < j + 1 → y < 4096 → T (has (act i .pre) (y / 64) (y % 64))) (S .w) j 4096 (λ _ l. absurd (omega arith)) (λ i q l. S .needs i (omega arith));
+    unreached = put-cases (λ i y. i < j + 1 → y < 4096 → T (reaches s y) → T (reaches owed y)) (S .w) j 4096 (λ _ l. absurd (omega arith)) (λ i q l. S .unreached i (omega arith));
+    out = put-cases (λ i y. i < j + 1 → 4096 < y → T (member ready i) ⊎ T (holds s (act i .eff))) (S .w) j 4096 (λ _ l. absurd (omega arith)) (λ i q l. S .out i (omega arith));
+    sound = λ i m. let k = S .sound i m in (omega (arith, k .0), k .1);
+  }
+
+  -- the actions below j are settled, and no link is set from j on
+  pub record Entered (head next ready : List ℕ) (j : ℕ) : Type 0 where
+    pub sites : Sites act j s owed head next ready 65535 0
+    pub unlinked : (x : ℕ) → j ≤ x → x < 1024 → getD next x 0 ≡ 65535
+
+  pub entered-start : (head next ready : List ℕ) → head ≡ replicate 4096 65535 → next ≡ replicate 1024 65535 → ready ≡ replicate 16 0 → Entered head next ready 0
+  unfolding member setsOf
+  entered-start head next ready eh en er = rw (eh, en, er) (record {
+    sites = record {
+      few = omega arith;
+      head-long = length-replicate 4096 65535;
+      next-long = length-replicate 1024 65535;
+      ready-long = length-replicate 16 0;
+      w = λ _. 0;
+      line = λ _. [];
+      rest = [];
+      left = omega arith;
+      chained = λ f l. rw (getD-replicate 4096 f 65535 0 l) (omega arith);
+      chained-rest = omega arith;
+      owns = λ f l. tt;
+      owns-rest = tt;
+      on-line = λ j b. absurd (omega arith);
+      on-rest = λ j b. absurd (omega arith);
+      needs = λ j b. absurd (omega arith);
+      unreached = λ j b. absurd (omega arith);
+      out = λ j b. absurd (omega arith);
+      sound = λ j m. absurd (rw (zeros 16 (j / 64), inSet-empty (j % 64)) at m);
+    };
+    unlinked = λ x _ l. getD-replicate 1024 x 65535 0 l;
+  })
+    where
+      zeros : (n x : ℕ) → _≡_ {A = ℕ} (getD (replicate n 0) x 0) 0
+      zeros n x = elim (decLt x n) [ yes l ↦ getD-replicate n x 0 0 l | no l ↦ List·getD-eq-default (replicate n 0) 0 (rw (length-replicate n 0) (omega arith)) ]
+
+  pub entered-turn : (j : ℕ) (head next ready head′ next′ ready′ : List ℕ) → Entered head next ready j → j < 1024 → Settled s (act j) j head next ready head′ next′ ready′ → Entered head′ next′ ready′ (j + 1)
+  entered-turn j head next ready head′ next′ ready′ E b Z =
+      let e : 1024 ≤ getD next j 0 = omega (arith, E .unlinked j (omega arith) b) in
+      record {
+        sites = sites-ended act (j + 1) s owed head′ next′ ready′ (getD next j 0) 0 (sites-settled act (j + 1) s owed head next ready j 1 (sites-enter j head next ready (E .sites) b e) b head′ next′ ready′ Z) e;
+        unlinked = λ x p l. links Z x (omega arith) ∙ E .unlinked x (omega arith) l;
+      }
+    where
+      links : Settled s (act j) j head next ready head′ next′ ready′ → (x : ℕ) → x ≢ j → getD next′ x 0 ≡ getD next x 0
+      links (goes p W eh en) x q = rw en refl
+      links (waits f g p u eh en er) x q = rw en (getD-set-other next j x (getD head f 0) 0 q)

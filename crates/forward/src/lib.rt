@@ -1,15 +1,20 @@
 // The forward run. Its cost grows with the work and not with actions × steps: an action that does not apply waits for one of its
 // preconditions, and is looked at again when that fact is reached.
+use state::Goals;
 use state::State;
 ghost use mathlib.Core.Path.{_≡_};
 ghost use mathlib.Core.Bool.{not};
+ghost use mathlib.Core.List.{[]};
+ghost use mathlib.Core.Option.{none};
 ghost use Prim.Native.Nat.{ℕ, _+_, _*_, _<_, _≤_};
-ghost use lib.ListN.{length, getD, set};
+ghost use lib.ListN.{length, getD, set, replicate};
 ghost use lib.Dec.{T};
-ghost use Rattle.planning.specs.Runs.{has, holds};
-ghost use Rattle.table.specs.Table.{factsIn};
-ghost use Rattle.state.specs.Sets.{singles, setsOf, actionOf, Listed};
+ghost use Rattle.planning.specs.Record.{taskOf, recordCheck};
+ghost use Rattle.planning.specs.Runs.{has, holds, actions};
+ghost use Rattle.table.specs.Table.{factsIn, Tabled};
+ghost use Rattle.state.specs.Sets.{singles, setsOf, actionOf, Listed, GoalsOf};
 ghost use Rattle.forward.specs.Waiting.{Unmet, member, LowestIn, Lowest, With, Without, Settled, Sites, Noted};
+ghost use Rattle.forward.specs.Running.{Going, RanOf};
 
 fn wide(x: u16) -> usize
     ensures { λ r. ⌜ r ≡ x ⌝ }
@@ -143,7 +148,7 @@ fn wake(
     to: usize,
 )
     requires { ⌜ ((i : ℕ) → i < actions → Listed (now table) i) × (now masks ≡ singles) × (from ≤ to) × (to ≤ length (now table)) × ((k : ℕ) → from ≤ k → k < to → getD (now table) k 0 < 4096) × Sites (actionOf (now table)) actions (setsOf (now sets)) (has (factsIn (now table) from to)) (now head) (now next) (now ready) 65535 0 ⌝ }
-    ensures { λ _. ⌜ Sites (actionOf (now (table .entry))) actions (setsOf (now (sets .entry))) (has (factsIn (now (table .entry)) to to)) (now (head .exit)) (now (next .exit)) (now (ready .exit)) 65535 0 ⌝ }
+    ensures { λ _. ⌜ Sites (actionOf (now (table .entry))) actions (setsOf (now (sets .entry))) (has []) (now (head .exit)) (now (next .exit)) (now (ready .exit)) 65535 0 ⌝ }
 {
     let mut k = from;
     while k < to {
@@ -172,4 +177,77 @@ fn note(masks: &[u64; 64], sets: &[u64; 64], table: &[u16], i: usize, first: &mu
         k += 1;
     }
     new
+}
+
+// Every action is ready, or waits for a precondition that is not reached.
+fn settle_each(
+    masks: &[u64; 64],
+    sets: &[u64; 64],
+    table: &[u16],
+    actions: usize,
+    head: &mut [u16; 4096],
+    next: &mut [u16; 1024],
+    ready: &mut [u64; 16],
+)
+    requires { ⌜ ((i : ℕ) → i < actions → Listed (now table) i) × (actions ≤ 1024) × (now masks ≡ singles) × (now head ≡ replicate 4096 65535) × (now next ≡ replicate 1024 65535) × (now ready ≡ replicate 16 0) ⌝ }
+    ensures { λ _. ⌜ Sites (actionOf (now (table .entry))) actions (setsOf (now (sets .entry))) (has []) (now (head .exit)) (now (next .exit)) (now (ready .exit)) 65535 0 ⌝ }
+{
+    let mut j: usize = 0;
+    while j < actions {
+        settle(masks, sets, table, head, next, ready, j as u16);
+        j += 1;
+    }
+}
+
+// The count of actions of an accepted record.
+pub fn actions_in(bytes: &[u8]) -> usize
+    requires { ⌜ recordCheck (now bytes) ≡ none ⌝ }
+    ensures { λ r. ⌜ (r ≡ actions (taskOf (now (bytes .entry)))) × (r ≤ 1024) ⌝ }
+{
+    bits::read_bits(bytes, 11, 11) as usize
+}
+
+// What a forward run comes to: its steps, whether it reaches the goals, its last state.
+pub struct Ran {
+    pub steps: usize,
+    pub solved: bool,
+    pub state: State,
+}
+
+// The forward run of an accepted record: the actions in the front of `plan`, and the first achiever of each fact, where `first`
+// holds 65,535 before.
+pub fn run_forward(bytes: &[u8], table: &[u16], first: &mut [u16; 4096], plan: &mut [u16; 1024]) -> Ran
+    requires { ⌜ (recordCheck (now bytes) ≡ none) × Tabled (taskOf (now bytes)) (now table) × (now first ≡ replicate 4096 65535) × (length (now plan) ≡ 1024) ⌝ }
+    ensures { λ r. ⌜ RanOf (taskOf (now (bytes .entry))) (now (plan .exit)) (now (first .exit)) r ⌝ }
+{
+    let masks = state::single_sets();
+    let actions = actions_in(bytes);
+    let goals = Goals::load(bytes);
+    let count = goals.count;
+    let mut s = State::initial(bytes);
+    let mut head = [65535u16; 4096];
+    let mut next = [65535u16; 1024];
+    let mut ready = [0u64; 16];
+    settle_each(&masks, &s.sets, table, actions, &mut head, &mut next, &mut ready);
+    let mut steps: usize = 0;
+    let mut g: usize = 0;
+    loop {
+        g = unmet(&masks, &s.sets, &goals.facts, g, count);
+        if g == count {
+            return Ran { steps, solved: true, state: s };
+        }
+        let i = lowest(&ready);
+        if 1024 <= i {
+            return Ran { steps, solved: false, state: s };
+        }
+        unmark(&mut ready, i);
+        if note(&masks, &s.sets, table, i, first) {
+            plan[steps] = i as u16;
+            steps += 1;
+            s = s.step(table, i, 0);
+            let from = wide(table[4 * i + 2]);
+            let to = wide(table[4 * i + 3]);
+            wake(&masks, &s.sets, table, actions, &mut head, &mut next, &mut ready, from, to);
+        }
+    }
 }

@@ -2,7 +2,7 @@ use Rattle.planning.specs.Runs.{has}
 use Rattle.table.specs.Table.{factsIn}
 use Rattle.state.specs.Sets.{setsOf, actionOf}
 use Rattle.forward.specs.Waiting.{Sites}
-use Rattle.forward.proofs.Places.{has-less}
+use Rattle.forward.proofs.Places.{has-less, factsIn-none}
 use Rattle.forward.proofs.Chains.{sites-off}
 use borrow.Author.Needs.{needs}
 use mathlib.Core.Path.{_≡_, refl, sym, ap, _∙_}
@@ -62,7 +62,7 @@ loop-again : tie.Need-loop-again Inv-loop μ-loop
 loop-again c = (omega arith, omega arith, c .settle-all .ensures)
 
 returns : tie.Need-returns Inv-loop μ-loop
-returns c = let I = c .before .loop .inv in let e : c .before .loop .k ≡ c .before .before .before .args .to = omega arith in rw e at (I .2)
+returns c = let I = c .before .loop .inv in let e : c .before .loop .k ≡ c .before .before .before .args .to = omega arith in rw (e, factsIn-none (c .before .before .before .args .table .now) (c .before .before .before .args .to)) at (I .2)
 
 pub wake-spec : {M : Type 1} → statement M
 wake-spec =
