@@ -414,9 +414,9 @@ module _ (act : ℕ → Action) (s owed : State) where
   entered-start head next ready eh en er = rw (eh, en, er) (record {
     sites = record {
       few = omega arith;
-      head-long = length-replicate 4096 65535;
-      next-long = length-replicate 1024 65535;
-      ready-long = length-replicate 16 0;
+      head-long = length-replicate {A = ℕ} 4096 65535;
+      next-long = length-replicate {A = ℕ} 1024 65535;
+      ready-long = length-replicate {A = ℕ} 16 0;
       w = λ _. 0;
       line = λ _. [];
       rest = [];
@@ -436,7 +436,7 @@ module _ (act : ℕ → Action) (s owed : State) where
   })
     where
       zeros : (n x : ℕ) → _≡_ {A = ℕ} (getD (replicate n 0) x 0) 0
-      zeros n x = elim (decLt x n) [ yes l ↦ getD-replicate n x 0 0 l | no l ↦ List·getD-eq-default (replicate n 0) 0 (rw (length-replicate n 0) (omega arith)) ]
+      zeros n x = let z : ℕ = 0 in elim (decLt x n) [ yes l ↦ getD-replicate n x z z l | no l ↦ List·getD-eq-default (replicate n z) z (rw (length-replicate n z) (omega arith)) ]
 
   pub entered-turn : (j : ℕ) (head next ready head′ next′ ready′ : List ℕ) → Entered head next ready j → j < 1024 → Settled s (act j) j head next ready head′ next′ ready′ → Entered head′ next′ ready′ (j + 1)
   entered-turn j head next ready head′ next′ ready′ E b Z =

@@ -95,11 +95,11 @@ module _ (act : ℕ → Action) (i : ℕ) (v d : ℕ) where
 
   firstBy-new : (l : List ℕ) (s : State) → T (has (act i .eff) v d) → run act relaxed l s v d ≡ false → firstBy act (l ++ (i ∷ [])) s v d ≡ some i
   unfolding orElse newly
-  firstBy-new l s h e = firstBy-snoc l s ∙ rw (firstBy-open l s e, T→true (has (act i .eff) v d) h, e) refl
+  firstBy-new l s h e = firstBy-snoc l s ∙ rw (firstBy-open l s e, T→true (has (act i .eff) v d) h, e, newly) refl
 
   firstBy-old : (l : List ℕ) (s : State) → (has (act i .eff) v d && not (run act relaxed l s v d)) ≡ false → firstBy act (l ++ (i ∷ [])) s v d ≡ firstBy act l s v d
   unfolding newly orElse
-  firstBy-old l s e = firstBy-snoc l s ∙ rw e (same (firstBy act l s v d))
+  firstBy-old l s e = firstBy-snoc l s ∙ rw (e, newly) (same (firstBy act l s v d))
     where
       same : (o : Option ℕ) → orElse o none ≡ o
       same none = refl
@@ -142,7 +142,7 @@ module _ (t : Task) (F : Formed t) (facts : List ℕ) where
     k = addable t;
     fuel = rw q (forwardRun-fuel t F);
     long = n;
-    first-long = rw e (length-replicate 4096 65535);
+    first-long = rw e (length-replicate {A = ℕ} 4096 65535);
     within = omega arith;
     so-far = rw q refl;
     state = q;
@@ -154,7 +154,9 @@ module _ (t : Task) (F : Formed t) (facts : List ℕ) where
     pub going-on : (i : ℕ) → holds s (goals t) ≡ false → first (actions t) (adds (act t) s) ≡ some i → n < 1024
     going-on i h e =
         let T₁ = forward-take (act t) (actions t) (variables t) (count t) (goals t) eff-ranged (G .k) i s (G .fuel) h e in
-        omega (arith, forwardRun-few t F, ap length (G .so-far ∙ rw (T₁ .0) refl), length-append (take n plan) (i ∷ forward (act t) (actions t) (goals t) (pred (G .k)) (step relaxed (act t i) s)), length-take-le n plan (omega (arith, G .long, G .within)))
+        let r : List ℕ = forward (act t) (actions t) (goals t) (pred (G .k)) (step relaxed (act t i) s) in
+        let e₂ : forwardRun t ≡ take n plan ++ (i ∷ r) = G .so-far ∙ rw (T₁ .0) refl in
+        omega (arith, forwardRun-few t F, ap length e₂, length-append (take n plan) (i ∷ r), length-take-le n plan (omega (arith, G .long, G .within)))
 
     pub going-take : (i : ℕ) (fst′ : List ℕ) (s′ : State) (g′ : ℕ) → holds s (goals t) ≡ false → first (actions t) (adds (act t) s) ≡ some i → Noted s (has (act t i .eff)) i fst fst′ → length fst′ ≡ 4096
         → s′ ≡ step relaxed (act t i) s → ((x : ℕ) → x < g′ → T (reaches s (getD facts x 0))) → Going t facts (set plan n i) fst′ s′ (n + 1) g′

@@ -10,7 +10,7 @@ ghost use Prim.Native.Nat.{ℕ, _+_, _*_, _<_, _≤_};
 ghost use lib.ListN.{length, getD, set, replicate};
 ghost use lib.Dec.{T};
 ghost use Rattle.planning.specs.Record.{taskOf, recordCheck};
-ghost use Rattle.planning.specs.Runs.{has, holds, actions};
+ghost use Rattle.planning.specs.Runs.{has, holds};
 ghost use Rattle.table.specs.Table.{factsIn, Tabled};
 ghost use Rattle.state.specs.Sets.{singles, setsOf, actionOf, Listed, GoalsOf};
 ghost use Rattle.forward.specs.Waiting.{Unmet, member, LowestIn, Lowest, With, Without, Settled, Sites, Noted};
@@ -199,14 +199,6 @@ fn settle_each(
     }
 }
 
-// The count of actions of an accepted record.
-pub fn actions_in(bytes: &[u8]) -> usize
-    requires { ⌜ recordCheck (now bytes) ≡ none ⌝ }
-    ensures { λ r. ⌜ (r ≡ actions (taskOf (now (bytes .entry)))) × (r ≤ 1024) ⌝ }
-{
-    bits::read_bits(bytes, 11, 11) as usize
-}
-
 // What a forward run comes to: its steps, whether it reaches the goals, its last state.
 pub struct Ran {
     pub steps: usize,
@@ -221,7 +213,7 @@ pub fn run_forward(bytes: &[u8], table: &[u16], first: &mut [u16; 4096], plan: &
     ensures { λ r. ⌜ RanOf (taskOf (now (bytes .entry))) (now (plan .exit)) (now (first .exit)) r ⌝ }
 {
     let masks = state::single_sets();
-    let actions = actions_in(bytes);
+    let actions = table::actions(bytes);
     let goals = Goals::load(bytes);
     let count = goals.count;
     let mut s = State::initial(bytes);

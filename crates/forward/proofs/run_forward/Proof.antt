@@ -7,7 +7,6 @@ use Rattle.forward.proofs.run_forward.Statement.{statement}
 use Rattle.forward.proofs.run_forward.Tie as tie
 use Rattle.forward.proofs.run_forward.Reads as reads
 use Rattle.forward.proofs.run_forward.Lts as lts
-use Rattle.forward.proofs.actions_in.Reads as actions-in-reads
 use Rattle.forward.proofs.lowest.Reads as lowest-reads
 use Rattle.forward.proofs.note.Reads as note-reads
 use Rattle.forward.proofs.settle_each.Reads as settle-each-reads
@@ -19,6 +18,7 @@ use Rattle.state.proofs.Goals.load.Reads as load-reads
 use Rattle.state.proofs.State.initial.Reads as initial-reads
 use Rattle.state.proofs.State.step.Reads as step-reads
 use Rattle.state.proofs.single_sets.Reads as single-sets-reads
+use Rattle.table.proofs.actions.Reads as actions-reads
 
 abbrev Inv-loop : tie.InvT-loop
 Inv-loop bytes table first₀ plan₀ masks actions goals count s₀ head₀ next₀ ready₀ steps₀ g₀ first plan s head next ready steps g =
@@ -31,8 +31,8 @@ abbrev μ-loop : tie.MeasureT-loop
 single-sets-requires : tie.Need-single-sets-requires Inv-loop μ-loop
 single-sets-requires c κs = search needs
 
-actions-in-requires : tie.Need-actions-in-requires Inv-loop μ-loop
-actions-in-requires c κs = search needs
+actions-requires : tie.Need-actions-requires Inv-loop μ-loop
+actions-requires c κs = search needs
 
 load-requires : tie.Need-load-requires Inv-loop μ-loop
 load-requires c κs = search needs
@@ -131,7 +131,7 @@ run-forward-spec =
     Inv-loop
     μ-loop
     single-sets-requires
-    actions-in-requires
+    actions-requires
     load-requires
     initial-requires
     settle-each-requires

@@ -26,7 +26,7 @@ cast-settle : tie.Need-cast-settle Inv-loop μ-loop
 cast-settle c = search needs
 
 settle-requires : tie.Need-settle-requires Inv-loop μ-loop
-settle-requires c κs = ?
+settle-requires c κs = let I = c .before .before .before .before .loop .inv in let p = c .before .before .before .before .before .before .pre in (p .0 (c .before .before .before .before .loop .j) (omega arith), omega (arith, p .1), I .1 .sites .ready-long, p .2)
 
 add-j : tie.Need-add-j Inv-loop μ-loop
 add-j c = search needs
@@ -35,7 +35,7 @@ loop-less : tie.Need-loop-less Inv-loop μ-loop
 loop-less c = search needs
 
 loop-again : tie.Need-loop-again Inv-loop μ-loop
-loop-again c = ?
+loop-again c = let I = c .before .before .before .before .before .loop .inv in (omega arith, entered-turn _ _ _ _ _ _ _ _ _ _ (I .1) (omega (arith, c .before .before .before .before .before .before .before .pre .1)) (c .settle .ensures))
 
 returns : tie.Need-returns Inv-loop μ-loop
 returns c = let I = c .before .loop .inv in let e : c .before .loop .j ≡ c .before .before .before .args .actions = omega arith in rw e at (I .1 .sites)
