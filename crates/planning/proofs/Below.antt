@@ -9,7 +9,7 @@ use lib.Dec.{T}
 use native.Mathlib.Omega.{arith}
 use native.Mathlib.Decide.{ℕ-discrete}
 use native.Mathlib.Nat.{mul-assoc}
-use Rattle.planning.specs.Basics.{someBelow, everyBelow, oneIf, tally, first, total, times}
+use Rattle.planning.specs.Basics.{someBelow, oneIf, tally, first, total, times}
 use Rattle.planning.proofs.Tests.{or-l, or-r, or-cases, and-l, and-r, and-i}
 
 -- below a successor
@@ -33,16 +33,6 @@ some-elim (suc n) p t = go (or-cases (someBelow n p) (p n) t) (some-elim n p)
     go : T (someBelow n p) ⊎ T (p n) → (T (someBelow n p) → (i : ℕ) × (i < n) × T (p i)) → (i : ℕ) × (i < suc n) × T (p i)
     go (inl h) k = let r = k h in (r .0, omega arith, r .2)
     go (inr h) k = (n, omega arith, h)
-
-pub every-elim : (n : ℕ) (p : ℕ → Bool) → T (everyBelow n p) → (i : ℕ) → i < n → T (p i)
-unfolding everyBelow
-every-elim zero p t i h = absurd (omega arith)
-every-elim (suc n) p t i h = elim (below-cases i n h) [ inl k ↦ every-elim n p (and-l (everyBelow n p) (p n) t) i k | inr e ↦ rw e (and-r (everyBelow n p) (p n) t) ]
-
-pub every-intro : (n : ℕ) (p : ℕ → Bool) → ((i : ℕ) → i < n → T (p i)) → T (everyBelow n p)
-unfolding everyBelow
-every-intro zero p h = tt
-every-intro (suc n) p h = and-i (everyBelow n p) (p n) (every-intro n p (λ i k. h i (omega arith))) (h n (omega arith))
 
 pub record First (n : ℕ) (p : ℕ → Bool) (i : ℕ) : Type 0 where
   pub below : i < n

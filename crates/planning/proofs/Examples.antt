@@ -4,12 +4,14 @@ use Prim.Native.Nat.{ℕ}
 use mathlib.Core.Path.{_≡_, refl}
 use mathlib.Core.Bool.{Bool, true, false}
 use mathlib.Core.List.{List, [], _∷_}
-use Rattle.planning.specs.Basics.{Answer, refused, done, check, andThen, inOrder, answer, bitAt, bitsAt, holdsField, someBelow, oneIf, tally, first, total, refuseAt, reach}
+use lib.ListN.{length}
+use Rattle.planning.specs.Basics.{Answer, refused, done, times, check, andThen, inOrder, answer, bitAt, bitsAt, holdsField, someBelow, oneIf, tally, first, total, refuseAt, reach}
 use Rattle.planning.specs.Record.{variablesIn, actionsIn, goalOf, variableAt, variablesAt, factsAt, preconditionsIn, effectsIn, effectsFrom, actionEnd, actionAt, actionsAt, actionsEnd, taskOf, fieldCheck, headerChecks, goalFits, variableChecks, variablesChecks, countIn, factChecks, factsChecks, actionChecks, actionsChecks, endsAt, recordEnd, recordChecks, recordCheck}
 use Rattle.planning.specs.Runs.{has, touches, look, holds, step, variable, act, count, black, initial, goalsFrom, goals, run, runs, stepsRun, allBelow, isPlan, size, factsIn, costOf}
 use Rattle.planning.specs.Relaxed.{adds, forward, addable, forwardRun, forwardEnd, solvable, factsReached, firstBy, is, reachedNeeded, keep, relaxedPlan}
 use Rattle.planning.specs.Painting.{causalArc, blackArc, onCycle, cyclic, fits, leaves, orZero, target, arcFrom, outside, returnBy, lacksReturn, unreturned, acyclicCheck, returnCheck}
 use Rattle.planning.specs.Repair.{known, also, everAfter, hop, adjacent, pathIn, shortest, toward, after, pass, fill, ready, clientsFirst, order, value, blackMet, moves, repairFrom, repaired}
+use Rattle.planning.specs.Existence.{share, blackProduct}
 use Rattle.planning.specs.Calls.{Planned, lent, capacity, capacityOf, roomCheck, solvableCheck, planned, planOf, planCall, planList}
 
 -- Two shelves: a black carriage and a red box.
@@ -60,9 +62,9 @@ outcome (done x) l = record { number = 0; place = 0; list = l; cost = x .cost; r
 unfoldable pub called : List ℕ → ℕ → Outcome
 called s n = outcome (planCall s n n) (planList s n n)
 
--- "Starred ones are proved."
+-- "Starred ones are proved.": the calls, and of two shelves "The record has 278 bits, 35 bytes. F = 3, P = 2."
 pub starred :
-    (called twoShelves 6 ∷ called twoShelves 4 ∷ called twoShelves 3 ∷ called withoutOne 3 ∷ called withoutTwo 3 ∷ called lampOne 1 ∷ called lampTwo 1
+    ((called twoShelves 6 ∷ called twoShelves 4 ∷ called twoShelves 3 ∷ called withoutOne 3 ∷ called withoutTwo 3 ∷ called lampOne 1 ∷ called lampTwo 1
     ∷ called bothBlack 1 ∷ called [] 2 ∷ called goalMet 2 ∷ called tray 2 ∷ [])
     ≡ (record { number = 0; place = 0; list = 0 ∷ 2 ∷ 1 ∷ 3 ∷ 65535 ∷ 65535 ∷ []; cost = 10; real = true; runs = 4 }
     ∷ record { number = 0; place = 0; list = 0 ∷ 2 ∷ 1 ∷ 3 ∷ []; cost = 10; real = true; runs = 4 }
@@ -74,6 +76,7 @@ pub starred :
     ∷ record { number = 7; place = 0; list = 65535 ∷ []; cost = 0; real = false; runs = 0 }
     ∷ record { number = 1; place = 0; list = 65535 ∷ 65535 ∷ []; cost = 0; real = false; runs = 0 }
     ∷ record { number = 0; place = 0; list = 65535 ∷ 65535 ∷ []; cost = 0; real = true; runs = 0 }
-    ∷ record { number = 0; place = 0; list = 0 ∷ 1 ∷ []; cost = 2; real = false; runs = 1 } ∷ [])
-unfolding called outcome check andThen inOrder answer bitAt bitsAt holdsField someBelow oneIf tally first total refuseAt reach variablesIn actionsIn goalOf variableAt variablesAt factsAt preconditionsIn effectsIn effectsFrom actionEnd actionAt actionsAt actionsEnd taskOf fieldCheck headerChecks goalFits variableChecks variablesChecks countIn factChecks factsChecks actionChecks actionsChecks endsAt recordEnd recordChecks recordCheck has touches look holds step variable act count black initial goalsFrom goals run runs stepsRun allBelow isPlan size factsIn costOf adds forward addable forwardRun forwardEnd solvable factsReached firstBy is reachedNeeded keep relaxedPlan causalArc blackArc onCycle cyclic fits leaves orZero target arcFrom outside returnBy lacksReturn unreturned acyclicCheck returnCheck known also everAfter hop adjacent pathIn shortest toward after pass fill ready clientsFirst order value blackMet moves repairFrom repaired lent capacity capacityOf roomCheck solvableCheck planned planOf planCall planList twoShelves withoutOne withoutTwo lampOne lampTwo bothBlack goalMet tray
-starred = refl
+    ∷ record { number = 0; place = 0; list = 0 ∷ 1 ∷ []; cost = 2; real = false; runs = 1 } ∷ []))
+    × (recordEnd twoShelves ≡ 278) × (length twoShelves ≡ 35) × (addable (taskOf twoShelves) ≡ 3) × (blackProduct (taskOf twoShelves) ≡ 2)
+unfolding called outcome times share blackProduct check andThen inOrder answer bitAt bitsAt holdsField someBelow oneIf tally first total refuseAt reach variablesIn actionsIn goalOf variableAt variablesAt factsAt preconditionsIn effectsIn effectsFrom actionEnd actionAt actionsAt actionsEnd taskOf fieldCheck headerChecks goalFits variableChecks variablesChecks countIn factChecks factsChecks actionChecks actionsChecks endsAt recordEnd recordChecks recordCheck has touches look holds step variable act count black initial goalsFrom goals run runs stepsRun allBelow isPlan size factsIn costOf adds forward addable forwardRun forwardEnd solvable factsReached firstBy is reachedNeeded keep relaxedPlan causalArc blackArc onCycle cyclic fits leaves orZero target arcFrom outside returnBy lacksReturn unreturned acyclicCheck returnCheck known also everAfter hop adjacent pathIn shortest toward after pass fill ready clientsFirst order value blackMet moves repairFrom repaired lent capacity capacityOf roomCheck solvableCheck planned planOf planCall planList twoShelves withoutOne withoutTwo lampOne lampTwo bothBlack goalMet tray
+starred = (refl, refl, refl, refl, refl)

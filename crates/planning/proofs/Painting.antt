@@ -168,9 +168,9 @@ module _ (t : Task) (F : Formed t) where
               arc = rw (own .1, q) at x;
               cond = λ u y n g. elim (has-++ (outside v (act t i .pre)) (outside v (act t i .eff)) u y
                   (holds→sub (has o) (outside v (act t j .pre)) (search and-r) u y (has-outside v (act t j .pre) u y n g))) [
-                | inl z ↦ inl (outside-has v (act t i .pre) u y z)
-                | inr z ↦ inr (outside-has v (act t i .eff) u y z)
-              ];
+                    | inl z ↦ inl (outside-has v (act t i .pre) u y z)
+                    | inr z ↦ inr (outside-has v (act t i .eff) u y z)
+                  ];
             }
 
     arcs : (i u v x : ℕ) → i < actions t → T (touches (act t i .eff) v) → T (has (act t i .pre) u x) → T (black t u) → T (black t v) → u ≢ v → T (blackArc t u v)

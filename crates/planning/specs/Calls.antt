@@ -1,6 +1,6 @@
 -- The entry points: from what is handed in (bytes, lists, lengths lent) to number, place, result and what every lent entry holds
 -- afterwards. "Then come 7, 8, 13, 9, 10, 11." Each is one list of checks in that order, and the result if all pass.
-use Prim.Native.Nat.{ℕ, zero, suc, _+_, _-_, _*_, min}
+use Prim.Native.Nat.{ℕ, suc, _-_, min}
 use mathlib.Core.Bool.{Bool, true, false, _&&_}
 use mathlib.Core.List.{List, [], _∷_, _++_}
 use mathlib.Core.Option.{Option, none, some}
@@ -14,13 +14,13 @@ use Rattle.planning.specs.Painting.{acyclicCheck, returnCheck}
 use Rattle.planning.specs.Repair.{repaired}
 use Rattle.planning.specs.Sheet.{Sheet, sheetBytes, sheetSize, sheetOf, sheetCheck, stepsIn}
 
--- "After success the plan fills the front and 65,535 the rest." "After a refusal each list lent for writing holds 65,535
--- throughout": a list of n entries
+-- "After success the plan fills the front and 65,535 the rest." "What is lent for writing is filled as the mission says."; the
+-- mission: "After a refusal each list lent for writing holds 65,535 throughout and each byte area zeros.": a list of n entries
 unfoldable pub lent : {A : Type 0} → Answer A → ℕ → List ℕ → List ℕ
 lent (refused _ _) n l = replicate n 65535
 lent (done _) n l = l ++ replicate (n - length l) 65535
 
--- "after a refusal [..] each byte area zeros", "Bytes behind a written sheet are 0.": an area of n bytes
+-- the same for an area of n bytes; "Bytes behind a written sheet are 0."
 unfoldable pub lentBytes : {A : Type 0} → Answer A → ℕ → List ℕ → List ℕ
 lentBytes (refused _ _) n l = replicate n 0
 lentBytes (done _) n l = l ++ replicate (n - length l) 0

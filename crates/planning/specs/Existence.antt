@@ -3,8 +3,8 @@
 use Prim.Native.Nat.{ℕ, _*_, _≤_}
 use mathlib.Core.Path.{_≡_}
 use mathlib.Core.Bool.{Bool, true, false}
-use mathlib.Core.List.{List, []}
-use mathlib.Core.Option.{Option, none}
+use mathlib.Core.List.{List}
+use mathlib.Core.Option.{none}
 use lib.ListN.{length}
 use Rattle.planning.specs.Basics.{Answer, refused, done, times}
 use Rattle.planning.specs.Record.{Task, taskOf, recordCheck}
@@ -46,7 +46,7 @@ pub record Complete (t : Task) (n w : ℕ) (r : Answer Planned) (l : List ℕ) :
   -- "Every plan it returns is a red-black plan of at most F × P steps"
   pub is-plan : ReturnsPlan r → RedBlackPlan t l
   pub short : ReturnsPlan r → length l ≤ stepBound t
-  -- "Where F × P ≤ 32,768 and there is room for that many, it returns such a plan whenever some list is a red-black plan."
+  -- "Space for F × P steps means that capacity is no less than F × P." "Where F × P ≤ 32,768 and there is room for that many, it returns such a plan whenever some list is a red-black plan."
   pub finds : stepBound t ≤ 32768 → stepBound t ≤ capacityOf n w → (k : List ℕ) → RedBlackPlan t k → ReturnsPlan r
 
 abbrev pub Demand3 : List ℕ → ℕ → ℕ → Answer Planned → List ℕ → Type 0

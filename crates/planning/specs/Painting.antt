@@ -1,5 +1,5 @@
 -- "Paintings that are accepted".
-use Prim.Native.Nat.{ℕ, zero, suc, pred}
+use Prim.Native.Nat.{ℕ, pred}
 use mathlib.Core.Bool.{Bool, true, false, not, _&&_, _||_}
 use mathlib.Core.List.{List, [], _∷_, _++_}
 use mathlib.Core.Option.{Option, none, some}
@@ -8,11 +8,13 @@ use Rattle.planning.specs.Basics.{Check, refuseAt, someBelow, first, rea
 use Rattle.planning.specs.Record.{Fact, Action, Task}
 use Rattle.planning.specs.Runs.{has, touches, look, holds, variables, actions, count, act, black}
 
--- "The causal graph has an arc from u to v, u ≠ v, if some action affects v and has u among its preconditions or effects."
+-- "The causal graph has an arc from u to v, u ≠ v, if some action affects v and has u among its preconditions or effects." "A value
+-- that an action both needs and sets counts as an effect like any other."
 unfoldable pub causalArc : Task → ℕ → ℕ → Bool
 causalArc t u v = not (eqb u v) && someBelow (actions t) (λ i. touches (act t i .eff) v && (touches (act t i .pre) u || touches (act t i .eff) u))
 
--- "Its black part, the black causal graph, is the black variables and the arcs between them"
+-- "Its black part, the black causal graph, is the black variables and the arcs between them; it must have no cycle. So no action
+-- affects two black variables."
 unfoldable pub blackArc : Task → ℕ → ℕ → Bool
 blackArc t u v = (black t u && black t v) && causalArc t u v
 
@@ -59,7 +61,8 @@ returnBy t v d i j =
     (arcFrom (act t) v (target (act t) v i) j && eqb (target (act t) v j) d)
     && holds (has (outside v (act t i .pre) ++ outside v (act t i .eff))) (outside v (act t j .pre))
 
--- action i gives an arc of the black variable v from d that lacks its return
+-- "A black variable is invertible with relaxed side effects if each of its arcs has such a return.": action i gives an arc of the
+-- black variable v from d that lacks its return
 unfoldable pub lacksReturn : Task → ℕ → ℕ → ℕ → Bool
 lacksReturn t i v d = (black t v && arcFrom (act t) v d i) && not (someBelow (actions t) (returnBy t v d i))
 

@@ -1,12 +1,12 @@
 -- "Repair".
-use Prim.Native.Nat.{ℕ, zero, suc, _+_, _*_}
+use Prim.Native.Nat.{ℕ, zero, suc}
 use mathlib.Core.Bool.{Bool, true, false, not, _&&_, _||_}
 use mathlib.Core.List.{List, [], _∷_, _++_}
 use mathlib.Core.Option.{Option, none, some}
 use lib.Dec.{eqb}
 use Rattle.planning.specs.Basics.{first, someBelow, reach}
 use Rattle.planning.specs.Record.{Fact, Action, Task}
-use Rattle.planning.specs.Runs.{State, Mode, has, look, holds, step, run, variables, actions, count, black, act, initial, goals}
+use Rattle.planning.specs.Runs.{State, Mode, look, holds, step, run, variables, actions, count, black, act, initial, goals}
 use Rattle.planning.specs.Painting.{arcFrom, target, orZero, blackArc}
 
 -- "Let R be the red facts now held and B all black facts held at any time so far.": the facts of R and B, by the state now and
@@ -38,7 +38,8 @@ pathIn act A K v n zero c d = []
 pathIn act A K v n (suc k) c d =
     elim (first A (λ i. hop act K v c i && reach n (adjacent act A K v) k (target act v i) d)) [ none ↦ [] | some i ↦ i ∷ pathIn act A K v n k (target act v i) d ]
 
--- v has n values, so that a shortest path has fewer than n moves
+-- v has n values, so that a shortest path has fewer than n moves. (Where there is none, the empty list; in a repair that an accepted
+-- painting allows there is always one.)
 unfoldable pub shortest : (ℕ → Action) → ℕ → State → ℕ → ℕ → ℕ → ℕ → List ℕ
 shortest act A K v n c d = elim (first n (λ k. reach n (adjacent act A K v) k c d)) [ none ↦ [] | some k ↦ pathIn act A K v n k c d ]
 
@@ -52,7 +53,7 @@ after c none = c
 after c (some d) = d
 
 -- "For that variable go through the list built so far. Before each entry with a precondition on it, and at the end if it has a
--- wanted value, insert the shortest path": v has the value c, w are the wanted facts
+-- wanted value, insert the shortest path": v has the value c, w are the wanted facts. No entry of the list so far sets v, since 7 passed.
 unfoldable pub pass : (ℕ → Action) → (ℕ → ℕ → List ℕ) → ℕ → ℕ → List ℕ → List Fact → List ℕ
 pass act path v c [] w = toward path c (look w v)
 pass act path v c (i ∷ l) w = toward path c (look (act i .pre) v) ++ (i ∷ pass act path v (after c (look (act i .pre) v)) l w)
