@@ -421,7 +421,7 @@ module _ (act : ℕ → Action) (s owed : State) where
       line = λ _. [];
       rest = [];
       left = omega arith;
-      chained = λ f l. rw (getD-replicate 4096 f 65535 0 l) (omega arith);
+      chained = λ f l. rw (getD-replicate {A = ℕ} 4096 f 65535 0 l) (omega arith);
       chained-rest = omega arith;
       owns = λ f l. tt;
       owns-rest = tt;
@@ -432,7 +432,7 @@ module _ (act : ℕ → Action) (s owed : State) where
       out = λ j b. absurd (omega arith);
       sound = λ j m. absurd (rw (zeros 16 (j / 64), inSet-empty (j % 64)) at m);
     };
-    unlinked = λ x _ l. getD-replicate 1024 x 65535 0 l;
+    unlinked = λ x _ l. getD-replicate {A = ℕ} 1024 x 65535 0 l;
   })
     where
       zeros : (n x : ℕ) → _≡_ {A = ℕ} (getD (replicate n 0) x 0) 0

@@ -2,3 +2,4 @@ pub mod Bits
 pub mod Places
 pub mod Chains
 pub mod Running
+pub mod Looping

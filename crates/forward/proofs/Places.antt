@@ -192,6 +192,7 @@ module _ (s : State) (l : List ℕ) (a b i : ℕ) (first₀ : List ℕ) where
     pub noting-end : Noted s (has (factsIn l a b)) i first₀ first
     unfolding reaches
     noting-end = record {
+      long = N .long;
       noted = λ f g t z. let r = at-has l a b (omega (arith, N .from, N .to)) q (f / 64) (f % 64) t in
           let u : f ≡ getD l (r .0) 0 = omega (arith, r .3, r .4) in
           rw u (N .noted (r .0) (r .1) (omega (arith, r .2)) (rw (← u) z));

@@ -146,7 +146,7 @@ module _ (t : Task) (F : Formed t) (facts : List ℕ) where
     within = omega arith;
     so-far = rw q refl;
     state = q;
-    achieved = λ f b. rw e (getD-replicate 4096 f 65535 0 b);
+    achieved = λ f b. rw e (getD-replicate {A = ℕ} 4096 f 65535 0 b);
     met = λ x l. absurd (omega arith);
   }
 
@@ -158,10 +158,10 @@ module _ (t : Task) (F : Formed t) (facts : List ℕ) where
         let e₂ : forwardRun t ≡ take n plan ++ (i ∷ r) = G .so-far ∙ rw (T₁ .0) refl in
         omega (arith, forwardRun-few t F, ap length e₂, length-append (take n plan) (i ∷ r), length-take-le n plan (omega (arith, G .long, G .within)))
 
-    pub going-take : (i : ℕ) (fst′ : List ℕ) (s′ : State) (g′ : ℕ) → holds s (goals t) ≡ false → first (actions t) (adds (act t) s) ≡ some i → Noted s (has (act t i .eff)) i fst fst′ → length fst′ ≡ 4096
+    pub going-take : (i : ℕ) (fst′ : List ℕ) (s′ : State) (g′ : ℕ) → holds s (goals t) ≡ false → first (actions t) (adds (act t) s) ≡ some i → Noted s (has (act t i .eff)) i fst fst′
         → s′ ≡ step relaxed (act t i) s → ((x : ℕ) → x < g′ → T (reaches s (getD facts x 0))) → Going t facts (set plan n i) fst′ s′ (n + 1) g′
     unfolding run reaches
-    going-take i fst′ s′ g′ h e N q es m =
+    going-take i fst′ s′ g′ h e N es m =
         let T₁ = forward-take (act t) (actions t) (variables t) (count t) (goals t) eff-ranged (G .k) i s (G .fuel) h e in
         let b = going-on i h e in
         let p : take (n + 1) (set plan n i) ≡ take n plan ++ (i ∷ []) = rw (add-one, take-suc-set plan n i (omega (arith, G .long))) refl in
@@ -169,7 +169,7 @@ module _ (t : Task) (F : Formed t) (facts : List ℕ) where
           k = pred (G .k);
           fuel = rw es (T₁ .1);
           long = simp length-set (G .long);
-          first-long = q;
+          first-long = N .long;
           within = omega arith;
           so-far = G .so-far ∙ rw (T₁ .0, p, append-assoc, es) refl;
           state = es ∙ rw (p, run-append (act t) relaxed (take n plan) (i ∷ []) (initial t), ← G .state) refl;
@@ -177,13 +177,13 @@ module _ (t : Task) (F : Formed t) (facts : List ℕ) where
           met = λ x l. subst (λ (z : State). T (z (getD facts x 0 / 64) (getD facts x 0 % 64))) (sym es) (step-keep relaxed (act t i) s (getD facts x 0 / 64) (getD facts x 0 % 64) (m x l) (λ z _. z));
         }
 
-    pub going-drop : (i : ℕ) (fst′ : List ℕ) (g′ : ℕ) → holds s (act t i .eff) ≡ true → Noted s (has (act t i .eff)) i fst fst′ → length fst′ ≡ 4096
+    pub going-drop : (i : ℕ) (fst′ : List ℕ) (g′ : ℕ) → holds s (act t i .eff) ≡ true → Noted s (has (act t i .eff)) i fst fst′
         → ((x : ℕ) → x < g′ → T (reaches s (getD facts x 0))) → Going t facts plan fst′ s n g′
-    going-drop i fst′ g′ h N q m = record {
+    going-drop i fst′ g′ h N m = record {
       k = G .k;
       fuel = G .fuel;
       long = G .long;
-      first-long = q;
+      first-long = N .long;
       within = G .within;
       so-far = G .so-far;
       state = G .state;

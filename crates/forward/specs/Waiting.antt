@@ -94,5 +94,6 @@ pub record Sites (act : ℕ → Action) (A : ℕ) (s owed : State) (head next re
 
 -- each effect that was not reached is noted as reached by i
 pub record Noted (s : State) (effects : State) (i : ℕ) (first first′ : List ℕ) : Type 0 where
+  pub long : length first′ ≡ 4096
   pub noted : (f : ℕ) → f < 4096 → T (reaches effects f) → reaches s f ≡ false → getD first′ f 0 ≡ i
   pub kept : (f : ℕ) → f < 4096 → (T (reaches effects f) → T (reaches s f)) → getD first′ f 0 ≡ getD first f 0

@@ -14,7 +14,7 @@ ghost use Rattle.planning.specs.Runs.{has, holds};
 ghost use Rattle.table.specs.Table.{factsIn, Tabled};
 ghost use Rattle.state.specs.Sets.{singles, setsOf, actionOf, Listed, GoalsOf};
 ghost use Rattle.forward.specs.Waiting.{Unmet, member, LowestIn, Lowest, With, Without, Settled, Sites, Noted};
-ghost use Rattle.forward.specs.Running.{Going, RanOf};
+ghost use Rattle.forward.specs.Running.{RanOf, Looping};
 
 fn wide(x: u16) -> usize
     ensures { λ r. ⌜ r ≡ x ⌝ }
@@ -135,7 +135,7 @@ fn settle_all(
     }
 }
 
-// Takes off the chains of the facts from place `from` up to `to`, which are reached, and settles their actions.
+// The effects of action i are reached: their chains are taken off, and the actions on them settled.
 fn wake(
     masks: &[u64; 64],
     sets: &[u64; 64],
@@ -144,13 +144,13 @@ fn wake(
     head: &mut [u16; 4096],
     next: &mut [u16; 1024],
     ready: &mut [u64; 16],
-    from: usize,
-    to: usize,
+    i: usize,
 )
-    requires { ⌜ ((i : ℕ) → i < actions → Listed (now table) i) × (now masks ≡ singles) × (from ≤ to) × (to ≤ length (now table)) × ((k : ℕ) → from ≤ k → k < to → getD (now table) k 0 < 4096) × Sites (actionOf (now table)) actions (setsOf (now sets)) (has (factsIn (now table) from to)) (now head) (now next) (now ready) 65535 0 ⌝ }
+    requires { ⌜ ((i : ℕ) → i < actions → Listed (now table) i) × (now masks ≡ singles) × Listed (now table) i × Sites (actionOf (now table)) actions (setsOf (now sets)) (has (actionOf (now table) i .eff)) (now head) (now next) (now ready) 65535 0 ⌝ }
     ensures { λ _. ⌜ Sites (actionOf (now (table .entry))) actions (setsOf (now (sets .entry))) (has []) (now (head .exit)) (now (next .exit)) (now (ready .exit)) 65535 0 ⌝ }
 {
-    let mut k = from;
+    let to = wide(table[4 * i + 3]);
+    let mut k = wide(table[4 * i + 2]);
     while k < to {
         let f = wide(table[k]);
         let h = head[f];
@@ -206,6 +206,46 @@ pub struct Ran {
     pub state: State,
 }
 
+// The loop of the forward run, from where each action is settled.
+fn run_on(
+    bytes: &[u8],
+    table: &[u16],
+    masks: &[u64; 64],
+    actions: usize,
+    goals: Goals,
+    start: State,
+    head: &mut [u16; 4096],
+    next: &mut [u16; 1024],
+    ready: &mut [u64; 16],
+    first: &mut [u16; 4096],
+    plan: &mut [u16; 1024],
+) -> Ran
+    requires { ⌜ Looping (now bytes) (now table) (now masks) actions goals (now first) (now plan) (start .sets) (now head) (now next) (now ready) 0 0 ⌝ }
+    ensures { λ r. ⌜ RanOf (taskOf (now (bytes .entry))) (now (plan .exit)) (now (first .exit)) r ⌝ }
+{
+    let count = goals.count;
+    let mut s = start;
+    let mut steps: usize = 0;
+    let mut g: usize = 0;
+    loop {
+        g = unmet(masks, &s.sets, &goals.facts, g, count);
+        if g == count {
+            return Ran { steps, solved: true, state: s };
+        }
+        let i = lowest(ready);
+        if 1024 <= i {
+            return Ran { steps, solved: false, state: s };
+        }
+        unmark(ready, i);
+        if note(masks, &s.sets, table, i, first) {
+            plan[steps] = i as u16;
+            steps += 1;
+            s = s.step(table, i, 0);
+            wake(masks, &s.sets, table, actions, head, next, ready, i);
+        }
+    }
+}
+
 // The forward run of an accepted record: the actions in the front of `plan`, and the first achiever of each fact, where `first`
 // holds 65,535 before.
 pub fn run_forward(bytes: &[u8], table: &[u16], first: &mut [u16; 4096], plan: &mut [u16; 1024]) -> Ran
@@ -215,31 +255,10 @@ pub fn run_forward(bytes: &[u8], table: &[u16], first: &mut [u16; 4096], plan: &
     let masks = state::single_sets();
     let actions = table::actions(bytes);
     let goals = Goals::load(bytes);
-    let count = goals.count;
-    let mut s = State::initial(bytes);
+    let start = State::initial(bytes);
     let mut head = [65535u16; 4096];
     let mut next = [65535u16; 1024];
     let mut ready = [0u64; 16];
-    settle_each(&masks, &s.sets, table, actions, &mut head, &mut next, &mut ready);
-    let mut steps: usize = 0;
-    let mut g: usize = 0;
-    loop {
-        g = unmet(&masks, &s.sets, &goals.facts, g, count);
-        if g == count {
-            return Ran { steps, solved: true, state: s };
-        }
-        let i = lowest(&ready);
-        if 1024 <= i {
-            return Ran { steps, solved: false, state: s };
-        }
-        unmark(&mut ready, i);
-        if note(&masks, &s.sets, table, i, first) {
-            plan[steps] = i as u16;
-            steps += 1;
-            s = s.step(table, i, 0);
-            let from = wide(table[4 * i + 2]);
-            let to = wide(table[4 * i + 3]);
-            wake(&masks, &s.sets, table, actions, &mut head, &mut next, &mut ready, from, to);
-        }
-    }
+    settle_each(&masks, &start.sets, table, actions, &mut head, &mut next, &mut ready);
+    run_on(bytes, table, &masks, actions, goals, start, &mut head, &mut next, &mut ready, first, plan)
 }
