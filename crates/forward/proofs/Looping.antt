@@ -8,26 +8,26 @@ use mathlib.Core.Option.{Option, none, some}
 use Prim.Native.Nat.{ℕ, zero, suc, _+_, _*_, _-_, _/_, _%_, _<_, _≤_}
 use native.Mathlib.Omega.{arith}
 use lib.Dec.{T, T-not, not-T, eqb, eqb-refl}
-use lib.ListN.{length, getD, set}
+use lib.ListN.{length, getD, set, replicate}
 use Rattle.planning.specs.Basics.{first, tally}
 use Rattle.planning.specs.Record.{Action, Task, taskOf, recordCheck}
-use Rattle.planning.specs.Runs.{State, Mode, has, holds, step, relaxed, actions, act, goals}
+use Rattle.planning.specs.Runs.{State, Mode, has, holds, step, relaxed, actions, act, initial, goals}
 use Rattle.planning.specs.Relaxed.{adds, forwardRun, forwardEnd, solvable}
 use Rattle.planning.proofs.Tests.{and-l, and-r}
 use Rattle.planning.proofs.Below.{tally-le, tally-sub}
 use Rattle.planning.proofs.Facts.{_⊆_, holds→sub, sub→holds}
 use Rattle.planning.proofs.Steps.{step-eff, step-keep, step-cases}
 use Rattle.planning.proofs.Formed.{Formed, formed-of}
-use Rattle.table.specs.Table.{factsIn, effAt, endAt}
+use Rattle.table.specs.Table.{Tabled}
 use Rattle.state.specs.declared.Goals.{Goals}
-use Rattle.state.specs.Sets.{singles, setsOf, modeOf, actionOf, Listed}
+use Rattle.state.specs.Sets.{singles, setsOf, modeOf, actionOf, Listed, GoalsOf}
 use Rattle.state.proofs.Members.{inSet-empty}
 use Rattle.state.proofs.Tabled.{tabled-action, tabled-listed}
 use Rattle.forward.specs.declared.Ran.{Ran}
 use Rattle.forward.specs.Waiting.{reaches, member, Unmet, Lowest, Without, Noted, Sites}
 use Rattle.forward.specs.Running.{Going, RanOf, Looping}
 use Rattle.forward.proofs.Chains.{tally-fewer, sites-none, sites-first, sites-leave}
-use Rattle.forward.proofs.Running.{forwardRun-few, going-on, going-take, going-drop, going-list, going-state, going-steps, going-achieved, ended-met, ended-none, met-more, goals-met, goals-open}
+use Rattle.forward.proofs.Running.{going-start, going-on, going-take, going-drop, going-list, going-state, going-steps, going-achieved, ended-met, ended-none, met-more, goals-met, goals-open}
 
 -- all variables act as red
 pub modeOf-zero : modeOf 0 ≡ relaxed
@@ -45,6 +45,21 @@ first-same (suc n) p q h = ap (λ o. body o (p n)) (first-same n p q (λ i b. h 
 -- What falls with each turn: actions whose effects are not all reached, then ready actions.
 unfoldable pub left : List ℕ → ℕ → List ℕ → List ℕ → ℕ
 left table A sets ready = 1025 * tally A (λ j. not (holds (setsOf sets) (actionOf table j .eff))) + tally 1024 (member ready)
+
+pub looping-start : (bytes table masks : List ℕ) (A : ℕ) (g : Goals) (fst plan sets head next ready : List ℕ) → recordCheck bytes ≡ none → Tabled (taskOf bytes) table → masks ≡ singles
+    → A ≡ actions (taskOf bytes) → GoalsOf (taskOf bytes) g → length (g .facts) ≡ 64 → fst ≡ replicate 4096 65535 → length plan ≡ 1024 → setsOf sets ≡ initial (taskOf bytes)
+    → Sites (actionOf table) A (setsOf sets) (has []) head next ready 65535 0 → Looping bytes table masks A g fst plan sets head next ready 0 0
+looping-start bytes table masks A g fst plan sets head next ready a T m e G l f p i S = record {
+  accepted = a;
+  tabled = T;
+  masks-are = m;
+  all = e;
+  goals-are = G;
+  room = omega (arith, G .few);
+  within = omega arith;
+  going = going-start (taskOf bytes) (formed-of bytes a) (g .facts) plan fst (setsOf sets) p f i;
+  sites = S;
+}
 
 module _ (bytes table masks : List ℕ) (A : ℕ) (g : Goals) (fst plan sets head next ready : List ℕ) (n k : ℕ) (L : Looping bytes table masks A g fst plan sets head next ready n k) where
   abbrev t : Task
