@@ -19,7 +19,7 @@ use Rattle.state.specs.Sets.{actionOf, Listed}
 use Rattle.forward.specs.Waiting.{reaches, Unmet, Noted}
 
 module _ (l : List ℕ) where
-  factsIn-more : (a b : ℕ) → a < b → b ≤ length l → factsIn l a b ≡ factOf (getD l a 0) ∷ factsIn l (suc a) b
+  pub factsIn-more : (a b : ℕ) → a < b → b ≤ length l → factsIn l a b ≡ factOf (getD l a 0) ∷ factsIn l (suc a) b
   unfolding factsIn
   factsIn-more a b h g = rw (slice-cons a b l 0 h g) refl
 
