@@ -172,7 +172,10 @@ module _ (bytes table masks fst run : List ℕ) (n : ℕ) (R : Replay bytes tabl
         let a : getD fst (64 * v + d) 0 ≡ achiever (by v d) = R .achieved (64 * v + d) (omega (arith, I .var-below, I .val-below, formed .variables-max, formed .count-max v)) ∙ rw (ev, ed) refl in
         ap (λ x. is (getD run k 0) (some x)) a ∙ is-achiever (getD run k 0) (by v d) (omega (arith, entry-below, formed .actions-max))))
 
-    module _ (needed kept : List ℕ) (m : ℕ) (K : Keeping t n needed kept (k + 1) m) where
+    module _ (needed kept : List ℕ) (m j : ℕ) (ej : j ≡ k + 1) (K₀ : Keeping t n needed kept j m) where
+      K : Keeping t n needed kept (k + 1) m
+      K = subst (λ x. Keeping t n needed kept x m) ej K₀
+
       tested : (r : Bool) → r ≡ reachedNeeded (byOf fst) (setsOf needed) (getD run k 0) (actionOf table (getD run k 0) .eff)
           → reachedNeeded by (keep (act t) by (goals t) (drop (k + 1) (forwardRun t)) .needed) (getD run k 0) (act t (getD run k 0) .eff) ≡ r
       tested r e = rw (K .needed-are) (sym (e ∙ test (setsOf needed)))
