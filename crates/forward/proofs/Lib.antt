@@ -3,3 +3,4 @@ pub mod Places
 pub mod Chains
 pub mod Running
 pub mod Looping
+pub mod Answers

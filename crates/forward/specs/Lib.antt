@@ -1,2 +1,3 @@
 pub mod Waiting
 pub mod Running
+pub mod Answers

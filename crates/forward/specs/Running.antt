@@ -30,6 +30,7 @@ pub record RanOf (t : Task) (plan first : List ℕ) (r : Ran) : Type 0 where
   pub list : take (r .steps) plan ≡ forwardRun t
   pub steps : r .steps ≡ length (forwardRun t)
   pub few : r .steps ≤ 1024
+  pub long : length plan ≡ 1024
   pub solved : r .solved ≡ solvable t
   pub state : setsOf (r .state .sets) ≡ forwardEnd t
   pub achieved : Achieved t (forwardRun t) first

@@ -1,20 +1,24 @@
 // The forward run. Its cost grows with the work and not with actions × steps: an action that does not apply waits for one of its
 // preconditions, and is looked at again when that fact is reached.
+use bits::Refusal;
+use record::Checked;
 use state::Goals;
 use state::State;
 ghost use mathlib.Core.Path.{_≡_};
 ghost use mathlib.Core.Bool.{not};
-ghost use mathlib.Core.List.{[]};
+ghost use mathlib.Core.List.{[], _++_};
 ghost use mathlib.Core.Option.{none};
 ghost use Prim.Native.Nat.{ℕ, _+_, _*_, _<_, _≤_};
-ghost use lib.ListN.{length, getD, set, replicate};
+ghost use lib.ListN.{length, getD, set, drop, replicate};
 ghost use lib.Dec.{T};
 ghost use Rattle.planning.specs.Record.{taskOf, recordCheck};
 ghost use Rattle.planning.specs.Runs.{has, holds};
+ghost use Rattle.planning.specs.Calls.{capacity, roomCheck, forwardCall, forwardList};
 ghost use Rattle.table.specs.Table.{factsIn, Tabled};
 ghost use Rattle.state.specs.Sets.{singles, setsOf, actionOf, Listed, GoalsOf};
 ghost use Rattle.forward.specs.Waiting.{Unmet, member, LowestIn, Lowest, With, Without, Settled, Sites, Noted};
 ghost use Rattle.forward.specs.Running.{RanOf, Looping};
+ghost use Rattle.forward.specs.Answers.{laidOf, laidList, foundOf};
 
 fn wide(x: u16) -> usize
     ensures { λ r. ⌜ r ≡ x ⌝ }
@@ -261,4 +265,94 @@ pub fn run_forward(bytes: &[u8], table: &[u16], first: &mut [u16; 4096], plan: &
     let mut ready = [0u64; 16];
     settle_each(&masks, &start.sets, table, actions, &mut head, &mut next, &mut ready);
     run_on(bytes, table, &masks, actions, goals, start, &mut head, &mut next, &mut ready, first, plan)
+}
+
+// The whole list in the front of another.
+pub fn copy(from: &[u16], to: &mut [u16])
+    requires { ⌜ length (now from) ≤ length (now to) ⌝ }
+    ensures { λ _. ⌜ now (to .exit) ≡ now (from .entry) ++ drop (length (now (from .entry))) (now (to .entry)) ⌝ }
+{
+    let mut k: usize = 0;
+    while k < from.len() {
+        to[k] = from[k];
+        k += 1;
+    }
+}
+
+// The capacity of a plan list of n entries.
+fn capacity(n: usize) -> usize
+    ensures { λ r. ⌜ r ≡ capacity n ⌝ }
+{
+    if n < 32768 { n } else { 32768 }
+}
+
+// Whether a result fits the list that was lent for it.
+pub enum Laid {
+    Whole,
+    Refused(Refusal),
+}
+
+// The result in the front of the plan list and 65,535 behind it; 65,535 throughout where it is longer than the capacity.
+pub fn lay(list: &[u16], plan: &mut [u16]) -> Laid
+    ensures { λ r. ⌜ (laidOf r ≡ roomCheck (length (now (list .entry))) (capacity (length (now (plan .entry))))) × (now (plan .exit) ≡ laidList (length (now (plan .entry))) (now (list .entry))) ⌝ }
+{
+    let n = list.len();
+    let room = capacity(plan.len());
+    if room < n {
+        lists::blank(plan);
+        return Laid::Refused(Refusal {
+            number: 11,
+            place: room as u32,
+        });
+    }
+    copy(list, plan);
+    lists::blank_from(plan, n);
+    Laid::Whole
+}
+
+// What the forward run answers.
+pub enum Found {
+    Run { steps: u32, reached: u32 },
+    Refused(Refusal),
+}
+
+fn forward_accepted(bytes: &[u8], plan: &mut [u16]) -> Found
+    requires { ⌜ recordCheck (now bytes) ≡ none ⌝ }
+    ensures { λ r. ⌜ (foundOf r ≡ forwardCall (now (bytes .entry)) (length (now (plan .entry)))) × (now (plan .exit) ≡ forwardList (now (bytes .entry)) (length (now (plan .entry)))) ⌝ }
+{
+    let mut table = [0u16; 34816];
+    table::load(bytes, &mut table);
+    let mut first = [65535u16; 4096];
+    let mut run = [65535u16; 1024];
+    let ran = run_forward(bytes, &table, &mut first, &mut run);
+    let steps = ran.steps;
+    let state = ran.state;
+    let reached = state.reached() as u32;
+    if !ran.solved {
+        lists::blank(plan);
+        return Found::Refused(Refusal {
+            number: 10,
+            place: reached,
+        });
+    }
+    let laid = lay(&run[..steps], plan);
+    let Laid::Refused(f) = laid else {
+        return Found::Run {
+            steps: steps as u32,
+            reached,
+        };
+    };
+    Found::Refused(f)
+}
+
+// The forward run of a record, in the plan list.
+pub fn forward(bytes: &[u8], plan: &mut [u16]) -> Found
+    ensures { λ r. ⌜ (foundOf r ≡ forwardCall (now (bytes .entry)) (length (now (plan .entry)))) × (now (plan .exit) ≡ forwardList (now (bytes .entry)) (length (now (plan .entry)))) ⌝ }
+{
+    let c = record::check(bytes);
+    let Checked::Refused(f) = c else {
+        return forward_accepted(bytes, plan);
+    };
+    lists::blank(plan);
+    Found::Refused(f)
 }

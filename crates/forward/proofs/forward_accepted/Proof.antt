@@ -1,0 +1,91 @@
+use borrow.Author.Needs.{needs}
+use Rattle.forward.proofs.forward_accepted.Statement.{statement}
+use Rattle.forward.proofs.forward_accepted.Tie as tie
+use Rattle.forward.proofs.forward_accepted.Reads as reads
+use Rattle.forward.proofs.forward_accepted.Lts as lts
+use Rattle.forward.proofs.lay.Reads as lay-reads
+use Rattle.forward.proofs.run_forward.Reads as run-forward-reads
+use Rattle.lists.proofs.blank.Reads as blank-reads
+use Rattle.state.proofs.State.reached.Reads as reached-reads
+use Rattle.table.proofs.load.Reads as load-reads
+
+slice-aggregate-load : tie.Need-slice-aggregate-load
+slice-aggregate-load c = search needs
+
+load-requires : tie.Need-load-requires
+load-requires c κs = ?
+
+slice-aggregate-run-forward : tie.Need-slice-aggregate-run-forward
+slice-aggregate-run-forward c = search needs
+
+run-forward-requires : tie.Need-run-forward-requires
+run-forward-requires c κs = search needs
+
+reached-requires : tie.Need-reached-requires
+reached-requires c κs = search needs
+
+cast-reached : tie.Need-cast-reached
+cast-reached c = ?
+
+blank-requires : tie.Need-blank-requires
+blank-requires c κs = search needs
+
+same-length : tie.Need-same-length
+same-length c = search needs
+
+returns : tie.Need-returns
+returns c = ?
+
+array-share-prefix-run : tie.Need-array-share-prefix-run
+array-share-prefix-run c = search needs
+
+slice-aggregate-lay : tie.Need-slice-aggregate-lay
+slice-aggregate-lay c = ?
+
+lay-requires : tie.Need-lay-requires
+lay-requires c κs = search needs
+
+enum-known-laid : tie.Need-enum-known-laid
+enum-known-laid c = search needs
+
+enum-told : tie.Need-enum-told
+enum-told c = search needs
+
+cast-t29 : tie.Need-cast-t29
+cast-t29 c = search needs
+
+same-length-2 : tie.Need-same-length-2
+same-length-2 c = search needs
+
+returns-2 : tie.Need-returns-2
+returns-2 c = ?
+
+same-length-3 : tie.Need-same-length-3
+same-length-3 c = search needs
+
+returns-3 : tie.Need-returns-3
+returns-3 c = ?
+
+pub forward-accepted-spec : {M : Type 1} → statement M
+forward-accepted-spec =
+    tie.close
+    (tie.spec
+    slice-aggregate-load
+    load-requires
+    slice-aggregate-run-forward
+    run-forward-requires
+    reached-requires
+    cast-reached
+    blank-requires
+    same-length
+    returns
+    array-share-prefix-run
+    slice-aggregate-lay
+    lay-requires
+    enum-known-laid
+    enum-told
+    cast-t29
+    same-length-2
+    returns-2
+    same-length-3
+    returns-3)
