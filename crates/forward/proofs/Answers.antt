@@ -42,11 +42,23 @@ module _ {A : Type 0} (s : List ℕ) (n room : ℕ) (a : A) where
       last none = refl
       last (some r) = refl
 
+  pub called-whole : recordCheck s ≡ none → solvable (taskOf s) ≡ true → none ≡ roomCheck n room → done a ≡ called
+  unfolding answer
+  called-whole e h q = sym (called-room e h ∙ rw (← q) refl)
+
+  pub called-short : recordCheck s ≡ none → solvable (taskOf s) ≡ true → (p q : ℕ) → refuse p q ≡ roomCheck n room → refused p q ≡ called
+  unfolding answer
+  called-short e h p q z = sym (called-room e h ∙ rw (← z) refl)
+
 -- the list holds the same whatever stands beside it in the answer
 pub lent-same : {A B : Type 0} (c : Check) (a : A) (b : B) (n : ℕ) (l : List ℕ) → lent (answer c a) n l ≡ lent (answer c b) n l
 unfolding lent answer
 lent-same none a b n l = refl
 lent-same (some r) a b n l = refl
+
+pub called-list : {A : Type 0} (s l : List ℕ) (m : ℕ) (a : A) → recordCheck s ≡ none → solvable (taskOf s) ≡ true → laidList m l ≡ lent (called s (length l) (capacity m) a) m l
+unfolding laidList
+called-list s l m a e h = lent-same {A = ℕ} (roomCheck (length l) (capacity m)) 0 a m l ∙ ap (λ x. lent x m l) (sym (called-room s (length l) (capacity m) a e h))
 
 pub lent-refused : {A : Type 0} (x : Answer A) (p q n : ℕ) (l : List ℕ) → x ≡ refused p q → replicate n 65535 ≡ lent x n l
 unfolding lent

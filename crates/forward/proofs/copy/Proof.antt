@@ -1,7 +1,6 @@
 use mathlib.Core.List.{_++_}
 use Rattle.forward.proofs.Answers.{copy-turn, copy-end}
-use lib.ListN.{length-append, length-drop}
-use lib.Seq.{length-take-le}
+use lib.ListN.{length-set}
 use borrow.Author.Needs.{needs}
 use mathlib.Core.Path.{_≡_, refl, sym, ap, _∙_}
 use Prim.Native.Nat.{ℕ, _+_, _*_, _/_, _^_, _-_, _≤_, _<_}
@@ -40,13 +39,13 @@ loop-less : tie.Need-loop-less Inv-loop μ-loop
 loop-less c = search needs
 
 loop-again : tie.Need-loop-again Inv-loop μ-loop
-loop-again c = ?
+loop-again c = let a = c .before .before .before .args in let I = c .before .before .loop .inv in (omega arith, simp length-set (I .1), rw (I .2) (copy-turn (a .to .now) (a .from .now) (c .before .before .loop .k) (omega arith) (omega arith)))
 
 same-length : tie.Need-same-length Inv-loop μ-loop
 same-length c = search needs
 
 returns : tie.Need-returns Inv-loop μ-loop
-returns c = ?
+returns c = let a = c .before .before .args in c .before .loop .inv .2 ∙ copy-end (a .to .now) (a .from .now) (c .before .loop .k) (omega arith)
 
 pub copy-spec : {M : Type 1} → statement M
 copy-spec =

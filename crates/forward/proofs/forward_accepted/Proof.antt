@@ -1,3 +1,14 @@
+use mathlib.Core.Path.{_≡_, refl, sym, ap, _∙_}
+use native.Mathlib.Omega.{arith}
+use lib.ListN.{length}
+use borrow.Author.Tests.{not-true, not-false}
+use Rattle.planning.specs.Record.{taskOf}
+use Rattle.planning.specs.Relaxed.{factsReached}
+use Rattle.planning.specs.Calls.{forwardCall, forwardList}
+use Rattle.planning.proofs.Formed.{formed-of}
+use Rattle.planning.proofs.Sizes.{factsReached-le}
+use Rattle.table.proofs.Size.{tableSize-max}
+use Rattle.forward.proofs.Answers.{called-unsolved, called-whole, called-short, called-list, lent-refused, reached-facts}
 use borrow.Author.Needs.{needs}
 use Rattle.forward.proofs.forward_accepted.Statement.{statement}
 use Rattle.forward.proofs.forward_accepted.Tie as tie
@@ -13,19 +24,22 @@ slice-aggregate-load : tie.Need-slice-aggregate-load
 slice-aggregate-load c = search needs
 
 load-requires : tie.Need-load-requires
-load-requires c κs = ?
+load-requires c κs = let p = c .before .before .before .pre in (p, ?)
 
 slice-aggregate-run-forward : tie.Need-slice-aggregate-run-forward
 slice-aggregate-run-forward c = search needs
 
 run-forward-requires : tie.Need-run-forward-requires
-run-forward-requires c κs = search needs
+run-forward-requires c κs = (c .before .before .before .before .before .before .before .before .pre, c .before .before .before .before .load .ensures .0, refl, refl)
 
 reached-requires : tie.Need-reached-requires
 reached-requires c κs = search needs
 
+reached-is : (c : tie.After-reached) → c .reached .result ≡ factsReached (taskOf (c .before .before .before .before .before .before .before .before .before .before .before .args .bytes .now))
+reached-is c = c .reached .ensures ∙ reached-facts _ (formed-of _ (c .before .before .before .before .before .before .before .before .before .before .before .pre)) _ (c .before .before .run-forward .ensures .state)
+
 cast-reached : tie.Need-cast-reached
-cast-reached c = ?
+cast-reached c = record { fits = omega (arith, reached-is c, factsReached-le _ (formed-of _ (c .before .before .before .before .before .before .before .before .before .before .before .pre))) }
 
 blank-requires : tie.Need-blank-requires
 blank-requires c κs = search needs
@@ -34,6 +48,7 @@ same-length : tie.Need-same-length
 same-length c = search needs
 
 returns : tie.Need-returns
+unfolding forwardCall forwardList
 returns c = ?
 
 array-share-prefix-run : tie.Need-array-share-prefix-run
@@ -58,12 +73,14 @@ same-length-2 : tie.Need-same-length-2
 same-length-2 c = search needs
 
 returns-2 : tie.Need-returns-2
+unfolding forwardCall forwardList
 returns-2 c = ?
 
 same-length-3 : tie.Need-same-length-3
 same-length-3 c = search needs
 
 returns-3 : tie.Need-returns-3
+unfolding forwardCall forwardList
 returns-3 c = ?
 
 pub forward-accepted-spec : {M : Type 1} → statement M
