@@ -1,23 +1,25 @@
 -- The calls that fill a plan list, check by check, and the list afterwards. Two calls differ in what they put into the list only.
 use mathlib.Core.Path.{_≡_, refl, sym, ap, _∙_, subst}
-use mathlib.Core.Bool.{Bool, true, false}
+use mathlib.Core.Bool.{Bool, true, false, not}
 use mathlib.Core.List.{List, [], _∷_, _++_, append-assoc, append-nil}
 use mathlib.Core.Option.{Option, none, some}
 use Prim.Native.Nat.{ℕ, zero, suc, _+_, _-_, _<_, _≤_, min}
 use native.Mathlib.Numerals.{add-one}
 use native.Mathlib.Omega.{arith}
 use native.Mathlib.Decide.{decLt}
-use borrow.Author.Tests.{le-leb, lt-leb}
+use borrow.Author.Tests.{le-leb, lt-leb, not-true, not-false}
 use lib.Dec.{leb}
-use lib.ListN.{length, getD, set, take, drop, replicate, length-append, length-drop}
+use lib.ListN.{length, getD, set, take, drop, replicate, length-append, length-drop, length-replicate}
 use lib.Seq.{take-suc, drop-cons, take-length, set-at, length-take-le, take-at}
 use Rattle.planning.specs.Basics.{Refusal, Check, check, refuse, andThen, inOrder, Answer, refused, done, answer}
 use Rattle.planning.specs.Record.{Task, taskOf, recordCheck}
 use Rattle.planning.specs.Runs.{State, Mode, act, relaxed, run, initial, step, factsIn, size}
 use Rattle.planning.specs.Relaxed.{forwardRun, forwardEnd, solvable, factsReached}
-use Rattle.planning.specs.Calls.{lent, capacity, roomCheck, solvableCheck}
+use Rattle.planning.specs.Calls.{lent, capacity, roomCheck, solvableCheck, Forward, forwardCall, forwardList}
 use Rattle.planning.proofs.Formed.{Formed}
 use Rattle.forward.specs.Answers.{laidList}
+use Rattle.table.specs.Size.{tableSize}
+use Rattle.table.proofs.Size.{tableSize-max}
 use Rattle.state.specs.Sets.{Within, setsOf}
 use Rattle.state.proofs.Count.{size-facts, within-initial, within-step}
 
@@ -110,3 +112,40 @@ within-run t F (i ∷ l) s W = within-run t F l (step relaxed (act t i) s) (with
 pub reached-facts : (t : Task) → Formed t → (s : State) → s ≡ forwardEnd t → size 64 (λ _. 64) s ≡ factsReached t
 unfolding factsReached forwardEnd
 reached-facts t F s e = rw e (size-facts t (run (act t) relaxed (forwardRun t) (initial t)) F (within-run t F (forwardRun t) (initial t) (within-initial t F)))
+
+-- the table of a record has room
+pub table-room : (s l : List ℕ) → recordCheck s ≡ none → l ≡ replicate 34816 0 → tableSize s ≤ length l
+table-room s l e q = rw (q, length-replicate {A = ℕ} 34816 0) (tableSize-max s e)
+
+-- the forward run's answer and its list, at each end
+module _ (s : List ℕ) (m : ℕ) where
+  pub forward-refused : (p q : ℕ) → refuse p q ≡ recordCheck s → (refused p q ≡ forwardCall s m) × (replicate m 65535 ≡ forwardList s m)
+  unfolding forwardCall forwardList
+  forward-refused p q e =
+      let x : Forward = record { steps = length (forwardRun (taskOf s)); reached = factsReached (taskOf s) } in
+      let z = called-refused s (length (forwardRun (taskOf s))) (capacity m) x (record { number = p; place = q }) (sym e) in
+      (sym z, lent-refused (forwardCall s m) p q m (forwardRun (taskOf s)) z)
+
+  module _ (e : recordCheck s ≡ none) (b : Bool) (eb : b ≡ solvable (taskOf s)) (f : ℕ) (ef : f ≡ factsReached (taskOf s)) where
+    pub forward-unsolved : not b ≡ true → (refused 10 f ≡ forwardCall s m) × (replicate m 65535 ≡ forwardList s m)
+    unfolding forwardCall forwardList
+    forward-unsolved h =
+        let x : Forward = record { steps = length (forwardRun (taskOf s)); reached = factsReached (taskOf s) } in
+        let z = called-unsolved s (length (forwardRun (taskOf s))) (capacity m) x e (sym eb ∙ not-true b h) in
+        (rw ef (sym z), lent-refused (forwardCall s m) 10 (factsReached (taskOf s)) m (forwardRun (taskOf s)) z)
+
+    module _ (h : not b ≡ false) (l : List ℕ) (el : l ≡ forwardRun (taskOf s)) where
+      solved : solvable (taskOf s) ≡ true
+      solved = sym eb ∙ not-false b h
+
+      pub forward-whole : (n : ℕ) → n ≡ length (forwardRun (taskOf s)) → none ≡ roomCheck (length l) (capacity m) → done (record { steps = n; reached = f }) ≡ forwardCall s m
+      unfolding forwardCall
+      forward-whole n en q = rw (en, ef) (called-whole s (length (forwardRun (taskOf s))) (capacity m) (record { steps = length (forwardRun (taskOf s)); reached = factsReached (taskOf s) }) e solved (rw (← el) q))
+
+      pub forward-short : (p q : ℕ) → refuse p q ≡ roomCheck (length l) (capacity m) → refused p q ≡ forwardCall s m
+      unfolding forwardCall
+      forward-short p q z = called-short s (length (forwardRun (taskOf s))) (capacity m) (record { steps = length (forwardRun (taskOf s)); reached = factsReached (taskOf s) }) e solved p q (rw (← el) z)
+
+      pub forward-list : laidList m l ≡ forwardList s m
+      unfolding forwardCall forwardList
+      forward-list = rw el (called-list s (forwardRun (taskOf s)) m (record { steps = length (forwardRun (taskOf s)); reached = factsReached (taskOf s) }) e solved)

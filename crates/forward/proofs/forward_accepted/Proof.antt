@@ -1,14 +1,13 @@
+use lib.Seq.{length-take-le}
+use Rattle.forward.specs.Answers.{laidOf}
 use mathlib.Core.Path.{_≡_, refl, sym, ap, _∙_}
 use native.Mathlib.Omega.{arith}
 use lib.ListN.{length}
-use borrow.Author.Tests.{not-true, not-false}
 use Rattle.planning.specs.Record.{taskOf}
 use Rattle.planning.specs.Relaxed.{factsReached}
-use Rattle.planning.specs.Calls.{forwardCall, forwardList}
 use Rattle.planning.proofs.Formed.{formed-of}
 use Rattle.planning.proofs.Sizes.{factsReached-le}
-use Rattle.table.proofs.Size.{tableSize-max}
-use Rattle.forward.proofs.Answers.{called-unsolved, called-whole, called-short, called-list, lent-refused, reached-facts}
+use Rattle.forward.proofs.Answers.{reached-facts, table-room, forward-unsolved, forward-whole, forward-short, forward-list}
 use borrow.Author.Needs.{needs}
 use Rattle.forward.proofs.forward_accepted.Statement.{statement}
 use Rattle.forward.proofs.forward_accepted.Tie as tie
@@ -24,7 +23,7 @@ slice-aggregate-load : tie.Need-slice-aggregate-load
 slice-aggregate-load c = search needs
 
 load-requires : tie.Need-load-requires
-load-requires c κs = let p = c .before .before .before .pre in (p, ?)
+load-requires c κs = let p = c .before .before .before .pre in (p, table-room _ _ p refl)
 
 slice-aggregate-run-forward : tie.Need-slice-aggregate-run-forward
 slice-aggregate-run-forward c = search needs
@@ -48,14 +47,13 @@ same-length : tie.Need-same-length
 same-length c = search needs
 
 returns : tie.Need-returns
-unfolding forwardCall forwardList
-returns c = ?
+returns c = let R = c .before .before .before .before .before .before .before .before .run-forward .ensures in let z = forward-unsolved (c .before .before .before .before .before .before .before .before .before .before .before .before .before .before .before .before .before .args .bytes .now) (length (c .before .before .before .before .before .before .before .before .before .before .before .before .before .before .before .before .before .args .plan .now)) (c .before .before .before .before .before .before .before .before .before .before .before .before .before .before .before .before .before .pre) _ (R .solved) _ (reached-is (c .before .before .before .before .before .before)) (c .before .before .before .before .if1 .taken) in (z .0, c .before .before .blank .ensures ∙ z .1)
 
 array-share-prefix-run : tie.Need-array-share-prefix-run
 array-share-prefix-run c = search needs
 
 slice-aggregate-lay : tie.Need-slice-aggregate-lay
-slice-aggregate-lay c = ?
+slice-aggregate-lay c = let R = c .before .before .before .before .before .run-forward .ensures in sym (length-take-le _ _ (omega (arith, R .few, R .long)))
 
 lay-requires : tie.Need-lay-requires
 lay-requires c κs = search needs
@@ -73,15 +71,13 @@ same-length-2 : tie.Need-same-length-2
 same-length-2 c = search needs
 
 returns-2 : tie.Need-returns-2
-unfolding forwardCall forwardList
-returns-2 c = ?
+returns-2 c = let R = c .before .before .before .before .before .before .before .before .before .before .before .run-forward .ensures in let a = c .before .before .before .before .before .before .before .before .before .before .before .before .before .before .before .before .before .before .before .before .args in let z = c .before .before .before .before .lay .ensures in (forward-whole (a .bytes .now) (length (a .plan .now)) (c .before .before .before .before .before .before .before .before .before .before .before .before .before .before .before .before .before .before .before .before .pre) _ (R .solved) _ (reached-is (c .before .before .before .before .before .before .before .before .before)) (c .before .before .before .before .before .before .before .if1 .left) _ (R .list) _ (R .steps) (ap laidOf (sym (c .enum-told .given .1)) ∙ z .0), z .1 ∙ forward-list (a .bytes .now) (length (a .plan .now)) (c .before .before .before .before .before .before .before .before .before .before .before .before .before .before .before .before .before .before .before .before .pre) _ (R .solved) _ (reached-is (c .before .before .before .before .before .before .before .before .before)) (c .before .before .before .before .before .before .before .if1 .left) _ (R .list))
 
 same-length-3 : tie.Need-same-length-3
 same-length-3 c = search needs
 
 returns-3 : tie.Need-returns-3
-unfolding forwardCall forwardList
-returns-3 c = ?
+returns-3 c = let R = c .before .before .before .before .before .before .before .before .before .before .before .before .run-forward .ensures in let a = c .before .before .before .before .before .before .before .before .before .before .before .before .before .before .before .before .before .before .before .before .before .args in let z = c .before .before .before .before .before .lay .ensures in (forward-short (a .bytes .now) (length (a .plan .now)) (c .before .before .before .before .before .before .before .before .before .before .before .before .before .before .before .before .before .before .before .before .before .pre) _ (R .solved) _ (reached-is (c .before .before .before .before .before .before .before .before .before .before)) (c .before .before .before .before .before .before .before .before .if1 .left) _ (R .list) _ _ (ap laidOf (sym (c .before .laid .given .1)) ∙ z .0), z .1 ∙ forward-list (a .bytes .now) (length (a .plan .now)) (c .before .before .before .before .before .before .before .before .before .before .before .before .before .before .before .before .before .before .before .before .before .pre) _ (R .solved) _ (reached-is (c .before .before .before .before .before .before .before .before .before .before)) (c .before .before .before .before .before .before .before .before .if1 .left) _ (R .list))
 
 pub forward-accepted-spec : {M : Type 1} → statement M
 forward-accepted-spec =
