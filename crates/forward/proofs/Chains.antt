@@ -379,6 +379,9 @@ module _ (act : ℕ → Action) (A : ℕ) (s owed : State) (head next ready : Li
       first-some-is A (adds act s) i
       (record { below = k .0; passes = and-i (holds s (act i .pre)) (not (holds s (act i .eff))) (k .1) (rw e tt); least = λ j l t. L .least j l (adds-ready S free j (omega (arith, k .0)) t) })
 
+pub zeros : (n x : ℕ) → _≡_ {A = ℕ} (getD (replicate n 0) x 0) 0
+zeros n x = let z : ℕ = 0 in elim (decLt x n) [ yes l ↦ getD-replicate n x z z l | no l ↦ List·getD-eq-default (replicate n z) z (rw (length-replicate n z) (omega arith)) ]
+
 -- One action more: it is on no chain, and left to settle.
 module _ (act : ℕ → Action) (s owed : State) where
   pub sites-enter : (j : ℕ) (head next ready : List ℕ) → Sites act j s owed head next ready 65535 0 → j < 1024 → 1024 ≤ getD next j 0 → Sites act (j + 1) s owed head next ready j 1
@@ -434,9 +437,6 @@ module _ (act : ℕ → Action) (s owed : State) where
     };
     unlinked = λ x _ l. getD-replicate {A = ℕ} 1024 x 65535 0 l;
   })
-    where
-      zeros : (n x : ℕ) → _≡_ {A = ℕ} (getD (replicate n 0) x 0) 0
-      zeros n x = let z : ℕ = 0 in elim (decLt x n) [ yes l ↦ getD-replicate n x z z l | no l ↦ List·getD-eq-default (replicate n z) z (rw (length-replicate n z) (omega arith)) ]
 
   pub entered-turn : (j : ℕ) (head next ready head′ next′ ready′ : List ℕ) → Entered head next ready j → j < 1024 → Settled s (act j) j head next ready head′ next′ ready′ → Entered head′ next′ ready′ (j + 1)
   entered-turn j head next ready head′ next′ ready′ E b Z =

@@ -9,6 +9,7 @@ use lib.ListN.{length, getD, take, drop}
 use Rattle.planning.specs.Record.{Task, taskOf, recordCheck}
 use Rattle.planning.specs.Runs.{State, act, initial, goals}
 use Rattle.planning.specs.Relaxed.{forwardRun, solvable, factsReached, firstBy, keep, relaxedPlan}
+use Rattle.bits.specs.declared.Refusal.{Refusal}
 use Rattle.table.specs.Table.{Tabled}
 use Rattle.state.specs.Sets.{singles, setsOf}
 use Rattle.forward.specs.Running.{Achieved}
@@ -39,16 +40,22 @@ pub record Keeping (t : Task) (n : ℕ) (needed kept : List ℕ) (k m : ℕ) : T
   pub kept-are : keep (act t) (firstBy (act t) (forwardRun t) (initial t)) (goals t) (drop k (forwardRun t)) .actions′ ≡ drop m kept
   pub needed-are : keep (act t) (firstBy (act t) (forwardRun t) (initial t)) (goals t) (drop k (forwardRun t)) .needed ≡ setsOf needed
 
--- the relaxed plan in the front of a list, or the facts reached where there is none
-pub record Found (t : Task) (plan : List ℕ) (n : ℕ) : Type 0 where
-  pub solved : solvable t ≡ true
+-- the relaxed plan in the front of a list of 1,024
+pub record Front (t : Task) (plan : List ℕ) (n : ℕ) : Type 0 where
   pub list : take n plan ≡ relaxedPlan t
   pub steps : n ≡ length (relaxedPlan t)
   pub few : n ≤ 1024
+  pub long : length plan ≡ 1024
 
-pub record Unfound (t : Task) (f : ℕ) : Type 0 where
+pub record Found (t : Task) (plan : List ℕ) (n : ℕ) : Type 0 where
+  pub solved : solvable t ≡ true
+  pub front : Front t plan n
+
+-- "10, facts reached: no plan"
+pub record Unfound (t : Task) (f : Refusal) : Type 0 where
   pub unsolved : solvable t ≡ false
-  pub reached : f ≡ factsReached t
+  pub number′ : f .number ≡ 10
+  pub place′ : f .place ≡ factsReached t
 
 abbrev pub KeptOf : Task → List ℕ → Kept → Type 0
 KeptOf t plan (Steps n) = Found t plan n
