@@ -1,3 +1,5 @@
+use mathlib.Core.Path.{_≡_, sym, refl, ap, _∙_}
+use Rattle.relax.specs.Answers.{noPlanOf}
 use borrow.Author.Needs.{needs}
 use Rattle.relax.proofs.refusal_of.Statement.{statement}
 use Rattle.relax.proofs.refusal_of.Tie as tie
@@ -11,7 +13,7 @@ enum-told : tie.Need-enum-told
 enum-told c = search needs
 
 returns : tie.Need-returns
-returns c = ?
+returns c = sym (ap noPlanOf (c .enum-told .given .1))
 
 returns-2 : tie.Need-returns-2
 returns-2 c = search needs
