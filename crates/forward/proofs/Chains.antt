@@ -1,0 +1,451 @@
+-- Where each action waits: what settling an action, taking a chain off and a larger state do to it. A chain is a list that the links
+-- follow; an action is on one chain at most, since each number of a chain has its place there (`owns`), so a link may be changed
+-- where its action is on none.
+use mathlib.Core.Path.{_≡_, refl, sym, ap, _∙_, subst}
+use mathlib.Core.Logic.{_⊎_, inl, inr, _≢_}
+use mathlib.Core.Bool.{Bool, true, false, not, _&&_, _||_}
+use mathlib.Core.List.{List, [], _∷_}
+use mathlib.Core.Option.{Option, none, some}
+use Prim.Native.Nat.{ℕ, zero, suc, _+_, _-_, _*_, _/_, _%_, _<_, _≤_}
+use native.Mathlib.Omega.{arith}
+use native.Mathlib.Decide.{ℕ-discrete, decLt}
+use borrow.Author.Tests.{ne-eqb, eq-eqb}
+use lib.Dec.{T, T-not, not-T, eqb, eqb→eq, eqb-refl}
+use lib.ListN.{length, getD, set, length-set, replicate, length-replicate, getD-replicate, List·getD-eq-default}
+use lib.Seq.{getD-set-same, getD-set-other}
+use Rattle.planning.specs.Basics.{tally, first}
+use Rattle.planning.specs.Record.{Action}
+use Rattle.planning.specs.Runs.{State, has, holds, step, relaxed}
+use Rattle.planning.specs.Relaxed.{adds}
+use Rattle.planning.proofs.Tests.{T→true, F→false, and-l, and-r, and-i, or-l, or-r, or-cases, T-cases}
+use Rattle.planning.proofs.Below.{First, First?, first-is, tally-le, tally-cases}
+use Rattle.planning.proofs.Facts.{_⊆_, holds→sub, sub→holds}
+use Rattle.state.specs.Sets.{setsOf}
+use Rattle.state.proofs.Members.{inSet-empty}
+use Rattle.forward.specs.Waiting.{reaches, member, Lowest, With, Without, Settled, goes, waits, mem, Each, Chain, Sites}
+
+-- a function changed at one place
+pub put : {B : Type 0} → (ℕ → B) → ℕ → B → ℕ → B
+put g h v x = elim (eqb x h) [ true ↦ v | false ↦ g x ]
+
+pub put-same : {B : Type 0} (g : ℕ → B) (h : ℕ) (v : B) → put g h v h ≡ v
+unfolding put
+put-same g h v = rw (eq-eqb h h refl, put) refl
+
+pub put-other : {B : Type 0} (g : ℕ → B) (h : ℕ) (v : B) (x : ℕ) → x ≢ h → put g h v x ≡ g x
+unfolding put
+put-other g h v x n = rw (ne-eqb x h n, put) refl
+
+pub put-cases : {B : Type 0} (P : ℕ → B → Type 0) (g : ℕ → B) (h : ℕ) (v : B) → P h v → ((x : ℕ) → x ≢ h → P x (g x)) → (x : ℕ) → P x (put g h v x)
+put-cases P g h v p f x = go (ℕ-discrete x h)
+  where
+    go : Dec (x ≡ h) → P x (put g h v x)
+    go (yes e) = rw (e, put-same g h v) p
+    go (no n) = rw (put-other g h v x n) (f x n)
+
+pub each-map : (P Q : ℕ → Type 0) → ((i : ℕ) → P i → Q i) → (l : List ℕ) → Each P l → Each Q l
+each-map P Q f [] h = tt
+each-map P Q f (i ∷ l) h = (f i (h .0), each-map P Q f l (h .1))
+
+each-both : (P Q R : ℕ → Type 0) → ((i : ℕ) → P i → Q i → R i) → (l : List ℕ) → Each P l → Each Q l → Each R l
+each-both P Q R f [] h g = tt
+each-both P Q R f (i ∷ l) h g = (f i (h .0) (g .0), each-both P Q R f l (h .1) (g .1))
+
+mem-each : (P : ℕ → Type 0) (l : List ℕ) → Each P l → (j : ℕ) → T (mem j l) → P j
+unfolding mem
+mem-each P [] h j t = absurd t
+mem-each P (i ∷ l) h j t = go (or-cases (eqb j i) (mem j l) t) (mem-each P l (h .1) j)
+  where
+    go : T (eqb j i) ⊎ T (mem j l) → (T (mem j l) → P j) → P j
+    go (inl e) f = rw (eqb→eq j i e) (h .0)
+    go (inr e) f = f e
+
+-- Counting: numbers below n that are all different are at most n.
+pub tally-fewer : (n : ℕ) (p q : ℕ → Bool) → ((i : ℕ) → i < n → T (p i) → T (q i)) → (x : ℕ) → x < n → T (q x) → (T (p x) → ⊥) → tally n p < tally n q
+tally-fewer n p q h x b t f = elim (tally-cases n p q h) [ inl a ↦ absurd (f (a .0 x b t)) | inr l ↦ l ]
+
+abbrev pub Distinct : List ℕ → Type 0
+Distinct [] = Unit {0}
+Distinct (i ∷ l) = Each (λ j. j ≢ i) l × Distinct l
+
+distinct-tally : (n : ℕ) (l : List ℕ) → Each (λ i. i < n) l → Distinct l → length l + tally n (λ j. not (mem j l)) ≤ n
+unfolding mem
+distinct-tally n [] b d = omega (arith, tally-le n (λ j. not (mem j [])))
+distinct-tally n (i ∷ l) b d = omega (arith, distinct-tally n l (b .1) (d .1), tally-fewer n (λ j. not (mem j (i ∷ l))) (λ j. not (mem j l)) sub i (b .0) new old)
+  where
+    sub : (j : ℕ) → j < n → T (not (eqb j i || mem j l)) → T (not (mem j l))
+    sub j c t = not-T (mem j l) (λ m. T-not (eqb j i || mem j l) t (or-r (eqb j i) (mem j l) m))
+
+    new : T (not (mem i l))
+    new = not-T (mem i l) (λ m. mem-each (λ j. j ≢ i) l (d .0) i m refl)
+
+    old : T (not (eqb i i || mem i l)) → ⊥
+    old t = T-not (eqb i i || mem i l) t (or-l (eqb i i) (mem i l) (eqb-refl i))
+
+pub distinct-length : (n : ℕ) (l : List ℕ) → Each (λ i. i < n) l → Distinct l → length l ≤ n
+distinct-length n l b d = omega (arith, distinct-tally n l b d)
+
+below-or : (x y : ℕ) → x ≢ y → (x < y) ⊎ (y < x)
+below-or x y n = elim (decLt x y) [ yes l ↦ inl l | no l ↦ inr (omega arith) ]
+
+-- the least number that passes, named
+first-some-is : (n : ℕ) (p : ℕ → Bool) (i : ℕ) → First n p i → first n p ≡ some i
+first-some-is n p i F = go (first n p) (first-is n p)
+  where
+    go : (o : Option ℕ) → First? n p o → o ≡ some i
+    go none h = absurd (h i (F .below) (F .passes))
+    go (some j) G = go₂ (ℕ-discrete j i)
+      where
+        go₂ : Dec (j ≡ i) → some j ≡ some i
+        go₂ (yes e) = ap some e
+        go₂ (no q) = elim (below-or j i q) [ inl l ↦ absurd (F .least j l (G .passes)) | inr l ↦ absurd (G .least i l (F .passes)) ]
+
+first-none-is : (n : ℕ) (p : ℕ → Bool) → ((i : ℕ) → i < n → T (p i) → ⊥) → first n p ≡ none
+first-none-is n p h = go (first n p) (first-is n p)
+  where
+    go : (o : Option ℕ) → First? n p o → o ≡ none
+    go none k = refl
+    go (some j) G = absurd (h j (G .below) (G .passes))
+
+-- chains
+chain-distinct : (next : List ℕ) (l : List ℕ) (h : ℕ) → Chain next h l → Distinct l
+chain-distinct next [] h c = tt
+chain-distinct next (j ∷ l) h c = (c .2, chain-distinct next l (getD next j 0) (c .3))
+
+chain-set : (next : List ℕ) (j x : ℕ) (l : List ℕ) (h : ℕ) → Each (λ i. i ≢ j) l → Chain next h l → Chain (set next j x) h l
+chain-set next j x [] h n c = c
+chain-set next j x (i ∷ l) h n c = (c .0, c .1, c .2, rw (getD-set-other next j i x 0 (n .0)) (chain-set next j x l (getD next i 0) (n .1) (c .3)))
+
+empty-by-end : (next : List ℕ) (l : List ℕ) (h : ℕ) → Chain next h l → 1024 ≤ h → l ≡ []
+empty-by-end next [] h c e = refl
+empty-by-end next (j ∷ l) h c e = absurd (omega (arith, c .0, c .1))
+
+empty-by-length : (l : List ℕ) → length l ≤ 0 → l ≡ []
+empty-by-length [] e = refl
+empty-by-length (j ∷ l) e = absurd (omega arith)
+
+module _ (act : ℕ → Action) (A : ℕ) (s owed : State) (head next ready : List ℕ) where
+  -- nothing is left to settle
+  at-rest : (h n : ℕ) (S : Sites act A s owed head next ready h n) → S .rest ≡ [] → Sites act A s owed head next ready 65535 0
+  at-rest h n S e = record {
+    few = S .few;
+    head-long = S .head-long;
+    next-long = S .next-long;
+    ready-long = S .ready-long;
+    w = S .w;
+    line = S .line;
+    rest = [];
+    left = omega arith;
+    chained = S .chained;
+    chained-rest = omega arith;
+    owns = S .owns;
+    owns-rest = tt;
+    on-line = S .on-line;
+    on-rest = λ j b q. rw e at (S .on-rest j b q);
+    needs = S .needs;
+    unreached = S .unreached;
+    out = S .out;
+    sound = S .sound;
+  }
+
+  pub sites-ended : (h n : ℕ) → Sites act A s owed head next ready h n → 1024 ≤ h → Sites act A s owed head next ready 65535 0
+  sites-ended h n S e = at-rest h n S (empty-by-end next (S .rest) h (S .chained-rest) e)
+
+  pub sites-spent : (h n : ℕ) → Sites act A s owed head next ready h n → n ≤ 0 → Sites act A s owed head next ready 65535 0
+  sites-spent h n S e = at-rest h n S (empty-by-length (S .rest) (omega (arith, S .left)))
+
+  -- the action in front of those that are left is settled
+  pub record Front (h n : ℕ) (S : Sites act A s owed head next ready h n) : Type 0 where
+    pub below : h < A
+    pub place : S .w h ≡ 4096
+    pub tail : List ℕ
+    pub short : suc (length tail) ≤ n
+    pub chain : Chain next (getD next h 0) tail
+    pub apart : Each (λ i. i ≢ h) tail
+    pub own : Each (λ j. (S .w j ≡ 4096) × (j < A)) tail
+    pub others : (j : ℕ) → j ≢ h → j < A → S .w j ≡ 4096 → T (mem j tail)
+
+  pub front : (h n : ℕ) (S : Sites act A s owed head next ready h n) → h < 1024 → Front h n S
+  unfolding mem
+  front h n S b = go (S .rest) (S .left) (S .chained-rest) (S .owns-rest) (S .on-rest)
+    where
+      go : (r : List ℕ) → length r ≤ n → Chain next h r → Each (λ j. (S .w j ≡ 4096) × (j < A)) r → ((j : ℕ) → j < A → S .w j ≡ 4096 → T (mem j r)) → Front h n S
+      go [] k c o f = absurd (omega arith)
+      go (i ∷ r) k c o f =
+          let e = c .0 in
+          record {
+            below = omega (arith, o .0 .1);
+            place = rw e (o .0 .0);
+            tail = r;
+            short = k;
+            chain = rw e (c .3);
+            apart = rw e (c .2);
+            own = o .1;
+            others = λ j q l p. elim (or-cases (eqb j i) (mem j r) (f j l p)) [ inl z ↦ absurd (q (eqb→eq j i z ∙ sym e)) | inr z ↦ z ];
+          }
+
+  module _ (h n : ℕ) (S : Sites act A s owed head next ready h n) (b : h < 1024) where
+    F : Front h n S
+    F = front h n S b
+
+    not-h : (f : ℕ) → f < 4096 → Each (λ i. i ≢ h) (S .line f)
+    not-h f l = each-map (λ i. (S .w i ≡ f) × (i < A)) (λ i. i ≢ h) (λ i o e. let z : S .w h ≡ f = rw e at (o .0) in omega (arith, F .place)) (S .line f) (S .owns f l)
+
+    still : (v f : ℕ) (l : List ℕ) → Each (λ i. i ≢ h) l → Each (λ j. (S .w j ≡ f) × (j < A)) l → Each (λ j. (put (S .w) h v j ≡ f) × (j < A)) l
+    still v f l a o = each-both (λ i. i ≢ h) (λ j. (S .w j ≡ f) × (j < A)) (λ j. (put (S .w) h v j ≡ f) × (j < A)) (λ j q p. (put-other (S .w) h v j q ∙ p .0, p .1)) l a o
+
+    pub settled-goes : (ready′ : List ℕ) → T (holds s (act h .pre)) → With ready h ready′ → Sites act A s owed head next ready′ (getD next h 0) (n - 1)
+    settled-goes ready′ p W = record {
+      few = S .few;
+      head-long = S .head-long;
+      next-long = S .next-long;
+      ready-long = W .long ∙ S .ready-long;
+      w = put (S .w) h 4097;
+      line = S .line;
+      rest = F .tail;
+      left = omega (arith, F .short);
+      chained = S .chained;
+      chained-rest = F .chain;
+      owns = λ f l. still 4097 f (S .line f) (not-h f l) (S .owns f l);
+      owns-rest = still 4097 4096 (F .tail) (F .apart) (F .own);
+      on-line = put-cases (λ j y. j < A → y < 4096 → T (mem j (S .line y))) (S .w) h 4097 (λ _ l. absurd (omega arith)) (λ j _. S .on-line j);
+      on-rest = put-cases (λ j y. j < A → y ≡ 4096 → T (mem j (F .tail))) (S .w) h 4097 (λ _ l. absurd (omega arith)) (λ j q. F .others j q);
+      needs = put-cases (λ j y. j < A → y < 4096 → T (has (act j .pre) (y / 64) (y % 64))) (S .w) h 4097 (λ _ l. absurd (omega arith)) (λ j _. S .needs j);
+      unreached = put-cases (λ j y. j < A → y < 4096 → T (reaches s y) → T (reaches owed y)) (S .w) h 4097 (λ _ l. absurd (omega arith)) (λ j _. S .unreached j);
+      out = put-cases (λ j y. j < A → 4096 < y → T (member ready′ j) ⊎ T (holds s (act j .eff))) (S .w) h 4097
+          (λ _ _. inl (rw (W .are h) (or-l (eqb h h) (member ready h) (eqb-refl h))))
+          (λ j _ l g. elim (S .out j l g) [ inl m ↦ inl (rw (W .are j) (or-r (eqb j h) (member ready j) m)) | inr e ↦ inr e ]);
+      sound = λ j m. elim (or-cases (eqb j h) (member ready j) (rw (W .are j) at m)) [
+        | inl e ↦ rw (eqb→eq j h e) (F .below, p)
+        | inr k ↦ S .sound j k
+      ];
+    }
+
+    module _ (f : ℕ) (g : f < 4096) where
+      abbrev next′ : List ℕ
+      next′ = set next h (getD head f 0)
+
+      abbrev line′ : ℕ → List ℕ
+      line′ = put (S .line) f (h ∷ S .line f)
+
+      linked : (x : ℕ) (l : List ℕ) → Each (λ i. i ≢ h) l → Chain next x l → Chain next′ x l
+      linked x l a c = chain-set next h (getD head f 0) l x a c
+
+      lined : (j y : ℕ) → T (mem j (S .line y)) → T (mem j (line′ y))
+      unfolding mem
+      lined j = put-cases (λ y l. T (mem j (S .line y)) → T (mem j l)) (S .line) f (h ∷ S .line f) (λ t. or-r (eqb j h) (mem j (S .line f)) t) (λ y _ t. t)
+
+      pub settled-waits : T (has (act h .pre) (f / 64) (f % 64)) → reaches s f ≡ false → Sites act A s owed (set head f h) next′ ready (getD next h 0) (n - 1)
+      unfolding mem
+      settled-waits p u = record {
+        few = S .few;
+        head-long = simp length-set (S .head-long);
+        next-long = simp length-set (S .next-long);
+        ready-long = S .ready-long;
+        w = put (S .w) h f;
+        line = line′;
+        rest = F .tail;
+        left = omega (arith, F .short);
+        chained = put-cases (λ x l. x < 4096 → Chain next′ (getD (set head f h) x 0) l) (S .line) f (h ∷ S .line f)
+            (λ l. (getD-set-same head f h 0 (omega (arith, S .head-long)), b, not-h f l, rw (getD-set-same next h (getD head f 0) 0 (omega (arith, S .next-long))) (linked (getD head f 0) (S .line f) (not-h f l) (S .chained f l))))
+            (λ x q l. rw (getD-set-other head f x h 0 q) (linked (getD head x 0) (S .line x) (not-h x l) (S .chained x l)));
+        chained-rest = linked (getD next h 0) (F .tail) (F .apart) (F .chain);
+        owns = put-cases (λ x l. x < 4096 → Each (λ j. (put (S .w) h f j ≡ x) × (j < A)) l) (S .line) f (h ∷ S .line f)
+            (λ l. ((put-same (S .w) h f, F .below), still f f (S .line f) (not-h f l) (S .owns f l)))
+            (λ x q l. still f x (S .line x) (not-h x l) (S .owns x l));
+        owns-rest = still f 4096 (F .tail) (F .apart) (F .own);
+        on-line = put-cases (λ j y. j < A → y < 4096 → T (mem j (line′ y))) (S .w) h f
+            (λ _ _. rw (put-same (S .line) f (h ∷ S .line f)) (or-l (eqb h h) (mem h (S .line f)) (eqb-refl h)))
+            (λ j _ l k. lined j (S .w j) (S .on-line j l k));
+        on-rest = put-cases (λ j y. j < A → y ≡ 4096 → T (mem j (F .tail))) (S .w) h f (λ _ l. absurd (omega arith)) (λ j q. F .others j q);
+        needs = put-cases (λ j y. j < A → y < 4096 → T (has (act j .pre) (y / 64) (y % 64))) (S .w) h f (λ _ _. p) (λ j _. S .needs j);
+        unreached = put-cases (λ j y. j < A → y < 4096 → T (reaches s y) → T (reaches owed y)) (S .w) h f (λ _ _ t. absurd (rw u at t)) (λ j _. S .unreached j);
+        out = put-cases (λ j y. j < A → 4096 < y → T (member ready j) ⊎ T (holds s (act j .eff))) (S .w) h f (λ _ l. absurd (omega arith)) (λ j _. S .out j);
+        sound = S .sound;
+      }
+
+    pub sites-settled : (head′ next′ ready′ : List ℕ) → Settled s (act h) h head next ready head′ next′ ready′ → Sites act A s owed head′ next′ ready′ (getD next h 0) (n - 1)
+    sites-settled head′ next′ ready′ (goes p W eh en) = rw (eh, en) (settled-goes ready′ p W)
+    sites-settled head′ next′ ready′ (waits f g p u eh en er) = rw (eh, en, er) (settled-waits f g p u)
+
+  -- the chain of fact f is taken off, to be settled
+  module _ (S : Sites act A s owed head next ready 65535 0) (f : ℕ) (g : f < 4096) where
+    abbrev w′ : ℕ → ℕ
+    w′ x = put (λ y. y) f 4096 (S .w x)
+
+    w-f : (x : ℕ) → S .w x ≡ f → w′ x ≡ 4096
+    w-f x e = rw e (put-same (λ y. y) f 4096)
+
+    w-other : (x : ℕ) → S .w x ≢ f → w′ x ≡ S .w x
+    w-other x n = put-other (λ y. y) f 4096 (S .w x) n
+
+    -- an action that is not on the chain of f stays where it is
+    stays : (P : ℕ → Type 0) (x : ℕ) → w′ x ≢ 4096 → (S .w x ≢ f → P (S .w x)) → P (w′ x)
+    stays P x n k = elim (ℕ-discrete (S .w x) f) [ yes e ↦ absurd (n (w-f x e)) | no q ↦ rw (w-other x q) (k q) ]
+
+    none-left : (x : ℕ) → x < A → S .w x ≡ 4096 → ⊥
+    unfolding mem
+    none-left x b e = rw (empty-by-length (S .rest) (S .left)) at (S .on-rest x b e)
+
+    pub sites-off : (owed′ : State) → ((y : ℕ) → y ≢ f → T (reaches owed y) → T (reaches owed′ y)) → Sites act A s owed′ (set head f 65535) next ready (getD head f 0) 1024
+    sites-off owed′ o = record {
+      few = S .few;
+      head-long = simp length-set (S .head-long);
+      next-long = S .next-long;
+      ready-long = S .ready-long;
+      w = w′;
+      line = put (S .line) f [];
+      rest = S .line f;
+      left = omega (arith, S .few, distinct-length A (S .line f) (each-map (λ j. (S .w j ≡ f) × (j < A)) (λ j. j < A) (λ j p. p .1) (S .line f) (S .owns f g)) (chain-distinct next (S .line f) (getD head f 0) (S .chained f g)));
+      chained = put-cases (λ x l. x < 4096 → Chain next (getD (set head f 65535) x 0) l) (S .line) f []
+          (λ l. rw (getD-set-same head f 65535 0 (omega (arith, S .head-long))) (omega arith))
+          (λ x q l. rw (getD-set-other head f x 65535 0 q) (S .chained x l));
+      chained-rest = S .chained f g;
+      owns = put-cases (λ x l. x < 4096 → Each (λ j. (w′ j ≡ x) × (j < A)) l) (S .line) f [] (λ _. tt)
+          (λ x q l. each-map (λ j. (S .w j ≡ x) × (j < A)) (λ j. (w′ j ≡ x) × (j < A)) (λ j p. (w-other j (λ e. q (sym (p .0) ∙ e)) ∙ p .0, p .1)) (S .line x) (S .owns x l));
+      owns-rest = each-map (λ j. (S .w j ≡ f) × (j < A)) (λ j. (w′ j ≡ 4096) × (j < A)) (λ j p. (w-f j (p .0), p .1)) (S .line f) (S .owns f g);
+      on-line = λ j b l. stays (λ y. y < 4096 → T (mem j (put (S .line) f [] y))) j (omega arith) (λ q k. rw (put-other (S .line) f [] (S .w j) q) (S .on-line j b k)) l;
+      on-rest = λ j b e. elim (ℕ-discrete (S .w j) f) [
+        | yes q ↦ subst (λ y. T (mem j (S .line y))) q (S .on-line j b (omega arith))
+        | no q ↦ absurd (none-left j b (sym (w-other j q) ∙ e))
+      ];
+      needs = λ j b l. stays (λ y. y < 4096 → T (has (act j .pre) (y / 64) (y % 64))) j (omega arith) (λ _. S .needs j b) l;
+      unreached = λ j b l. stays (λ y. y < 4096 → T (reaches s y) → T (reaches owed′ y)) j (omega arith) (λ q k t. o (S .w j) q (S .unreached j b k t)) l;
+      out = λ j b l. stays (λ y. 4096 < y → T (member ready j) ⊎ T (holds s (act j .eff))) j (omega arith) (λ _. S .out j b) l;
+      sound = S .sound;
+    }
+
+  -- the state grows, and i, whose effects it then has, leaves the ready ones
+  pub sites-leave : (s′ owed′ : State) (i : ℕ) (ready′ : List ℕ) → Sites act A s owed head next ready 65535 0 → s ⊆ s′ → T (holds s′ (act i .eff))
+      → ((y : ℕ) → T (reaches s′ y) → T (reaches s y) ⊎ T (reaches owed′ y)) → ((y : ℕ) → T (reaches owed y) → T (reaches owed′ y)) → Without ready i ready′
+      → Sites act A s′ owed′ head next ready′ 65535 0
+  sites-leave s′ owed′ i ready′ S up e more owes W = record {
+    few = S .few;
+    head-long = S .head-long;
+    next-long = S .next-long;
+    ready-long = W .long ∙ S .ready-long;
+    w = S .w;
+    line = S .line;
+    rest = S .rest;
+    left = S .left;
+    chained = S .chained;
+    chained-rest = S .chained-rest;
+    owns = S .owns;
+    owns-rest = S .owns-rest;
+    on-line = S .on-line;
+    on-rest = S .on-rest;
+    needs = S .needs;
+    unreached = λ j b l t. elim (more (S .w j) t) [ inl p ↦ owes (S .w j) (S .unreached j b l p) | inr p ↦ p ];
+    out = λ j b l. leaves j b (S .out j b l) (ℕ-discrete j i);
+    sound = λ j m. let k = S .sound j (and-l (member ready j) (not (eqb j i)) (rw (W .are j) at m)) in (k .0, grows (act j .pre) (k .1));
+  }
+    where
+      grows : (fs : List _) → T (holds s fs) → T (holds s′ fs)
+      grows fs t = sub→holds s′ fs (λ v d h. up v d (holds→sub s fs t v d h))
+
+      leaves : (j : ℕ) → j < A → T (member ready j) ⊎ T (holds s (act j .eff)) → Dec (j ≡ i) → T (member ready′ j) ⊎ T (holds s′ (act j .eff))
+      leaves j b p (yes q) = inr (rw q e)
+      leaves j b (inl p) (no q) = inl (rw (W .are j, ne-eqb j i q) (and-i (member ready j) true p tt))
+      leaves j b (inr p) (no q) = inr (grows (act j .eff) p)
+
+  -- what adds a fact is ready
+  adds-ready : Sites act A s owed head next ready 65535 0 → ((y : ℕ) → T (reaches owed y) → ⊥) → (j : ℕ) → j < A → T (adds act s j) → T (member ready j)
+  unfolding adds reaches mem
+  adds-ready S free j b t = go (ℕ-discrete (S .w j) 4096)
+    where
+      pre : T (holds s (act j .pre))
+      pre = and-l (holds s (act j .pre)) (not (holds s (act j .eff))) t
+
+      new : T (holds s (act j .eff)) → ⊥
+      new = T-not (holds s (act j .eff)) (and-r (holds s (act j .pre)) (not (holds s (act j .eff))) t)
+
+      on : S .w j < 4096 → T (member ready j)
+      on l = absurd (free (S .w j) (S .unreached j b l (holds→sub s (act j .pre) pre (S .w j / 64) (S .w j % 64) (S .needs j b l))))
+
+      off : 4096 < S .w j → T (member ready j)
+      off l = elim (S .out j b l) [ inl m ↦ m | inr e ↦ absurd (new e) ]
+
+      go : Dec (S .w j ≡ 4096) → T (member ready j)
+      go (yes e) = absurd (rw (empty-by-length (S .rest) (S .left)) at (S .on-rest j b e))
+      go (no n) = elim (below-or (S .w j) 4096 n) [ inl l ↦ on l | inr l ↦ off l ]
+
+  pub sites-none : Sites act A s owed head next ready 65535 0 → ((y : ℕ) → T (reaches owed y) → ⊥) → Lowest ready 1024 → first A (adds act s) ≡ none
+  sites-none S free L = first-none-is A (adds act s) (λ i b t. L .least i (omega (arith, S .few)) (adds-ready S free i b t))
+
+  pub sites-first : (i : ℕ) → Sites act A s owed head next ready 65535 0 → ((y : ℕ) → T (reaches owed y) → ⊥) → Lowest ready i → i < 1024 → holds s (act i .eff) ≡ false → first A (adds act s) ≡ some i
+  unfolding adds
+  sites-first i S free L b e =
+      let k = S .sound i (L .is b) in
+      first-some-is A (adds act s) i
+      (record { below = k .0; passes = and-i (holds s (act i .pre)) (not (holds s (act i .eff))) (k .1) (rw e tt); least = λ j l t. L .least j l (adds-ready S free j (omega (arith, k .0)) t) })
+
+pub zeros : (n x : ℕ) → _≡_ {A = ℕ} (getD (replicate n 0) x 0) 0
+zeros n x = let z : ℕ = 0 in elim (decLt x n) [ yes l ↦ getD-replicate n x z z l | no l ↦ List·getD-eq-default (replicate n z) z (rw (length-replicate n z) (omega arith)) ]
+
+-- One action more: it is on no chain, and left to settle.
+module _ (act : ℕ → Action) (s owed : State) where
+  pub sites-enter : (j : ℕ) (head next ready : List ℕ) → Sites act j s owed head next ready 65535 0 → j < 1024 → 1024 ≤ getD next j 0 → Sites act (j + 1) s owed head next ready j 1
+  unfolding mem
+  sites-enter j head next ready S b e = record {
+    few = omega arith;
+    head-long = S .head-long;
+    next-long = S .next-long;
+    ready-long = S .ready-long;
+    w = put (S .w) j 4096;
+    line = S .line;
+    rest = j ∷ [];
+    left = omega arith;
+    chained = S .chained;
+    chained-rest = (refl, b, tt, e);
+    owns = λ f l. each-map (λ i. (S .w i ≡ f) × (i < j)) (λ i. (put (S .w) j 4096 i ≡ f) × (i < j + 1)) (λ i p. (put-other (S .w) j 4096 i (omega (arith, p .1)) ∙ p .0, omega (arith, p .1))) (S .line f) (S .owns f l);
+    owns-rest = ((put-same (S .w) j 4096, omega arith), tt);
+    on-line = put-cases (λ i y. i < j + 1 → y < 4096 → T (mem i (S .line y))) (S .w) j 4096 (λ _ l. absurd (omega arith)) (λ i q l. S .on-line i (omega arith));
+    on-rest = put-cases (λ i y. i < j + 1 → y ≡ 4096 → T (mem i (j ∷ []))) (S .w) j 4096 (λ _ _. or-l (eqb j j) (mem j []) (eqb-refl j)) (λ i q l z. absurd (rw (empty-by-length (S .rest) (S .left)) at (S .on-rest i (omega arith) z)));
+    needs = put-cases (λ i y. i < j + 1 → y < 4096 → T (has (act i .pre) (y / 64) (y % 64))) (S .w) j 4096 (λ _ l. absurd (omega arith)) (λ i q l. S .needs i (omega arith));
+    unreached = put-cases (λ i y. i < j + 1 → y < 4096 → T (reaches s y) → T (reaches owed y)) (S .w) j 4096 (λ _ l. absurd (omega arith)) (λ i q l. S .unreached i (omega arith));
+    out = put-cases (λ i y. i < j + 1 → 4096 < y → T (member ready i) ⊎ T (holds s (act i .eff))) (S .w) j 4096 (λ _ l. absurd (omega arith)) (λ i q l. S .out i (omega arith));
+    sound = λ i m. let k = S .sound i m in (omega (arith, k .0), k .1);
+  }
+
+  -- the actions below j are settled, and no link is set from j on
+  pub record Entered (head next ready : List ℕ) (j : ℕ) : Type 0 where
+    pub sites : Sites act j s owed head next ready 65535 0
+    pub unlinked : (x : ℕ) → j ≤ x → x < 1024 → getD next x 0 ≡ 65535
+
+  pub entered-start : (head next ready : List ℕ) → head ≡ replicate 4096 65535 → next ≡ replicate 1024 65535 → ready ≡ replicate 16 0 → Entered head next ready 0
+  unfolding member setsOf
+  entered-start head next ready eh en er = rw (eh, en, er) (record {
+    sites = record {
+      few = omega arith;
+      head-long = length-replicate {A = ℕ} 4096 65535;
+      next-long = length-replicate {A = ℕ} 1024 65535;
+      ready-long = length-replicate {A = ℕ} 16 0;
+      w = λ _. 0;
+      line = λ _. [];
+      rest = [];
+      left = omega arith;
+      chained = λ f l. rw (getD-replicate {A = ℕ} 4096 f 65535 0 l) (omega arith);
+      chained-rest = omega arith;
+      owns = λ f l. tt;
+      owns-rest = tt;
+      on-line = λ j b. absurd (omega arith);
+      on-rest = λ j b. absurd (omega arith);
+      needs = λ j b. absurd (omega arith);
+      unreached = λ j b. absurd (omega arith);
+      out = λ j b. absurd (omega arith);
+      sound = λ j m. absurd (rw (zeros 16 (j / 64), inSet-empty (j % 64)) at m);
+    };
+    unlinked = λ x _ l. getD-replicate {A = ℕ} 1024 x 65535 0 l;
+  })
+
+  pub entered-turn : (j : ℕ) (head next ready head′ next′ ready′ : List ℕ) → Entered head next ready j → j < 1024 → Settled s (act j) j head next ready head′ next′ ready′ → Entered head′ next′ ready′ (j + 1)
+  entered-turn j head next ready head′ next′ ready′ E b Z =
+      let e : 1024 ≤ getD next j 0 = omega (arith, E .unlinked j (omega arith) b) in
+      record {
+        sites = sites-ended act (j + 1) s owed head′ next′ ready′ (getD next j 0) 0 (sites-settled act (j + 1) s owed head next ready j 1 (sites-enter j head next ready (E .sites) b e) b head′ next′ ready′ Z) e;
+        unlinked = λ x p l. links Z x (omega arith) ∙ E .unlinked x (omega arith) l;
+      }
+    where
+      links : Settled s (act j) j head next ready head′ next′ ready′ → (x : ℕ) → x ≢ j → getD next′ x 0 ≡ getD next x 0
+      links (goes p W eh en) x q = rw en refl
+      links (waits f g p u eh en er) x q = rw en (getD-set-other next j x (getD head f 0) 0 q)

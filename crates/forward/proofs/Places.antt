@@ -1,0 +1,227 @@
+-- Facts by their places in a list of numbers: a list of facts has exactly those at its places, so that a test of it is a test at each
+-- place. The loops over facts stand on this.
+use mathlib.Core.Path.{_≡_, refl, sym, ap, _∙_, subst}
+use mathlib.Core.Logic.{_⊎_, inl, inr, _≢_}
+use mathlib.Core.Bool.{Bool, true, false, not, _&&_, _||_}
+use mathlib.Core.List.{List, [], _∷_, map}
+use Prim.Native.Nat.{ℕ, zero, suc, _+_, _-_, _*_, _/_, _%_, _<_, _≤_}
+use native.Mathlib.Omega.{arith}
+use native.Mathlib.Decide.{ℕ-discrete}
+use lib.Dec.{T, eqb, eqb→eq, eqb-refl}
+use lib.ListN.{length, getD, set, length-set}
+use lib.Seq.{slice, slice-cons, slice-empty, getD-set-same, getD-set-other}
+use Rattle.planning.specs.Record.{Fact}
+use Rattle.planning.specs.Runs.{State, has, holds}
+use Rattle.planning.proofs.Tests.{T→true, F→false, and-l, and-r, and-i, or-l, or-r, or-cases}
+use Rattle.planning.proofs.Facts.{_⊆_, holds→sub, sub→holds}
+use Rattle.table.specs.Table.{factOf, factsIn, preAt, effAt}
+use Rattle.state.specs.Sets.{actionOf, Listed}
+use Rattle.forward.specs.Waiting.{reaches, Unmet, Noted}
+
+module _ (l : List ℕ) where
+  pub factsIn-more : (a b : ℕ) → a < b → b ≤ length l → factsIn l a b ≡ factOf (getD l a 0) ∷ factsIn l (suc a) b
+  unfolding factsIn
+  factsIn-more a b h g = rw (slice-cons a b l 0 h g) refl
+
+  pub factsIn-none : (a : ℕ) → factsIn l a a ≡ []
+  unfolding factsIn
+  factsIn-none a = rw (slice-empty a l) refl
+
+  at-has′ : (n a b v d : ℕ) → a + n ≡ b → b ≤ length l → T (has (factsIn l a b) v d) → (x : ℕ) × (a ≤ x) × (x < b) × (v ≡ getD l x 0 / 64) × (d ≡ getD l x 0 % 64)
+  unfolding has factOf
+  at-has′ zero a b v d e h t = let q : a ≡ b = omega arith in absurd (rw (q, factsIn-none b) at t)
+  at-has′ (suc n) a b v d e h t = go (or-cases (eqb v (getD l a 0 / 64) && eqb d (getD l a 0 % 64)) (has (factsIn l (suc a) b) v d) (rw (factsIn-more a b (omega arith) h) at t)) (at-has′ n (suc a) b v d (omega arith) h)
+    where
+      go : T (eqb v (getD l a 0 / 64) && eqb d (getD l a 0 % 64)) ⊎ T (has (factsIn l (suc a) b) v d)
+          → (T (has (factsIn l (suc a) b) v d) → (x : ℕ) × (suc a ≤ x) × (x < b) × (v ≡ getD l x 0 / 64) × (d ≡ getD l x 0 % 64))
+          → (x : ℕ) × (a ≤ x) × (x < b) × (v ≡ getD l x 0 / 64) × (d ≡ getD l x 0 % 64)
+      go (inl k) f = (
+        a,
+        omega arith,
+        omega arith,
+        eqb→eq v (getD l a 0 / 64) (and-l (eqb v (getD l a 0 / 64)) (eqb d (getD l a 0 % 64)) k),
+        eqb→eq d (getD l a 0 % 64) (and-r (eqb v (getD l a 0 / 64)) (eqb d (getD l a 0 % 64)) k),
+      )
+      go (inr k) f = let r = f k in (r .0, omega (arith, r .1), r .2, r .3, r .4)
+
+  has-at′ : (n a b x : ℕ) → a + n ≡ b → b ≤ length l → a ≤ x → x < b → T (has (factsIn l a b) (getD l x 0 / 64) (getD l x 0 % 64))
+  unfolding has factOf
+  has-at′ zero a b x e h p q = absurd (omega arith)
+  has-at′ (suc n) a b x e h p q = rw (factsIn-more a b (omega arith) h) (go (ℕ-discrete x a) (has-at′ n (suc a) b x (omega arith) h))
+    where
+      v : ℕ
+      v = getD l x 0 / 64
+
+      d : ℕ
+      d = getD l x 0 % 64
+
+      go : Dec (x ≡ a) → (suc a ≤ x → x < b → T (has (factsIn l (suc a) b) v d)) → T ((eqb v (getD l a 0 / 64) && eqb d (getD l a 0 % 64)) || has (factsIn l (suc a) b) v d)
+      go (yes i) f = or-l (eqb v (getD l a 0 / 64) && eqb d (getD l a 0 % 64)) (has (factsIn l (suc a) b) v d) (rw i (and-i (eqb (getD l a 0 / 64) (getD l a 0 / 64)) (eqb (getD l a 0 % 64) (getD l a 0 % 64)) (eqb-refl (getD l a 0 / 64)) (eqb-refl (getD l a 0 % 64))))
+      go (no i) f = or-r (eqb v (getD l a 0 / 64) && eqb d (getD l a 0 % 64)) (has (factsIn l (suc a) b) v d) (f (omega arith) q)
+
+  module _ (a b : ℕ) (p : a ≤ b) (q : b ≤ length l) where
+    pub at-has : (v d : ℕ) → T (has (factsIn l a b) v d) → (x : ℕ) × (a ≤ x) × (x < b) × (v ≡ getD l x 0 / 64) × (d ≡ getD l x 0 % 64)
+    at-has v d t = at-has′ (b - a) a b v d (omega arith) q t
+
+    pub has-at : (x : ℕ) → a ≤ x → x < b → T (has (factsIn l a b) (getD l x 0 / 64) (getD l x 0 % 64))
+    has-at x h g = has-at′ (b - a) a b x (omega arith) q h g
+
+    pub holds-each : (s : State) → T (holds s (factsIn l a b)) → (x : ℕ) → a ≤ x → x < b → T (reaches s (getD l x 0))
+    unfolding reaches
+    holds-each s t x h g = holds→sub s (factsIn l a b) t (getD l x 0 / 64) (getD l x 0 % 64) (has-at x h g)
+
+    pub each-holds : (s : State) → ((x : ℕ) → a ≤ x → x < b → T (reaches s (getD l x 0))) → T (holds s (factsIn l a b))
+    unfolding reaches
+    each-holds s f = sub→holds s (factsIn l a b) (λ v d t. let r = at-has v d t in go (getD l (r .0) 0) v d (r .3) (r .4) (f (r .0) (r .1) (r .2)))
+      where
+        go : (y v d : ℕ) → v ≡ y / 64 → d ≡ y % 64 → T (s (y / 64) (y % 64)) → T (s v d)
+        go y v d p q t = rw (p, q) t
+
+    -- where the first fact is that is not reached says whether each is
+    pub unmet-all : (s : State) → Unmet s l a b b → T (holds s (factsIn l a b))
+    unmet-all s U = each-holds s (U .passed)
+
+    pub unmet-some : (s : State) (r : ℕ) → Unmet s l a b r → r < b → T (holds s (factsIn l a b)) → ⊥
+    unmet-some s r U h t = rw (U .open′ h) at (holds-each s t r (U .from) h)
+
+-- the facts from place k on, but for the one there
+pub has-less : (l : List ℕ) (k b f : ℕ) → k < b → b ≤ length l → f ≡ getD l k 0 → (y : ℕ) → y ≢ f → T (reaches (has (factsIn l k b)) y) → T (reaches (has (factsIn l (k + 1) b)) y)
+unfolding reaches
+has-less l k b f h q e y n t =
+    let r = at-has l k b (omega arith) q (y / 64) (y % 64) t in
+    let u : y ≡ getD l (r .0) 0 = omega (arith, r .3, r .4) in
+    rw u (has-at l (k + 1) b (omega arith) q (r .0) (above (r .0) (r .1) u (ℕ-discrete (r .0) k)) (r .2))
+  where
+    above : (x : ℕ) → k ≤ x → y ≡ getD l x 0 → Dec (x ≡ k) → k + 1 ≤ x
+    above x p u (yes z) = absurd (n (u ∙ rw z (sym e)))
+    above x p u (no z) = omega arith
+
+pub open-at : (s : State) (y f : ℕ) → f ≡ y → s (f / 64) (f % 64) ≡ false → reaches s y ≡ false
+unfolding reaches
+open-at s y f e t = rw (← e) t
+
+-- the search for a fact that is not reached
+module _ (s : State) (l : List ℕ) (a b k : ℕ) where
+  pub record Passing : Type 0 where
+    pub from : a ≤ k
+    pub to : k ≤ b
+    pub passed : (x : ℕ) → a ≤ x → x < k → T (reaches s (getD l x 0))
+
+pub passing-turn : (s : State) (l : List ℕ) (a b k f : ℕ) → Passing s l a b k → k < b → f ≡ getD l k 0 → s (f / 64) (f % 64) ≡ true → Passing s l a b (k + 1)
+unfolding reaches
+passing-turn s l a b k f P h e t = record { from = omega (arith, P .from); to = omega arith; passed = λ x p q. go x p q (ℕ-discrete x k) }
+  where
+    go : (x : ℕ) → a ≤ x → x < k + 1 → Dec (x ≡ k) → T (reaches s (getD l x 0))
+    go x p q (yes i) = rw (i, ← e, t) tt
+    go x p q (no i) = P .passed x p (omega arith)
+
+-- the noting of effects: those at the places from a up to k are noted
+pub record Noting (s : State) (l : List ℕ) (a b i : ℕ) (first₀ first : List ℕ) (k : ℕ) (new : Bool) : Type 0 where
+  pub from : a ≤ k
+  pub to : k ≤ b
+  pub long : length first ≡ 4096
+  pub noted : (x : ℕ) → a ≤ x → x < k → reaches s (getD l x 0) ≡ false → getD first (getD l x 0) 0 ≡ i
+  pub kept : (f : ℕ) → ((x : ℕ) → a ≤ x → x < k → getD l x 0 ≡ f → T (reaches s f)) → getD first f 0 ≡ getD first₀ f 0
+  pub some′ : new ≡ true → (x : ℕ) × (a ≤ x) × (x < k) × (reaches s (getD l x 0) ≡ false)
+  pub none′ : new ≡ false → (x : ℕ) → a ≤ x → x < k → T (reaches s (getD l x 0))
+
+module _ (s : State) (l : List ℕ) (a b i : ℕ) (first₀ : List ℕ) where
+  pub noting-start : (k : ℕ) → k ≡ a → a ≤ b → length first₀ ≡ 4096 → Noting s l a b i first₀ first₀ k false
+  noting-start k e h n = record {
+    from = omega arith;
+    to = omega arith;
+    long = n;
+    noted = λ x p q _. absurd (omega arith);
+    kept = λ f _. refl;
+    some′ = λ e. let z : _≡_ {A = ℕ} 0 1 = cc in absurd (omega arith);
+    none′ = λ _ x p q. absurd (omega arith);
+  }
+
+  module _ (first : List ℕ) (k f : ℕ) (new : Bool) (N : Noting s l a b i first₀ first k new) (h : k < b) (e : f ≡ getD l k 0) where
+    noted-new : f < 4096 → s (f / 64) (f % 64) ≡ false → Noting s l a b i first₀ (set first f i) (k + 1) true
+    unfolding reaches
+    noted-new g t = record {
+      from = omega (arith, N .from);
+      to = omega arith;
+      long = simp length-set (N .long);
+      noted = λ x p q z. go x p q z (ℕ-discrete (getD l x 0) f);
+      kept = λ y z. getD-set-other first f y i 0 (λ q. subst T t (subst (λ u. T (reaches s u)) q (z k (N .from) (omega arith) (sym e ∙ sym q)))) ∙ N .kept y (λ x p q. z x p (omega arith));
+      some′ = λ _. (k, N .from, omega arith, rw (← e) t);
+      none′ = λ c. let z : _≡_ {A = ℕ} 0 1 = cc in absurd (omega arith);
+    }
+      where
+        go : (x : ℕ) → a ≤ x → x < k + 1 → reaches s (getD l x 0) ≡ false → Dec (getD l x 0 ≡ f) → getD (set first f i) (getD l x 0) 0 ≡ i
+        go x p q z (yes j) = rw j (getD-set-same first f i 0 (omega (arith, N .long)))
+        go x p q z (no j) = getD-set-other first f (getD l x 0) i 0 j ∙ N .noted x p (below x q j) z
+          where
+            below : (x : ℕ) → x < k + 1 → getD l x 0 ≢ f → x < k
+            below x q j = elim (ℕ-discrete x k) [ yes u ↦ absurd (j (rw u (sym e))) | no u ↦ omega arith ]
+
+    noted-old : s (f / 64) (f % 64) ≡ true → Noting s l a b i first₀ first (k + 1) new
+    unfolding reaches
+    noted-old t = record {
+      from = omega (arith, N .from);
+      to = omega arith;
+      long = N .long;
+      noted = λ x p q z. N .noted x p (below x q (λ u. let y : _≡_ {A = ℕ} 0 1 = cc (held x u) in omega arith)) z;
+      kept = λ y z. N .kept y (λ x p q. z x p (omega arith));
+      some′ = λ c. let r = N .some′ c in (r .0, r .1, omega (arith, r .2), r .3);
+      none′ = λ c x p q. go c x p q (ℕ-discrete x k);
+    }
+      where
+        held : (x : ℕ) → x ≡ k → reaches s (getD l x 0) ≡ true
+        held x u = rw (u, ← e) t
+
+        below : (x : ℕ) → x < k + 1 → x ≢ k → x < k
+        below x q u = omega arith
+
+        go : new ≡ false → (x : ℕ) → a ≤ x → x < k + 1 → Dec (x ≡ k) → T (reaches s (getD l x 0))
+        go c x p q (yes u) = rw (held x u) tt
+        go c x p q (no u) = N .none′ c x p (omega arith)
+
+    pub noting-new : f < 4096 → s (f / 64) (f % 64) ≡ false → (first′ : List ℕ) (new′ : Bool) → first′ ≡ set first f i → new′ ≡ true → Noting s l a b i first₀ first′ (k + 1) new′
+    noting-new g t first′ new′ p q = rw (p, q) (noted-new g t)
+
+    pub noting-old : s (f / 64) (f % 64) ≡ true → (first′ : List ℕ) (new′ : Bool) → first′ ≡ first → new′ ≡ new → Noting s l a b i first₀ first′ (k + 1) new′
+    noting-old t first′ new′ p q = rw (p, q) (noted-old t)
+
+  module _ (first : List ℕ) (k : ℕ) (new : Bool) (N : Noting s l a b i first₀ first k new) (h : b ≤ k) (q : b ≤ length l) where
+    to-end : k ≡ b
+    to-end = omega (arith, N .to)
+
+    pub noting-end : Noted s (has (factsIn l a b)) i first₀ first
+    unfolding reaches
+    noting-end = record {
+      long = N .long;
+      noted = λ f g t z. let r = at-has l a b (omega (arith, N .from, N .to)) q (f / 64) (f % 64) t in
+          let u : f ≡ getD l (r .0) 0 = omega (arith, r .3, r .4) in
+          rw u (N .noted (r .0) (r .1) (omega (arith, r .2)) (rw (← u) z));
+      kept = λ f g z. N .kept f (λ x p c u. z (rw (← u) (has-at l a b (omega (arith, N .from, N .to)) q x p (omega (arith, to-end)))));
+    }
+
+    pub noting-answer : new ≡ not (holds s (factsIn l a b))
+    unfolding reaches
+    noting-answer = go new refl
+      where
+        go : (c : Bool) → new ≡ c → c ≡ not (holds s (factsIn l a b))
+        go true e = let r = N .some′ e in rw (F→false (holds s (factsIn l a b)) (λ t. subst T (r .3) (holds-each l a b (omega (arith, N .from, N .to)) q s t (r .0) (r .1) (omega (arith, r .2, to-end))))) refl
+        go false e = rw (T→true (holds s (factsIn l a b)) (each-holds l a b (omega (arith, N .from, N .to)) q s (λ x p c. N .none′ e x p (omega (arith, to-end))))) refl
+
+-- what the first unmet precondition of action i says
+module _ (s : State) (table : List ℕ) (i k : ℕ) (L : Listed table i) (U : Unmet s table (preAt table i) (effAt table i) k) where
+  pub record Waits (f : ℕ) : Type 0 where
+    pub small : f < 4096
+    pub needs : T (has (actionOf table i .pre) (f / 64) (f % 64))
+    pub open′ : reaches s f ≡ false
+
+  pub unmet-waits : k < effAt table i → (f : ℕ) → f ≡ getD table k 0 → Waits f
+  unfolding actionOf
+  unmet-waits h f e = rw e (record {
+    small = L .small k (U .from) (omega (arith, L .eff-below));
+    needs = has-at table (preAt table i) (effAt table i) (L .pre-below) (omega (arith, L .eff-below, L .end-below)) k (U .from) h;
+    open′ = U .open′ h;
+  })
+
+  pub unmet-goes : effAt table i ≤ k → T (holds s (actionOf table i .pre))
+  unfolding actionOf
+  unmet-goes h = each-holds table (preAt table i) (effAt table i) (L .pre-below) (omega (arith, L .eff-below, L .end-below)) s (λ x p q. U .passed x p (omega arith))

@@ -1,0 +1,76 @@
+use Rattle.forward.proofs.Bits.{Searching, searching-turn, searching-end, searching-found}
+use borrow.Author.Needs.{needs}
+use mathlib.Core.Path.{_≡_, refl, sym, ap, _∙_}
+use Prim.Native.Nat.{ℕ, _+_, _*_, _/_, _^_, _-_, _≤_, _<_}
+use native.Mathlib.Omega.{arith}
+use lib.ListN.{length, getD, take, drop, set, replicate}
+use Rattle.forward.proofs.lowest.Statement.{statement}
+use Rattle.forward.proofs.lowest.Tie as tie
+use Rattle.forward.proofs.lowest.Reads as reads
+use Rattle.forward.proofs.lowest.Lts as lts
+use Rattle.forward.proofs.lowest_in.Reads as lowest-in-reads
+
+abbrev Inv-loop : tie.InvT-loop
+Inv-loop ready w₀ w = Searching ready w
+
+abbrev μ-loop : tie.MeasureT-loop
+μ-loop ready w₀ w = 16 - w
+
+loop-holds : tie.Need-loop-holds Inv-loop μ-loop
+loop-holds c = record { within = omega arith; empty = λ v l. absurd (omega arith) }
+
+mul-if1 : tie.Need-mul-if1 Inv-loop μ-loop
+mul-if1 c = search needs
+
+element-copy-out-if1 : tie.Need-element-copy-out-if1 Inv-loop μ-loop
+element-copy-out-if1 c = search needs
+
+mul-result : tie.Need-mul-result Inv-loop μ-loop
+mul-result c = search needs
+
+mul-lowest-in : tie.Need-mul-lowest-in Inv-loop μ-loop
+mul-lowest-in c = search needs
+
+element-copy-out-lowest-in : tie.Need-element-copy-out-lowest-in Inv-loop μ-loop
+element-copy-out-lowest-in c = search needs
+
+lowest-in-requires : tie.Need-lowest-in-requires Inv-loop μ-loop
+lowest-in-requires c κs = search needs
+
+add-result : tie.Need-add-result Inv-loop μ-loop
+add-result c = search needs
+
+returns : tie.Need-returns Inv-loop μ-loop
+returns c = searching-found _ _ _ (c .before .before .before .before .before .loop .inv) (omega arith) (c .lowest-in .ensures)
+
+add-w : tie.Need-add-w Inv-loop μ-loop
+add-w c = search needs
+
+loop-less : tie.Need-loop-less Inv-loop μ-loop
+loop-less c = search needs
+
+loop-again : tie.Need-loop-again Inv-loop μ-loop
+loop-again c = searching-turn _ _ (c .before .before .before .loop .inv) (omega arith) (c .if1 .left)
+
+returns-2 : tie.Need-returns-2 Inv-loop μ-loop
+returns-2 c = searching-end _ _ (c .before .loop .inv) (omega arith)
+
+pub lowest-spec : {M : Type 1} → statement M
+lowest-spec =
+    tie.close
+    (tie.spec
+    Inv-loop
+    μ-loop
+    loop-holds
+    mul-if1
+    element-copy-out-if1
+    mul-result
+    mul-lowest-in
+    element-copy-out-lowest-in
+    lowest-in-requires
+    add-result
+    returns
+    add-w
+    loop-less
+    loop-again
+    returns-2)

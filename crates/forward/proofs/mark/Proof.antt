@@ -1,0 +1,33 @@
+use mathlib.Core.Path.{_≡_, refl, sym, ap, _∙_}
+use lib.ListN.{length, getD}
+use lib.Bits.{bitOr}
+use Rattle.state.proofs.Members.{one-shl}
+use Rattle.forward.proofs.Bits.{marked}
+use borrow.Author.Needs.{needs}
+use Rattle.forward.proofs.mark.Statement.{statement}
+use Rattle.forward.proofs.mark.Tie as tie
+use Rattle.forward.proofs.mark.Reads as reads
+use Rattle.forward.proofs.mark.Lts as lts
+
+mul-ready : tie.Need-mul-ready
+mul-ready c = search needs
+
+element-copy-out-ready : tie.Need-element-copy-out-ready
+element-copy-out-ready c = search needs
+
+shl-ready : tie.Need-shl-ready
+shl-ready c = search needs
+
+mul-ready-2 : tie.Need-mul-ready-2
+mul-ready-2 c = search needs
+
+element-write-ready : tie.Need-element-write-ready
+element-write-ready c = search needs
+
+returns : tie.Need-returns
+returns c = let a = c .before .args in marked (a .ready .now) (a .i) _ (search needs) (search needs) (ap (bitOr (getD (a .ready .now) _ 0)) (one-shl _ (search needs)))
+
+pub mark-spec : {M : Type 1} → statement M
+mark-spec =
+    tie.close
+    (tie.spec mul-ready element-copy-out-ready shl-ready mul-ready-2 element-write-ready returns)

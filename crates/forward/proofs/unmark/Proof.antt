@@ -1,0 +1,46 @@
+use Rattle.state.specs.Sets.{setsOf}
+use Rattle.forward.specs.Waiting.{member}
+use mathlib.Core.Path.{_≡_, refl, sym, ap, _∙_}
+use Prim.Native.Nat.{_-_, _/_, _%_}
+use lib.ListN.{length, getD}
+use Rattle.state.proofs.Members.{one-shl}
+use Rattle.forward.proofs.Bits.{unmarked, inSet-le}
+use borrow.Author.Needs.{needs}
+use Rattle.forward.proofs.unmark.Statement.{statement}
+use Rattle.forward.proofs.unmark.Tie as tie
+use Rattle.forward.proofs.unmark.Reads as reads
+use Rattle.forward.proofs.unmark.Lts as lts
+
+mul-ready : tie.Need-mul-ready
+mul-ready c = search needs
+
+element-copy-out-ready : tie.Need-element-copy-out-ready
+element-copy-out-ready c = search needs
+
+shl-ready : tie.Need-shl-ready
+shl-ready c = search needs
+
+sub-ready : tie.Need-sub-ready
+unfolding member setsOf
+sub-ready c = let a = c .before .args in rw (one-shl (a .i % 64) (search needs)) (inSet-le (a .i % 64) (getD (a .ready .now) (a .i / 64) 0) (c .before .pre .2))
+
+mul-ready-2 : tie.Need-mul-ready-2
+mul-ready-2 c = search needs
+
+element-write-ready : tie.Need-element-write-ready
+element-write-ready c = search needs
+
+returns : tie.Need-returns
+returns c = let a = c .before .args in unmarked (a .ready .now) (a .i) _ (search needs) (search needs) (c .before .pre .2) (ap (λ x. getD (a .ready .now) (a .i / 64) 0 - x) (one-shl (a .i % 64) (search needs)))
+
+pub unmark-spec : {M : Type 1} → statement M
+unmark-spec =
+    tie.close
+    (tie.spec
+    mul-ready
+    element-copy-out-ready
+    shl-ready
+    sub-ready
+    mul-ready-2
+    element-write-ready
+    returns)

@@ -1,0 +1,72 @@
+use Prim.Native.Nat.{_%_}
+use borrow.Author.Tests.{not-true, not-false}
+use Rattle.state.specs.Sets.{setsOf}
+use Rattle.forward.specs.Waiting.{reaches}
+use Rattle.forward.proofs.Places.{Passing, passing-turn, open-at}
+use borrow.Author.Needs.{needs}
+use mathlib.Core.Path.{_≡_, refl, sym, ap, _∙_}
+use Prim.Native.Nat.{ℕ, _+_, _*_, _/_, _^_, _-_, _≤_, _<_}
+use native.Mathlib.Omega.{arith}
+use lib.ListN.{length, getD, take, drop, set, replicate}
+use Rattle.forward.proofs.unmet.Statement.{statement}
+use Rattle.forward.proofs.unmet.Tie as tie
+use Rattle.forward.proofs.unmet.Reads as reads
+use Rattle.forward.proofs.unmet.Lts as lts
+use Rattle.forward.proofs.wide.Reads as wide-reads
+use Rattle.state.proofs.holds.Reads as holds-reads
+
+abbrev Inv-loop : tie.InvT-loop
+Inv-loop masks sets facts from to k₀ k = Passing (setsOf sets) facts from to k
+
+abbrev μ-loop : tie.MeasureT-loop
+μ-loop masks sets facts from to k₀ k = to - k
+
+loop-holds : tie.Need-loop-holds Inv-loop μ-loop
+loop-holds c = record { from = search needs; to = search needs; passed = λ x p q. absurd (omega arith) }
+
+mul-wide : tie.Need-mul-wide Inv-loop μ-loop
+mul-wide c = search needs
+
+shared-slice-read-wide : tie.Need-shared-slice-read-wide Inv-loop μ-loop
+shared-slice-read-wide c = search needs
+
+wide-requires : tie.Need-wide-requires Inv-loop μ-loop
+wide-requires c κs = search needs
+
+small : (c : tie.After-wide Inv-loop μ-loop) → c .wide .result < 4096
+small c = omega (arith, c .wide .ensures, c .before .before .before .before .before .pre .3 (c .before .before .before .loop .k) (c .before .before .before .loop .inv .from) (omega arith))
+
+holds-requires : tie.Need-holds-requires Inv-loop μ-loop
+holds-requires c κs = (omega (arith, small c), omega (arith, small c), search needs)
+
+returns : tie.Need-returns Inv-loop μ-loop
+returns c = let a = c .before .before .before .before .before .before .before .args in let I = c .before .before .before .before .before .loop .inv in record { from = I .from; to = I .to; passed = I .passed; open′ = λ _. open-at (setsOf (a .sets .now)) _ _ (c .before .before .wide .ensures) (sym (c .before .holds .ensures) ∙ not-true _ (c .if1 .taken)) }
+
+add-k : tie.Need-add-k Inv-loop μ-loop
+add-k c = search needs
+
+loop-less : tie.Need-loop-less Inv-loop μ-loop
+loop-less c = search needs
+
+loop-again : tie.Need-loop-again Inv-loop μ-loop
+loop-again c = passing-turn _ _ _ _ _ _ (c .before .before .before .before .before .loop .inv) (omega arith) (c .before .before .wide .ensures) (sym (c .before .holds .ensures) ∙ not-false _ (c .if1 .left))
+
+returns-2 : tie.Need-returns-2 Inv-loop μ-loop
+returns-2 c = let I = c .before .loop .inv in record { from = omega (arith, I .from); to = omega arith; passed = λ k p q. I .passed k p (omega arith); open′ = λ h. absurd (omega arith) }
+
+pub unmet-spec : {M : Type 1} → statement M
+unmet-spec =
+    tie.close
+    (tie.spec
+    Inv-loop
+    μ-loop
+    loop-holds
+    mul-wide
+    shared-slice-read-wide
+    wide-requires
+    holds-requires
+    returns
+    add-k
+    loop-less
+    loop-again
+    returns-2)

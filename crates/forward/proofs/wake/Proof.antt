@@ -1,0 +1,130 @@
+use mathlib.Core.List.{[]}
+use Rattle.planning.specs.Runs.{has}
+use Rattle.table.specs.Table.{factsIn, effAt, endAt}
+use Rattle.state.specs.Sets.{setsOf, actionOf}
+use Rattle.forward.specs.Waiting.{Sites}
+use Rattle.forward.proofs.Places.{has-less, factsIn-none}
+use Rattle.forward.proofs.Chains.{sites-off}
+use borrow.Author.Needs.{needs}
+use mathlib.Core.Path.{_≡_, refl, sym, ap, _∙_}
+use Prim.Native.Nat.{ℕ, _+_, _*_, _/_, _^_, _-_, _≤_, _<_}
+use native.Mathlib.Omega.{arith}
+use lib.ListN.{length, getD, take, drop, set, replicate}
+use Rattle.forward.proofs.wake.Statement.{statement}
+use Rattle.forward.proofs.wake.Tie as tie
+use Rattle.forward.proofs.wake.Reads as reads
+use Rattle.forward.proofs.wake.Lts as lts
+use Rattle.forward.proofs.settle_all.Reads as settle-all-reads
+use Rattle.forward.proofs.wide.Reads as wide-reads
+
+abbrev Inv-loop : tie.InvT-loop
+Inv-loop masks sets table actions head₀ next₀ ready₀ i to k₀ head next ready k = (to ≡ endAt table i) × (effAt table i ≤ k) × (k ≤ to) × Sites (actionOf table) actions (setsOf sets) (has (factsIn table k to)) head next ready 65535 0
+
+abbrev μ-loop : tie.MeasureT-loop
+μ-loop masks sets table actions head₀ next₀ ready₀ i to k₀ head next ready k = to - k
+
+mul-wide : tie.Need-mul-wide Inv-loop μ-loop
+mul-wide c = search needs
+
+add-wide : tie.Need-add-wide Inv-loop μ-loop
+add-wide c = search needs
+
+mul-wide-2 : tie.Need-mul-wide-2 Inv-loop μ-loop
+mul-wide-2 c = search needs
+
+shared-slice-read-wide : tie.Need-shared-slice-read-wide Inv-loop μ-loop
+shared-slice-read-wide c = search needs
+
+wide-requires : tie.Need-wide-requires Inv-loop μ-loop
+wide-requires c κs = search needs
+
+mul-wide-3 : tie.Need-mul-wide-3 Inv-loop μ-loop
+mul-wide-3 c = search needs
+
+add-wide-2 : tie.Need-add-wide-2 Inv-loop μ-loop
+add-wide-2 c = search needs
+
+mul-wide-4 : tie.Need-mul-wide-4 Inv-loop μ-loop
+mul-wide-4 c = search needs
+
+shared-slice-read-wide-2 : tie.Need-shared-slice-read-wide-2 Inv-loop μ-loop
+shared-slice-read-wide-2 c = search needs
+
+wide-requires-2 : tie.Need-wide-requires-2 Inv-loop μ-loop
+wide-requires-2 c κs = search needs
+
+loop-holds : tie.Need-loop-holds Inv-loop μ-loop
+unfolding actionOf
+loop-holds c = let L = c .before .before .before .before .before .pre .2 in (c .before .before .wide .ensures, omega (arith, c .wide2 .ensures), omega (arith, c .wide2 .ensures, c .before .before .wide .ensures, L .eff-below), rw (c .before .before .wide .ensures, c .wide2 .ensures) (c .before .before .before .before .before .pre .3))
+
+mul-wide-5 : tie.Need-mul-wide-5 Inv-loop μ-loop
+mul-wide-5 c = search needs
+
+shared-slice-read-wide-3 : tie.Need-shared-slice-read-wide-3 Inv-loop μ-loop
+shared-slice-read-wide-3 c = search needs
+
+wide-requires-3 : tie.Need-wide-requires-3 Inv-loop μ-loop
+wide-requires-3 c κs = search needs
+
+small : (c : tie.After-wide3 Inv-loop μ-loop) → c .wide3 .result < 4096
+small c =
+    let L = c .before .before .before .before .before .before .before .before .before .pre .2 in
+    let I = c .before .before .before .loop .inv in
+    omega (arith, c .wide3 .ensures, L .small (c .before .before .before .loop .k) (omega (arith, L .pre-below, I .1)) (omega (arith, I .0)))
+
+mul-h : tie.Need-mul-h Inv-loop μ-loop
+mul-h c = record { fits = omega (arith, small c) }
+
+element-copy-out-h : tie.Need-element-copy-out-h Inv-loop μ-loop
+element-copy-out-h c = small c
+
+mul-head : tie.Need-mul-head Inv-loop μ-loop
+mul-head c = record { fits = omega (arith, small (c .before)) }
+
+element-write-head : tie.Need-element-write-head Inv-loop μ-loop
+element-write-head c = small (c .before)
+
+add-k : tie.Need-add-k Inv-loop μ-loop
+add-k c = search needs
+
+settle-all-requires : tie.Need-settle-all-requires Inv-loop μ-loop
+settle-all-requires c κs = let p = c .before .before .before .before .before .before .before .before .before .before .before .before .before .pre in let I = c .before .before .before .before .before .before .before .loop .inv in (p .0, search needs, sites-off _ _ _ _ _ _ _ (I .3) _ (small (c .before .before .before .before)) _ (has-less _ _ _ _ (omega arith) (omega (arith, I .0, p .2 .end-below)) (c .before .before .before .before .wide3 .ensures)))
+
+loop-less : tie.Need-loop-less Inv-loop μ-loop
+loop-less c = search needs
+
+loop-again : tie.Need-loop-again Inv-loop μ-loop
+loop-again c = let I = c .before .before .before .before .before .before .before .before .loop .inv in (I .0, omega (arith, I .1), omega arith, c .settle-all .ensures)
+
+returns : tie.Need-returns Inv-loop μ-loop
+returns c = let I = c .before .loop .inv in let e : c .before .loop .k ≡ c .before .before .before .before .wide .result = omega (arith, I .2) in rw (e, factsIn-none (c .before .before .before .before .before .before .before .args .table .now) (c .before .before .before .before .wide .result)) at (I .3)
+
+pub wake-spec : {M : Type 1} → statement M
+wake-spec =
+    tie.close
+    (tie.spec
+    Inv-loop
+    μ-loop
+    mul-wide
+    add-wide
+    mul-wide-2
+    shared-slice-read-wide
+    wide-requires
+    mul-wide-3
+    add-wide-2
+    mul-wide-4
+    shared-slice-read-wide-2
+    wide-requires-2
+    loop-holds
+    mul-wide-5
+    shared-slice-read-wide-3
+    wide-requires-3
+    mul-h
+    element-copy-out-h
+    mul-head
+    element-write-head
+    add-k
+    settle-all-requires
+    loop-less
+    loop-again
+    returns)

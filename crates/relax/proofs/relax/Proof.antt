@@ -1,0 +1,53 @@
+use mathlib.Core.Path.{_≡_, refl, sym, ap, _∙_}
+use lib.ListN.{length}
+use Rattle.record.specs.Stages.{checkedOf}
+use Rattle.relax.proofs.Answers.{relax-refused}
+use borrow.Author.Needs.{needs}
+use Rattle.relax.proofs.relax.Statement.{statement}
+use Rattle.relax.proofs.relax.Tie as tie
+use Rattle.relax.proofs.relax.Reads as reads
+use Rattle.relax.proofs.relax.Lts as lts
+use Rattle.lists.proofs.blank.Reads as blank-reads
+use Rattle.record.proofs.check.Reads as check-reads
+use Rattle.relax.proofs.relax_accepted.Reads as relax-accepted-reads
+
+check-requires : tie.Need-check-requires
+check-requires c κs = search needs
+
+enum-known-c : tie.Need-enum-known-c
+enum-known-c c = search needs
+
+enum-told : tie.Need-enum-told
+enum-told c = search needs
+
+relax-accepted-requires : tie.Need-relax-accepted-requires
+relax-accepted-requires c κs = sym (c .before .before .before .check .ensures) ∙ ap checkedOf (c .before .enum-told .given .1)
+
+same-length : tie.Need-same-length
+same-length c = search needs
+
+returns : tie.Need-returns
+returns c = search needs
+
+blank-requires : tie.Need-blank-requires
+blank-requires c κs = search needs
+
+same-length-2 : tie.Need-same-length-2
+same-length-2 c = search needs
+
+returns-2 : tie.Need-returns-2
+returns-2 c = let a = c .before .before .before .before .before .before .before .before .before .before .args in let z = relax-refused (a .bytes .now) (length (a .plan .now)) _ _ (ap checkedOf (sym (c .before .before .before .before .before .c .given .1)) ∙ c .before .before .before .before .before .before .before .check .ensures) in (z .0, c .before .before .blank .ensures ∙ z .1)
+
+pub relax-spec : {M : Type 1} → statement M
+relax-spec =
+    tie.close
+    (tie.spec
+    check-requires
+    enum-known-c
+    enum-told
+    relax-accepted-requires
+    same-length
+    returns
+    blank-requires
+    same-length-2
+    returns-2)

@@ -1,0 +1,62 @@
+-- The relaxed plan on the way: the run is gone through from its last action, the kept ones stand at the end of a list, and the
+-- needed facts are sets.
+use mathlib.Core.Path.{_≡_}
+use mathlib.Core.Bool.{Bool, true, false}
+use mathlib.Core.List.{List}
+use mathlib.Core.Option.{Option, none, some}
+use Prim.Native.Nat.{ℕ, _+_, _*_, _<_, _≤_}
+use lib.ListN.{length, getD, take, drop}
+use Rattle.planning.specs.Record.{Task, taskOf, recordCheck}
+use Rattle.planning.specs.Runs.{State, act, initial, goals}
+use Rattle.planning.specs.Relaxed.{forwardRun, solvable, factsReached, firstBy, keep, relaxedPlan}
+use Rattle.bits.specs.declared.Refusal.{Refusal}
+use Rattle.table.specs.Table.{Tabled}
+use Rattle.state.specs.Sets.{singles, setsOf}
+use Rattle.forward.specs.Running.{Achieved}
+use Rattle.relax.specs.declared.Kept.{Kept}
+use Rattle.relax.specs.declared.Kept.the-variants.{Steps, NoPlan}
+
+-- the first achievers as the list has them; 65,535, for none, is the number of no action
+unfoldable pub byOf : List ℕ → ℕ → ℕ → Option ℕ
+byOf first v d = some (getD first (64 * v + d) 0)
+
+-- the run and its first achievers are at hand
+pub record Replay (bytes table masks first run : List ℕ) (n : ℕ) : Type 0 where
+  pub accepted : recordCheck bytes ≡ none
+  pub tabled : Tabled (taskOf bytes) table
+  pub masks-are : masks ≡ singles
+  pub list : take n run ≡ forwardRun (taskOf bytes)
+  pub long : length run ≡ 1024
+  pub few : n ≤ 1024
+  pub achieved : Achieved (taskOf bytes) (forwardRun (taskOf bytes)) first
+
+-- of the run from place k on, the kept actions stand in the list from place m on, and the needed facts in the sets
+pub record Keeping (t : Task) (n : ℕ) (needed kept : List ℕ) (k m : ℕ) : Type 0 where
+  pub within : k ≤ n
+  pub room : 1024 + k ≤ n + m
+  pub end : m ≤ 1024
+  pub long : length kept ≡ 1024
+  pub needed-long : length needed ≡ 64
+  pub kept-are : keep (act t) (firstBy (act t) (forwardRun t) (initial t)) (goals t) (drop k (forwardRun t)) .actions′ ≡ drop m kept
+  pub needed-are : keep (act t) (firstBy (act t) (forwardRun t) (initial t)) (goals t) (drop k (forwardRun t)) .needed ≡ setsOf needed
+
+-- the relaxed plan in the front of a list of 1,024
+pub record Front (t : Task) (plan : List ℕ) (n : ℕ) : Type 0 where
+  pub list : take n plan ≡ relaxedPlan t
+  pub steps : n ≡ length (relaxedPlan t)
+  pub few : n ≤ 1024
+  pub long : length plan ≡ 1024
+
+pub record Found (t : Task) (plan : List ℕ) (n : ℕ) : Type 0 where
+  pub solved : solvable t ≡ true
+  pub front : Front t plan n
+
+-- "10, facts reached: no plan"
+pub record Unfound (t : Task) (f : Refusal) : Type 0 where
+  pub unsolved : solvable t ≡ false
+  pub number′ : f .number ≡ 10
+  pub place′ : f .place ≡ factsReached t
+
+abbrev pub KeptOf : Task → List ℕ → Kept → Type 0
+KeptOf t plan (Steps n) = Found t plan n
+KeptOf t plan (NoPlan f) = Unfound t f
