@@ -49,10 +49,13 @@ move-is m n count b c low (f ∷ fs) S = go (m (f .var)) refl (move-is m n count
         let q : (64 * f .var + f .val) / 64 ≡ f .var = omega arith in
         let z : (64 * f .var + f .val) % 64 ≡ f .val = omega arith in
         inr (record { small = omega (arith, S .1); on = rw (q, e) tt; states = rw (q, z) (has-here f fs) })
-    go false e (inl r) = inl (r .0, λ v x o h. elim (has-cases f fs v x h) [
-      | inl k ↦ false-not (m (f .var)) e (subst (λ (y : ℕ). T (m y)) (k .0) o)
-      | inr k ↦ r .1 v x o k
-    ])
+    go false e (inl r) = inl (
+      r .0,
+      λ v x o h. elim (has-cases f fs v x h) [
+        | inl k ↦ false-not (m (f .var)) e (subst (λ (y : ℕ). T (m y)) (k .0) o)
+        | inr k ↦ r .1 v x o k
+      ],
+    )
     go false e (inr r) = inr (record { small = r .small; on = r .on; states = has-there f fs (moveOf m fs / 64) (moveOf m fs % 64) (r .states) })
 
 -- the least number from a place on

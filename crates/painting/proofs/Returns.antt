@@ -138,9 +138,9 @@ module _ (t : Task) (F : Formed t) where
             let q : T (eqb (target (act t) v j) d) = rw (r .1) (eqb-refl d) in
             let a : T (arcFrom (act t) v (target (act t) v i) j) = r .0 in
             let o : T (holds (has (outside v (act t i .pre) ++ outside v (act t i .eff))) (outside v (act t j .pre))) = sub→holds (has (outside v (act t i .pre) ++ outside v (act t i .eff))) (outside v (act t j .pre)) (λ u x g.
-              let z = outside-not v (act t j .pre) u x g in
-              let k = outside-has v (act t j .pre) u x g in
-              in-union u x z (A .others u x (pre-small j u x k .0) (pre-small j u x k .1) z (holds→sub m (act t j .pre) p u x k))) in
+            let z = outside-not v (act t j .pre) u x g in
+            let k = outside-has v (act t j .pre) u x g in
+            in-union u x z (A .others u x (pre-small j u x k .0) (pre-small j u x k .1) z (holds→sub m (act t j .pre) p u x k))) in
             and-i (arcFrom (act t) v (target (act t) v i) j && eqb (target (act t) v j) d) (holds (has (outside v (act t i .pre) ++ outside v (act t i .eff))) (outside v (act t j .pre)))
             (and-i (arcFrom (act t) v (target (act t) v i) j) (eqb (target (act t) v j) d) a q) o
 
@@ -257,8 +257,10 @@ module _ (t : Task) (m : State) (v d : ℕ) (head chain : List ℕ) (C : Chained
     chasing-at n = elim (J .valid) [ inl q ↦ absurd (n q) | inr q ↦ q ]
 
     pub chasing-turn : (j ≡ 65535 → ⊥) → (x : ℕ) → x ≡ getD chain j 0 → holds m (act t j .pre) ≡ false → Chasing t m v d x × (j < x)
-    chasing-turn n x e f = (record { valid = elim (N .found) [ inl q ↦ inl q | inr q ↦ inr (q .1, q .2) ]; passed = λ k b l. go k b l (ℕ-discrete k j) },
-        elim (N .found) [ inl q ↦ omega (arith, chasing-at n .0) | inr q ↦ omega (arith, q .0) ])
+    chasing-turn n x e f = (
+      record { valid = elim (N .found) [ inl q ↦ inl q | inr q ↦ inr (q .1, q .2) ]; passed = λ k b l. go k b l (ℕ-discrete k j) },
+      elim (N .found) [ inl q ↦ omega (arith, chasing-at n .0) | inr q ↦ omega (arith, q .0) ],
+    )
       where
         N : Next (actions t) (Sets t v d) (j + 1) x
         N = subst (Next (actions t) (Sets t v d) (j + 1)) (sym e) (C .links v d j o (chasing-at n .0) (chasing-at n .1))

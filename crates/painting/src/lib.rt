@@ -84,14 +84,7 @@ fn place_of(f: usize, g: usize) -> usize
 }
 
 // The marks of an action i that sets f, for its facts from place `from` up to `to`.
-fn mark(
-    table: &[u16],
-    from: usize,
-    to: usize,
-    f: usize,
-    marks: &mut [u16; 4096],
-    i: u16,
-)
+fn mark(table: &[u16], from: usize, to: usize, f: usize, marks: &mut [u16; 4096], i: u16)
     requires { ⌜ Facts (now table) from to × (f < 4096) ⌝ }
     ensures { λ _. ⌜ now (marks .exit) ≡ markAll i f (factsIn (now (table .entry)) from to) (now (marks .entry)) ⌝ }
 {
@@ -103,13 +96,7 @@ fn mark(
 }
 
 // Each fact from place `from` up to `to` is marked i.
-fn all_marked(
-    table: &[u16],
-    from: usize,
-    to: usize,
-    marks: &[u16; 4096],
-    i: u16,
-) -> bool
+fn all_marked(table: &[u16], from: usize, to: usize, marks: &[u16; 4096], i: u16) -> bool
     requires { ⌜ Facts (now table) from to ⌝ }
     ensures { λ r. ⌜ r ≡ holds (marked i (now (marks .entry))) (factsIn (now (table .entry)) from to) ⌝ }
 {
