@@ -1,5 +1,7 @@
 // The entry points as C calls them: a slice is a pointer and a length.
 use record::Checked;
+
+mod runs;
 ghost use mathlib.Core.Path.{_≡_};
 ghost use Rattle.planning.specs.Calls.{checkCode};
 
