@@ -2,6 +2,7 @@
 use record::Checked;
 
 mod runs;
+
 ghost use mathlib.Core.Path.{_≡_};
 ghost use Rattle.planning.specs.Calls.{checkCode};
 

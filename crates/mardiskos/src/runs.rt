@@ -45,10 +45,7 @@ pub extern "C" fn mardiskos_relax(bytes: &[u8], plan: &mut [u16]) -> RelaxedPlan
 {
     let found = relax::relax(bytes, plan);
     match found {
-        Relaxed::Steps(steps) => RelaxedPlan {
-            code: 0,
-            steps,
-        },
+        Relaxed::Steps(steps) => RelaxedPlan { code: 0, steps },
         Relaxed::Refused(f) => RelaxedPlan {
             code: (f.place as u64) * 32 + (f.number as u64),
             steps: 0,
