@@ -122,7 +122,7 @@ module _ (bytes table masks : List ℕ) (A : ℕ) (g : Goals) (fst plan sets hea
             list = rw en (going-list t formed (g .facts) plan fst s n k (L .going) z);
             steps = en ∙ going-steps t formed (g .facts) plan fst s n k (L .going) z;
             few = omega (arith, L .going .within);
-          long = L .going .long;
+            long = L .going .long;
             solved = eb ∙ rw (← q, unmet-goal) refl;
             state = rw es q;
             achieved = going-achieved t formed (g .facts) plan fst s n k (L .going) z;

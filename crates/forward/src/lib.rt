@@ -165,7 +165,13 @@ fn wake(
 }
 
 // Action i is the first to reach those of its effects that are not in the state. True if there is one.
-fn note(masks: &[u64; 64], sets: &[u64; 64], table: &[u16], i: usize, first: &mut [u16; 4096]) -> bool
+fn note(
+    masks: &[u64; 64],
+    sets: &[u64; 64],
+    table: &[u16],
+    i: usize,
+    first: &mut [u16; 4096],
+) -> bool
     requires { ⌜ Listed (now table) i × (i < 1024) × (length (now first) ≡ 4096) × (now masks ≡ singles) ⌝ }
     ensures { λ r. ⌜ (r ≡ not (holds (setsOf (now (sets .entry))) (actionOf (now (table .entry)) i .eff))) × Noted (setsOf (now (sets .entry))) (has (actionOf (now (table .entry)) i .eff)) i (now (first .entry)) (now (first .exit)) ⌝ }
 {
@@ -234,11 +240,19 @@ fn run_on(
     loop {
         g = unmet(masks, &s.sets, &goals.facts, g, count);
         if g == count {
-            return Ran { steps, solved: true, state: s };
+            return Ran {
+                steps,
+                solved: true,
+                state: s,
+            };
         }
         let i = lowest(ready);
         if 1024 <= i {
-            return Ran { steps, solved: false, state: s };
+            return Ran {
+                steps,
+                solved: false,
+                state: s,
+            };
         }
         unmark(ready, i);
         if note(masks, &s.sets, table, i, first) {
@@ -252,7 +266,12 @@ fn run_on(
 
 // The forward run of an accepted record: the actions in the front of `plan`, and the first achiever of each fact, where `first`
 // holds 65,535 before.
-pub fn run_forward(bytes: &[u8], table: &[u16], first: &mut [u16; 4096], plan: &mut [u16; 1024]) -> Ran
+pub fn run_forward(
+    bytes: &[u8],
+    table: &[u16],
+    first: &mut [u16; 4096],
+    plan: &mut [u16; 1024],
+) -> Ran
     requires { ⌜ (recordCheck (now bytes) ≡ none) × Tabled (taskOf (now bytes)) (now table) × (now first ≡ replicate 4096 65535) × (length (now plan) ≡ 1024) ⌝ }
     ensures { λ r. ⌜ RanOf (taskOf (now (bytes .entry))) (now (plan .exit)) (now (first .exit)) r ⌝ }
 {
@@ -263,8 +282,28 @@ pub fn run_forward(bytes: &[u8], table: &[u16], first: &mut [u16; 4096], plan: &
     let mut head = [65535u16; 4096];
     let mut next = [65535u16; 1024];
     let mut ready = [0u64; 16];
-    settle_each(&masks, &start.sets, table, actions, &mut head, &mut next, &mut ready);
-    run_on(bytes, table, &masks, actions, goals, start, &mut head, &mut next, &mut ready, first, plan)
+    settle_each(
+        &masks,
+        &start.sets,
+        table,
+        actions,
+        &mut head,
+        &mut next,
+        &mut ready,
+    );
+    run_on(
+        bytes,
+        table,
+        &masks,
+        actions,
+        goals,
+        start,
+        &mut head,
+        &mut next,
+        &mut ready,
+        first,
+        plan,
+    )
 }
 
 // The whole list in the front of another.

@@ -1,4 +1,5 @@
 // The entry points as C calls them: a slice is a pointer and a length.
+mod runs;
 mod sheets;
 
 use judge::Judging;

@@ -104,8 +104,10 @@ reachedNeeded-same : (by by′ : ℕ → ℕ → Option ℕ) (N : State) (i : �
 unfolding reachedNeeded has
 reachedNeeded-same by by′ N i [] h = refl
 reachedNeeded-same by by′ N i (f ∷ fs) h =
-    rw (h (f .var) (f .val) (or-l (eqb (f .var) (f .var) && eqb (f .val) (f .val)) (has fs (f .var) (f .val)) (and-i (eqb (f .var) (f .var)) (eqb (f .val) (f .val)) (eqb-refl (f .var)) (eqb-refl (f .val)))),
-        reachedNeeded-same by by′ N i fs (λ v d t. h v d (or-r (eqb v (f .var) && eqb d (f .val)) (has fs v d) t))) refl
+    rw (
+      h (f .var) (f .val) (or-l (eqb (f .var) (f .var) && eqb (f .val) (f .val)) (has fs (f .var) (f .val)) (and-i (eqb (f .var) (f .var)) (eqb (f .val) (f .val)) (eqb-refl (f .var)) (eqb-refl (f .val)))),
+      reachedNeeded-same by by′ N i fs (λ v d t. h v d (or-r (eqb v (f .var) && eqb d (f .val)) (has fs v d) t)),
+    ) refl
 
 is-achiever : (i : ℕ) (o : Option ℕ) → i < 65535 → is i (some (achiever o)) ≡ is i o
 unfolding is achiever

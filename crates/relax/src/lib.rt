@@ -48,7 +48,13 @@ fn add_preconditions(sets: &mut [u64; 64], table: &[u16], i: usize)
 }
 
 // Action i first reached fact f, and the fact is needed.
-fn first_needed(masks: &[u64; 64], needed: &[u64; 64], first: &[u16; 4096], f: usize, i: usize) -> bool
+fn first_needed(
+    masks: &[u64; 64],
+    needed: &[u64; 64],
+    first: &[u16; 4096],
+    f: usize,
+    i: usize,
+) -> bool
     requires { ⌜ (f < 4096) × (now masks ≡ singles) ⌝ }
     ensures { λ r. ⌜ r ≡ (is i (byOf (now (first .entry)) (f / 64) (f % 64)) && setsOf (now (needed .entry)) (f / 64) (f % 64)) ⌝ }
 {
@@ -59,7 +65,13 @@ fn first_needed(masks: &[u64; 64], needed: &[u64; 64], first: &[u16; 4096], f: u
 }
 
 // Action i first reached a needed fact.
-fn reached_needed(masks: &[u64; 64], needed: &[u64; 64], first: &[u16; 4096], table: &[u16], i: usize) -> bool
+fn reached_needed(
+    masks: &[u64; 64],
+    needed: &[u64; 64],
+    first: &[u16; 4096],
+    table: &[u16],
+    i: usize,
+) -> bool
     requires { ⌜ Listed (now table) i × (now masks ≡ singles) ⌝ }
     ensures { λ r. ⌜ r ≡ reachedNeeded (byOf (now (first .entry))) (setsOf (now (needed .entry))) i (actionOf (now (table .entry)) i .eff) ⌝ }
 {
@@ -122,7 +134,14 @@ fn refusal_of(k: Kept) -> Refusal
 }
 
 // The relaxed plan from the forward run and its first achievers, in the front of `plan`.
-fn keep_run(bytes: &[u8], table: &[u16], first: &[u16; 4096], run: &[u16; 1024], n: usize, plan: &mut [u16; 1024]) -> u32
+fn keep_run(
+    bytes: &[u8],
+    table: &[u16],
+    first: &[u16; 4096],
+    run: &[u16; 1024],
+    n: usize,
+    plan: &mut [u16; 1024],
+) -> u32
     requires { ⌜ Replay (now bytes) (now table) singles (now first) (now run) n × (length (now plan) ≡ 1024) ⌝ }
     ensures { λ r. ⌜ Front (taskOf (now (bytes .entry))) (now (plan .exit)) r ⌝ }
 {

@@ -1,0 +1,14 @@
+-- What C reads of an answer: its code, and the result's numbers, 0 after a refusal.
+use Prim.Native.Nat.{ℕ, _+_, _*_}
+use Rattle.planning.specs.Basics.{Answer, refused, done}
+use Rattle.planning.specs.Calls.{Forward}
+use Rattle.mardiskos.specs.declared.runs.ForwardRun.{ForwardRun}
+use Rattle.mardiskos.specs.declared.runs.RelaxedPlan.{RelaxedPlan}
+
+abbrev pub forwardRunOf : Answer Forward → ForwardRun
+forwardRunOf (refused n p) = record { code = p * 32 + n; steps = 0; reached = 0 }
+forwardRunOf (done x) = record { code = 0; steps = x .steps; reached = x .reached }
+
+abbrev pub relaxedPlanOf : Answer ℕ → RelaxedPlan
+relaxedPlanOf (refused n p) = record { code = p * 32 + n; steps = 0 }
+relaxedPlanOf (done n) = record { code = 0; steps = n }
