@@ -81,11 +81,6 @@ bitsAt-word s q a b c d ea eb ec ed ha hb hc hd =
       bitsAt-more s q 3 32 (omega arith) (omega arith),
     )
 
--- two bytes behind four
-pub bitsAt-six : (s : List ℕ) (q w a b : ℕ) → w ≡ bitsAt s (q * 8) 32 → a ≡ getD s (q + 4) 0 → b ≡ getD s (q + 5) 0 → a < 256 → b < 256 → (w * 256 + a) * 256 + b ≡ bitsAt s (q * 8) 48
-bitsAt-six s q w a b ew ea eb ha hb =
-    omega (arith, bitsAt-more s q 4 40 (omega arith) (omega arith), bitsAt-more s q 5 48 (omega arith) (omega arith))
-
 pub bitsAt-same : (s : List ℕ) (p m n : ℕ) → m ≡ n → bitsAt s p m ≡ bitsAt s p n
 bitsAt-same s p m n e = rw e refl
 

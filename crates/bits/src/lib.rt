@@ -24,30 +24,11 @@ fn word(bytes: &[u8], j: usize) -> u64
 }
 
 // The eight bytes from byte j as one number.
-fn long_word(bytes: &[u8], j: usize) -> u64
+pub fn long_word(bytes: &[u8], j: usize) -> u64
     requires { ⌜ j + 8 ≤ length (now bytes) ⌝ }
     ensures { λ r. ⌜ r ≡ bitsAt (now (bytes .entry)) (j * 8) 64 ⌝ }
 {
     word(bytes, j) * 4294967296 + word(bytes, j + 4)
-}
-
-// Six bytes near the end of the slice.
-fn last_six(bytes: &[u8], j: usize) -> u64
-    requires { ⌜ j + 6 ≤ length (now bytes) ⌝ }
-    ensures { λ r. ⌜ r ≡ bitsAt (now (bytes .entry)) (j * 8) 48 ⌝ }
-{
-    (word(bytes, j) * 256 + wide(bytes[j + 4])) * 256 + wide(bytes[j + 5])
-}
-
-// The six bytes from byte j as one number: room for four fields of ten bits at any bit of the first byte.
-pub fn read_six(bytes: &[u8], j: usize) -> u64
-    requires { ⌜ j + 6 ≤ length (now bytes) ⌝ }
-    ensures { λ r. ⌜ r ≡ bitsAt (now (bytes .entry)) (j * 8) 48 ⌝ }
-{
-    if j + 8 <= bytes.len() {
-        return long_word(bytes, j) / 65536;
-    }
-    last_six(bytes, j)
 }
 
 // The first of the eight bytes that hold each field of at most 57 bits at bit `at`: the byte of that bit, or the last from which

@@ -1,13 +1,14 @@
--- Four fields cut out of six bytes, and four stores.
+-- Four fields cut out of eight bytes, and four stores.
 use native.Mathlib.Omega.{arith}
 use borrow.Author.Needs.{needs}
 use lib.ListN.{length-set}
+use Rattle.bits.proofs.Window.{bitsAt-front}
 use Rattle.sheet.proofs.Copying.{four-stored}
 use Rattle.sheet.proofs.read_four.Statement.{statement}
 use Rattle.sheet.proofs.read_four.Tie as tie
 
-read-six-requires : tie.Need-read-six-requires
-read-six-requires c κs = search needs
+long-word-requires : tie.Need-long-word-requires
+long-word-requires c κs = search needs
 
 cast-list : tie.Need-cast-list
 cast-list c = search needs
@@ -58,13 +59,13 @@ same-length : tie.Need-same-length
 same-length c = search needs
 
 returns : tie.Need-returns
-returns c = let a = c .before .before .before .args in four-stored (a .bytes .now) (a .list .now) (a .j) (a .i) _ (c .read-six .ensures) (omega arith)
+returns c = let a = c .before .before .before .args in four-stored (a .bytes .now) (a .list .now) (a .j) (a .i) _ (bitsAt-front _ _ _ (c .long-word .ensures)) (omega arith)
 
 pub read-four-spec : {M : Type 1} → statement M
 read-four-spec =
     tie.close
     (tie.spec
-    read-six-requires
+    long-word-requires
     cast-list
     mul-list
     slice-write-list
