@@ -12,6 +12,7 @@
  *                                              not rising within its list
  *   6       first bit behind the last field    padding not 0, or bytes left over
  *   9       position of the entry              a list entry that is no action of the record
+ *   10      facts reached                      no plan
  *   11      the room lent, 32,768 at most for  the result is longer than that
  *           a list; the bytes lent
  *   12      first bit of the field, or behind  sheet cut short, wrong edition, too many steps; or padding
@@ -63,6 +64,28 @@ typedef struct {
 /* Judges the list_len actions at list in the record. Refuses with 1 to 6, 13, 9, in this order. */
 mardiskos_judgement mardiskos_judge(const uint8_t *record, size_t len, const uint16_t *list,
                                     size_t list_len);
+
+typedef struct {
+    uint64_t code;
+    uint32_t steps;
+    uint32_t reached;
+} mardiskos_forward_run;
+
+/* The forward run of the record: until every goal is reached, the lowest-numbered applicable action
+ * that adds a fact. It fills the front of the plan list and 65,535 the rest; answers its steps and the
+ * facts reached. Refuses with 1 to 6, 10, 11. */
+mardiskos_forward_run mardiskos_forward(const uint8_t *record, size_t len, uint16_t *plan,
+                                        size_t plan_len);
+
+typedef struct {
+    uint64_t code;
+    uint32_t steps;
+} mardiskos_relaxed_plan;
+
+/* The relaxed plan: what the forward run needs of itself for the goals. It fills the plan list in the
+ * same way. Refuses with 1 to 6, 10, 11. */
+mardiskos_relaxed_plan mardiskos_relax(const uint8_t *record, size_t len, uint16_t *plan,
+                                       size_t plan_len);
 
 typedef struct {
     uint64_t code;

@@ -1,4 +1,5 @@
-/* Judges a list of actions of two shelves, writes its sheet, reads it back, and hands over bad ones. */
+/* A small control program over two shelves: the forward run, the relaxed plan, a list judged, its sheet written and read back,
+ * and what is refused. */
 #include "mardiskos.h"
 
 #include <inttypes.h>
@@ -28,6 +29,28 @@ static void judge(const char *what, const uint16_t *list, size_t len)
            j.real_steps, j.real_plan ? "plan" : "no plan");
 }
 
+static void print_list(const uint16_t *list, size_t len)
+{
+    for (size_t i = 0; i < len; i++)
+        printf(" %u", (unsigned)list[i]);
+    puts("");
+}
+
+static void relax(size_t len)
+{
+    uint16_t list[4];
+    mardiskos_forward_run f = mardiskos_forward(two_shelves, sizeof two_shelves, list, len);
+    if (f.code != 0) {
+        print_refusal(f.code);
+        return;
+    }
+    printf("reached %" PRIu32 "\nforward %" PRIu32 ":", f.reached, f.steps);
+    print_list(list, len);
+    mardiskos_relaxed_plan r = mardiskos_relax(two_shelves, sizeof two_shelves, list, len);
+    printf("relaxed %" PRIu32 ":", r.steps);
+    print_list(list, len);
+}
+
 static void read_back(const uint8_t *bytes, size_t len)
 {
     uint16_t list[6];
@@ -37,9 +60,7 @@ static void read_back(const uint8_t *bytes, size_t len)
         return;
     }
     printf("read: %" PRIu32 " steps, cost %" PRIu32 ", %s:", s.steps, s.cost, s.real ? "real" : "unreal");
-    for (int i = 0; i < 6; i++)
-        printf(" %u", (unsigned)list[i]);
-    puts("");
+    print_list(list, 6);
 }
 
 int main(void)
@@ -47,6 +68,8 @@ int main(void)
     const uint16_t plan[] = {0, 2, 1, 3};
     const uint16_t relaxed[] = {0, 2, 3};
     const uint16_t wrong[] = {0, 2, 4};
+    relax(4);
+    relax(2);
     judge("plan", plan, 4);
     judge("relaxed plan", relaxed, 3);
     judge("empty list", plan, 0);
