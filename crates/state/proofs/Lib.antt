@@ -1,2 +1,5 @@
 pub mod Members
 pub mod Effects
+pub mod Loading
+pub mod Count
+pub mod Rows

@@ -7,8 +7,9 @@ use lib.Bits.{bitOr}
 use lib.Dec.{eqb}
 use lib.ListN.{length, getD}
 use Rattle.planning.specs.Record.{Fact, Action, Task}
-use Rattle.planning.specs.Runs.{State, Mode, goals}
+use Rattle.planning.specs.Runs.{State, Mode, variables, count, goals}
 use Rattle.table.specs.Table.{factsIn, costAt, preAt, effAt, endAt}
+use Rattle.state.specs.declared.Goals.{Goals}
 
 -- value x is in the set m: binary digit x of m is 1
 unfoldable pub inSet : ℕ → ℕ → Bool
@@ -56,3 +57,13 @@ pub record Listed (table : List ℕ) (i : ℕ) : Type 0 where
   pub end-below : endAt table i ≤ length table
   pub small : (k : ℕ) → preAt table i ≤ k → k < endAt table i → getD table k 0 < 4096
   pub rises : Rising 0 (factsIn table (effAt table i) (endAt table i))
+
+-- the goals of the task, in the front of a list
+pub record GoalsOf (t : Task) (g : Goals) : Type 0 where
+  pub few : g .count ≤ 64
+  pub small : (k : ℕ) → k < g .count → getD (g .facts) k 0 < 4096
+  pub are : factsIn (g .facts) 0 (g .count) ≡ goals t
+
+-- values of the task's variables only
+abbrev pub Within : Task → State → Type 0
+Within t s = (v d : ℕ) → s v d ≡ true → (v < variables t) × (d < count t v)

@@ -5,13 +5,13 @@ ghost use mathlib.Core.Option.{none};
 ghost use Prim.Native.Nat.{ℕ, _+_, _*_, _^_, _<_, _≤_};
 ghost use lib.ListN.{length, getD};
 ghost use Rattle.planning.specs.Record.{taskOf, recordCheck};
-ghost use Rattle.planning.specs.Runs.{holds, step, initial, goals, black, size};
+ghost use Rattle.planning.specs.Runs.{holds, step, initial, goals, black, size, variables};
 ghost use Rattle.table.specs.Table.{factsIn};
-ghost use Rattle.state.specs.Sets.{singles, inSet, mixed, setsOf, modeOf, actionOf, Listed};
+ghost use Rattle.state.specs.Sets.{singles, inSet, mixed, setsOf, modeOf, actionOf, Listed, GoalsOf};
 
-// The 64 single-value sets. They serve membership, in `holds` alone. Whoever loops lends them: an index into the constant
-// itself would copy the table each time.
-pub const MASKS: [u64; 64] = [
+// The 64 single-value sets. They serve membership, in `holds` alone. An index into the constant itself would copy the table
+// each time, so that it is lent.
+const MASKS: [u64; 64] = [
     1,
     2,
     4,
@@ -78,6 +78,13 @@ pub const MASKS: [u64; 64] = [
     9223372036854775808,
 ];
 
+// The table, for whoever loops to lend. Its rule is checked here.
+pub fn single_sets() -> [u64; 64]
+    ensures { λ r. ⌜ r ≡ singles ⌝ }
+{
+    MASKS
+}
+
 fn wide(x: u16) -> usize
     ensures { λ r. ⌜ r ≡ x ⌝ }
 {
@@ -93,13 +100,7 @@ pub fn holds(masks: &[u64; 64], sets: &[u64; 64], v: usize, x: usize) -> bool
 }
 
 // Each fact from place `from` up to `to` is in the state.
-pub fn all_hold(
-    masks: &[u64; 64],
-    sets: &[u64; 64],
-    facts: &[u16],
-    from: usize,
-    to: usize,
-) -> bool
+pub fn all_hold(masks: &[u64; 64], sets: &[u64; 64], facts: &[u16], from: usize, to: usize) -> bool
     requires { ⌜ (from ≤ to) × (to ≤ length (now facts)) × (now masks ≡ singles) × ((k : ℕ) → from ≤ k → k < to → getD (now facts) k 0 < 4096) ⌝ }
     ensures { λ r. ⌜ r ≡ holds (setsOf (now (sets .entry))) (factsIn (now (facts .entry)) from to) ⌝ }
 {
@@ -133,11 +134,79 @@ fn changed(old: u64, x: usize, black: bool) -> u64
     if black { new } else { old | new }
 }
 
+// The count of variables of an accepted record.
+pub fn variables(bytes: &[u8]) -> usize
+    requires { ⌜ recordCheck (now bytes) ≡ none ⌝ }
+    ensures { λ r. ⌜ (r ≡ variables (taskOf (now (bytes .entry)))) × (r ≤ 64) ⌝ }
+{
+    bits::read_bits(bytes, 4, 7) as usize
+}
+
+// The black variables, as a set of variables.
+pub fn painted(bytes: &[u8]) -> u64
+    requires { ⌜ recordCheck (now bytes) ≡ none ⌝ }
+    ensures { λ r. ⌜ modeOf r ≡ black (taskOf (now (bytes .entry))) ⌝ }
+{
+    let n = variables(bytes);
+    let mut set: u64 = 0;
+    let mut v: usize = 0;
+    while v < n {
+        set = set | bits::read_bits(bytes, 28 + 20 * v, 1) << v;
+        v += 1;
+    }
+    set
+}
+
+// The goals, as facts 64 × variable + value in the front of a list.
+pub struct Goals {
+    pub facts: [u16; 64],
+    pub count: usize,
+}
+
+impl Goals {
+    // A variable's goal is written in any case, and counted if the record has it.
+    pub fn load(bytes: &[u8]) -> Goals
+        requires { ⌜ recordCheck (now bytes) ≡ none ⌝ }
+        ensures { λ r. ⌜ GoalsOf (taskOf (now (bytes .entry))) r ⌝ }
+    {
+        let n = variables(bytes);
+        let mut g = Goals {
+            facts: [0; 64],
+            count: 0,
+        };
+        let mut v: usize = 0;
+        while v < n {
+            let present = bits::read_bits(bytes, 35 + 20 * v, 1) as usize;
+            let goal = bits::read_bits(bytes, 36 + 20 * v, 6) as usize;
+            let k = g.count;
+            g.facts[k] = (64 * v + goal) as u16;
+            g.count = k + present;
+            v += 1;
+        }
+        g
+    }
+}
+
 pub struct State {
     pub sets: [u64; 64],
 }
 
 impl State {
+    // Each set holds the initial value alone.
+    pub fn initial(bytes: &[u8]) -> State
+        requires { ⌜ recordCheck (now bytes) ≡ none ⌝ }
+        ensures { λ r. ⌜ setsOf (r .sets) ≡ initial (taskOf (now (bytes .entry))) ⌝ }
+    {
+        let n = variables(bytes);
+        let mut s = State { sets: [0; 64] };
+        let mut v: usize = 0;
+        while v < n {
+            s.sets[v] = 1 << bits::read_bits(bytes, 29 + 20 * v, 6);
+            v += 1;
+        }
+        s
+    }
+
     // The state after action i, whole. Variable v acts as black where bit v of `mode` is 1.
     pub fn step(mut self, table: &[u16], i: usize, mode: u64) -> State
         requires { ⌜ Listed (now table) i ⌝ }
@@ -152,5 +221,18 @@ impl State {
             k += 1;
         }
         self
+    }
+
+    // The facts reached: the summed counts of ones.
+    pub fn reached(self) -> u64
+        ensures { λ r. ⌜ r ≡ size 64 (λ _. 64) (setsOf (self .sets)) ⌝ }
+    {
+        let mut sum: u64 = 0;
+        let mut v: usize = 0;
+        while v < 64 {
+            sum += u64::count_ones(self.sets[v]) as u64;
+            v += 1;
+        }
+        sum
     }
 }
