@@ -13,12 +13,12 @@ use native.Mathlib.Omega.{arith}
 use Rattle.planning.specs.Record.{Fact, Action, Task}
 use Rattle.planning.specs.Runs.{State, has, holds, step, actions, act, relaxed, initial, goals, run, runs, isPlan}
 use Rattle.planning.specs.Relaxed.{addable, forwardRun, forwardEnd, solvable, firstBy, is, reachedNeeded, Kept, keep, relaxedPlan}
-use Rattle.planning.proofs.Tests.{T→true, F→false, or-l, or-r, or-cases, and-l, and-r, and-i, T-cases}
-use Rattle.planning.proofs.Facts.{_⊆_, holds→sub, sub→holds}
+use Rattle.planning.proofs.Tests.{T→true, F→false, or-l, or-r, and-l, and-r, and-i, T-cases}
+use Rattle.planning.proofs.Facts.{_⊆_, has-nil, has-cases, holds→sub, sub→holds}
 use Rattle.planning.proofs.Steps.{step-eff, step-keep, step-cases, All}
 use Rattle.planning.proofs.Formed.{Formed}
 use Rattle.planning.proofs.Plans.{isPlan-intro}
-use Rattle.planning.proofs.Forward.{Once, forwardRun-ran, forwardRun-length, forwardRun-once, unsolvable-none}
+use Rattle.planning.proofs.Forward.{Once, forwardRun-ran, forwardRun-length, forwardRun-once}
 
 module _ (act : ℕ → Action) where
   -- at each entry of the list, run from the state s, the table names the entry for its effects that are new, and for no other effect
@@ -84,18 +84,16 @@ module _ (act : ℕ → Action) where
 
 -- an effect that the table names and that is needed has its entry kept
 reachedNeeded-intro : (by : ℕ → ℕ → Option ℕ) (N : State) (i : ℕ) (fs : List Fact) (v d : ℕ) → T (has fs v d) → T (N v d) → T (is i (by v d)) → T (reachedNeeded by N i fs)
-unfolding reachedNeeded has
-reachedNeeded-intro by N i [] v d h n k = h
-reachedNeeded-intro by N i (f ∷ fs) v d h n k = go (or-cases (eqb v (f .var) && eqb d (f .val)) (has fs v d) h) (λ g. reachedNeeded-intro by N i fs v d g n k)
+unfolding reachedNeeded
+reachedNeeded-intro by N i [] v d h n k = absurd (has-nil v d h)
+reachedNeeded-intro by N i (f ∷ fs) v d h n k = go (has-cases f fs v d h) (λ g. reachedNeeded-intro by N i fs v d g n k)
   where
-    go : T (eqb v (f .var) && eqb d (f .val)) ⊎ T (has fs v d) → (T (has fs v d) → T (reachedNeeded by N i fs)) → T (reachedNeeded by N i (f ∷ fs))
-    go (inl e) g =
-        let p = eqb→eq v (f .var) (search and-l) in
-        let q = eqb→eq d (f .val) (search and-r) in
-        let n′ : T (N (f .var) (f .val)) = rw (p, q) at n in
-        let k′ : T (is i (by (f .var) (f .val))) = rw (p, q) at k in
-        search (or-l, and-i)
-    go (inr e) g = or-r (is i (by (f .var) (f .val)) && N (f .var) (f .val)) (reachedNeeded by N i fs) (g e)
+    own : Bool
+    own = is i (by (f .var) (f .val)) && N (f .var) (f .val)
+
+    go : ((v ≡ f .var) × (d ≡ f .val)) ⊎ T (has fs v d) → (T (has fs v d) → T (reachedNeeded by N i fs)) → T (own || reachedNeeded by N i fs)
+    go (inl e) g = or-l own (reachedNeeded by N i fs) (and-i (is i (by (f .var) (f .val))) (N (f .var) (f .val)) (rw (e .0, e .1) at k) (rw (e .0, e .1) at n))
+    go (inr e) g = or-r own (reachedNeeded by N i fs) (g e)
 
 module _ (act : ℕ → Action) (by : ℕ → ℕ → Option ℕ) (goal : List Fact) where
   -- the kept actions run from X and reach the goals
@@ -147,7 +145,10 @@ module _ (act : ℕ → Action) (by : ℕ → ℕ → Option ℕ) (goal : List F
       K : Kept
       K = keep act by goal l
 
-      go : (c : Bool) → All P (K .actions′) → All P ((elim c as (λ _. Kept) [ true ↦ record { actions′ = i ∷ K .actions′; needed = λ v d. has (act i .pre) v d || K .needed v d } | false ↦ K ]) .actions′)
+      choose : Bool → Kept
+      choose c = elim c [ true ↦ record { actions′ = i ∷ K .actions′; needed = λ v d. has (act i .pre) v d || K .needed v d } | false ↦ K ]
+
+      go : (c : Bool) → All P (K .actions′) → All P (choose c .actions′)
       go true h = (b .0, h)
       go false h = h
 
@@ -159,8 +160,10 @@ module _ (act : ℕ → Action) (by : ℕ → ℕ → Option ℕ) (goal : List F
       K : Kept
       K = keep act by goal l
 
-      go : (c : Bool) → length (K .actions′) ≤ length l
-          → length ((elim c as (λ _. Kept) [ true ↦ record { actions′ = i ∷ K .actions′; needed = λ v d. has (act i .pre) v d || K .needed v d } | false ↦ K ]) .actions′) ≤ suc (length l)
+      choose : Bool → Kept
+      choose c = elim c [ true ↦ record { actions′ = i ∷ K .actions′; needed = λ v d. has (act i .pre) v d || K .needed v d } | false ↦ K ]
+
+      go : (c : Bool) → length (K .actions′) ≤ length l → length (choose c .actions′) ≤ suc (length l)
       go true h = omega arith
       go false h = omega arith
 
@@ -180,10 +183,6 @@ module _ (t : Task) (F : Formed t) where
   unfolding relaxedPlan
   relaxedPlan-length = omega (arith, forwardRun-length t F, keep-length (act t) (firstBy (act t) (forwardRun t) (initial t)) (goals t) (forwardRun t))
 
-  -- there is a relaxed plan exactly if the forward run reaches the goals
-  pub solvable-of : (l : List ℕ) → isPlan t relaxed l ≡ true → solvable t ≡ true
-  solvable-of l p = go (solvable t) refl
-    where
-      go : (b : Bool) → solvable t ≡ b → b ≡ true
-      go true e = refl
-      go false e = absurd (unsolvable-none t F e relaxed l p)
+  -- with unsolvable-none: the forward run stops short of the goals exactly if no list is a relaxed plan
+  pub unsolvable-of : ((l : List ℕ) → isPlan t relaxed l ≡ true → ⊥) → solvable t ≡ false
+  unsolvable-of h = F→false (solvable t) (λ e. h (relaxedPlan t) (relaxedPlan-is-plan (T→true (solvable t) e)))

@@ -1,4 +1,7 @@
--- The moves inserted for one need: a pass for each black variable, clientsFirst first.
+-- The moves inserted for one need: a pass for each black variable, clients first. Claims, by induction over the variables taken: each
+-- entry of the list so far is usable and affects, of the black variables, taken ones only (`Old`); and the list meets all needs on
+-- the settled variables (`MeetsOn`). When all are settled the list runs and meets the wanted facts. Each pass multiplies the
+-- number of gaps by at most the variable's count of values, so that the list has fewer than P entries.
 use Prim.Native.Nat.{ℕ, _+_, _*_, _≤_, _<_}
 use mathlib.Core.Path.{_≡_, refl, subst}
 use mathlib.Core.Logic.{inl, inr}
@@ -15,21 +18,24 @@ use Rattle.planning.proofs.Tests.{and-i}
 use Rattle.planning.proofs.Facts.{_⊆_, sub→holds, Func, look-some}
 use Rattle.planning.proofs.Steps.{All, all-append, all-map}
 use Rattle.planning.proofs.Walks.{Walk, walk-all, walk-map, Usable}
-use Rattle.planning.proofs.Pass.{OkOn, with, Mover, Entries, pass-ok, pass-short}
+use Rattle.planning.proofs.Pass.{MeetsOn, with, Mover, Entry, pass-meets, pass-short}
 
+-- the variables of Q, and those of the list
 abbrev pub withs : (ℕ → Type 0) → List ℕ → ℕ → Type 0
 withs Q [] = Q
 withs Q (v ∷ vs) = withs (with Q v) vs
 
 module _ (act : ℕ → Action) (A : ℕ) (m : Mode) where
-  -- no settled black variable is a condition of an action that sets v
+  -- no action that sets v needs a settled black variable
   abbrev pub NoArc : (ℕ → Type 0) → ℕ → Type 0
   NoArc Q v = (i : ℕ) → i < A → T (touches (act i .eff) v) → (u x : ℕ) → T (has (act i .pre) u x) → Q u → T (m u) → ⊥
 
+  -- each variable of the list is black, is not settled yet, and has no settled client
   abbrev pub Ordered : (ℕ → Type 0) → List ℕ → Type 0
   Ordered Q [] = Unit {0}
   Ordered Q (v ∷ vs) = T (m v) × (Q v → ⊥) × NoArc Q v × Ordered (with Q v) vs
 
+  -- lists of facts are functions, and no action affects two black variables
   pub record Sound : Type 0 where
     pub pres : (i : ℕ) → i < A → Func (act i .pre)
     pub effs : (i : ℕ) → i < A → Func (act i .eff)
@@ -44,6 +50,7 @@ module _ (act : ℕ → Action) (A : ℕ) (m : Mode) where
       pub met : has (act i .pre) ⊆ W
       pub within : (u : ℕ) → T (touches (act i .eff) u) → T (m u) → Q u
 
+    -- a usable action that sets v moves nothing else that is black, and stays usable
     mover : (Q : ℕ → Type 0) (v : ℕ) → T (m v) → (Q v → ⊥) → NoArc Q v → (i : ℕ) → Usable act A W v i → Mover m Q W (act i)
     mover Q v mv nq na i U = record {
       needs = λ u x h q. (λ mu. na i (U .below) (U .sets) u x h q mu, U .met u x h);
@@ -56,9 +63,8 @@ module _ (act : ℕ → Action) (A : ℕ) (m : Mode) where
     older : (Q : ℕ → Type 0) (v i : ℕ) → Old Q i → Old (with Q v) i
     older Q v i o = record { below = o .below; met = o .met; within = λ u k mu. inr (o .within u k mu) }
 
-    entries : (Q : ℕ → Type 0) (v : ℕ) → T (m v) → (Q v → ⊥) → (l : List ℕ) → All (Old Q) l → Entries act m Q W v l
-    entries Q v mv nq [] h = tt
-    entries Q v mv nq (i ∷ l) h = (record { func = S .pres i (h .0 .below); was = h .0 .met v; still = λ k. nq (h .0 .within v k mv) }, entries Q v mv nq l (h .1))
+    entry : (Q : ℕ → Type 0) (v : ℕ) → T (m v) → (Q v → ⊥) → (i : ℕ) → Old Q i → Entry act m Q W v (act i)
+    entry Q v mv nq i o = record { func = S .pres i (o .below); was = o .met v; still = λ k. nq (o .within v k mv) }
 
     toward-all : (Q : ℕ → Type 0) (v c : ℕ) → T (m v) → T (W v c) → (fs : List Fact) → has fs ⊆ W → (o : Option ℕ) → look fs v ≡ o
         → All (Old (with Q v)) (toward (path v) c o) × T (W v (after c o))
@@ -76,27 +82,27 @@ module _ (act : ℕ → Action) (A : ℕ) (m : Mode) where
         let r = toward-all Q v c mv k (act i .pre) (h .0 .met) o refl in
         all-append (Old (with Q v)) (toward (path v) c o) (i ∷ pass act (path v) v (after c o) l w) (r .0) (older Q v i (h .0), pass-all Q v (after c o) mv (r .1) l (h .1))
 
-    pub fill-ok : (vs : List ℕ) (Q : ℕ → Type 0) (l : List ℕ) → Ordered Q vs → All (Old Q) l → OkOn act Q m s l w
-        → OkOn act (withs Q vs) m s (fill act path val vs l w) w × All (Old (withs Q vs)) (fill act path val vs l w)
+    pub fill-meets : (vs : List ℕ) (Q : ℕ → Type 0) (l : List ℕ) → Ordered Q vs → All (Old Q) l → MeetsOn act Q m s l w
+        → MeetsOn act (withs Q vs) m s (fill act path val vs l w) w × All (Old (withs Q vs)) (fill act path val vs l w)
     unfolding fill
-    fill-ok [] Q l o h ok = (ok, h)
-    fill-ok (v ∷ vs) Q l o h ok =
+    fill-meets [] Q l o h ok = (ok, h)
+    fill-meets (v ∷ vs) Q l o h ok =
         let mv = o .0 in
         let wc = ins v (val v) (at v mv) in
-        fill-ok vs (with Q v) (pass act (path v) v (val v) l w) (o .3) (pass-all Q v (val v) mv wc l h)
-        (pass-ok act m Q W v (path v) (λ c d p q. walk-map (λ i. Mover m Q W (act i)) (mover Q v mv (o .1) (o .2)) (paths v c d mv p q))
-        l w fw (ww v) (entries Q v mv (o .1) l h) s s (val v) (record { sub = λ u x q g. g; reds = reds; at = at v mv }) wc ok)
+        fill-meets vs (with Q v) (pass act (path v) v (val v) l w) (o .3) (pass-all Q v (val v) mv wc l h)
+        (pass-meets act m Q W v (path v) (λ c d p q. walk-map (λ i. Mover m Q W (act i)) (mover Q v mv (o .1) (o .2)) (paths v c d mv p q))
+        l w fw (ww v) (all-map (Old Q) (λ i. Entry act m Q W v (act i)) (entry Q v mv (o .1)) l h) s s (val v) (record { sub = λ u x q g. g; reds = reds; at = at v mv }) wc ok)
 
 -- every variable is settled: the list runs, and meets the need
 module _ (act : ℕ → Action) (Q : ℕ → Type 0) (all : (u : ℕ) → Q u) (m : Mode) (w : List Fact) where
-  pub ok→runs : (l : List ℕ) (s : State) → OkOn act Q m s l w → T (runs act m l s) × (has w ⊆ run act m l s)
+  pub meets→runs : (l : List ℕ) (s : State) → MeetsOn act Q m s l w → T (runs act m l s) × (has w ⊆ run act m l s)
   unfolding runs run
-  ok→runs [] s ok = (tt, λ u x h. ok u x h (all u))
-  ok→runs (i ∷ l) s ok =
-      let r = ok→runs l (step m (act i) s) (ok .1) in
+  meets→runs [] s ok = (tt, λ u x h. ok u x h (all u))
+  meets→runs (i ∷ l) s ok =
+      let r = meets→runs l (step m (act i) s) (ok .1) in
       (and-i (holds s (act i .pre)) (runs act m l (step m (act i) s)) (sub→holds s (act i .pre) (λ u x h. ok .0 u x h (all u))) (r .0), r .1)
 
--- the length: the product of the counts, for the variables taken
+-- the product of the counts of the variables of a list
 unfoldable pub product : (ℕ → ℕ) → List ℕ → ℕ
 product f [] = 1
 product f (v ∷ vs) = f v * product f vs

@@ -15,26 +15,29 @@ use Rattle.planning.specs.Record.{Fact, Action, Task}
 use Rattle.planning.specs.Runs.{State, has, holds, Mode, step, variables, actions, variable, act, count, relaxed, initial, goals, run, runs, isPlan, size}
 use Rattle.planning.specs.Relaxed.{adds, forward, addable, forwardRun, forwardEnd, solvable}
 use Rattle.planning.proofs.Tests.{and-l, and-r, and-i, T-cases}
-use Rattle.planning.proofs.Below.{First, First?, first-is, tally-le, tally-cases, tally-pos, tally-sub, total-le, total-lt, total-pred, total-one}
-use Rattle.planning.proofs.Facts.{_⊆_, holds→sub, sub→holds, missing}
+use Rattle.planning.proofs.Below.{First?, first-is, tally-le, tally-cases, tally-pos, tally-sub, total-le, total-lt, total-pred, total-one}
+use Rattle.planning.proofs.Facts.{_⊆_, holds→sub, sub→holds, holds-missing}
 use Rattle.planning.proofs.Steps.{step-eff, step-keep, step-cases, run-grows, All, all-map}
 use Rattle.planning.proofs.Formed.{Formed, sorted-has, initial-holds}
 use Rattle.planning.proofs.Plans.{Plan, isPlan-elim, plan-mono}
 
+-- the size of a state: at most all facts, and larger where a fact is added
 pub size-le : (nv : ℕ) (count : ℕ → ℕ) (s : State) → size nv count s ≤ total nv count
 unfolding size
 size-le nv count s = total-le nv (λ v. tally (count v) (s v)) count (λ v _. tally-le (count v) (s v))
 
-pub size-lt : (nv : ℕ) (count : ℕ → ℕ) (s t : State) → s ⊆ t → (v d : ℕ) → v < nv → d < count v → T (t v d) → (T (s v d) → ⊥) → size nv count s < size nv count t
+size-lt : (nv : ℕ) (count : ℕ → ℕ) (s t : State) → s ⊆ t → (v d : ℕ) → v < nv → d < count v → T (t v d) → (T (s v d) → ⊥) → size nv count s < size nv count t
 unfolding size
 size-lt nv count s t h v d b c p n =
     total-lt nv (λ v. tally (count v) (s v)) (λ v. tally (count v) (t v)) (λ v _. tally-sub (count v) (s v) (t v) (λ i _. h v i)) v b
     (elim (tally-cases (count v) (s v) (t v) (λ i _. h v i)) [ inl a ↦ absurd (n (a .0 d c p)) | inr l ↦ l ])
 
+-- an action that applies in S adds nothing; then no relaxed run from within S leaves it
 abbrev pub Closed : (ℕ → Action) → ℕ → State → Type 0
 Closed act A S = (i : ℕ) → i < A → has (act i .pre) ⊆ S → has (act i .eff) ⊆ S
 
-pub closed-run : (act : ℕ → Action) (A : ℕ) (S : State) → Closed act A S → (l : List ℕ) (X : State) → All (λ i. i < A) l → X ⊆ S → T (runs act relaxed l X) → run act relaxed l X ⊆ S
+closed-run : (act : ℕ → Action) (A : ℕ) (S : State) → Closed act A S
+    → (l : List ℕ) (X : State) → All (λ i. i < A) l → X ⊆ S → T (runs act relaxed l X) → run act relaxed l X ⊆ S
 unfolding run runs
 closed-run act A S C [] X b x r = x
 closed-run act A S C (i ∷ l) X b x r =
@@ -42,78 +45,90 @@ closed-run act A S C (i ∷ l) X b x r =
     closed-run act A S C l (step relaxed (act i) X) (b .1)
     (λ v d h. elim (step-cases relaxed (act i) X v d h) [ inl e ↦ C i (b .0) (λ u y g. x u y (p u y g)) v d e | inr k ↦ x v d (k .0) ]) (search and-r)
 
--- how a forward run ends: at the goal, or where no action adds anything
+-- what a forward run from s satisfies: it ends at the goals, or short of them in a closed state; and each action added a fact
 pub record Ran (act : ℕ → Action) (A nv : ℕ) (count : ℕ → ℕ) (goal : List Fact) (s : State) (l : List ℕ) : Type 0 where
   pub below : All (λ i. i < A) l
   pub runs′ : T (runs act relaxed l s)
   pub ends : (has goal ⊆ run act relaxed l s) ⊎ (Closed act A (run act relaxed l s) × T (not (holds (run act relaxed l s) goal)))
-  pub size′ : size nv count s + length l ≤ size nv count (run act relaxed l s)
+  pub grown : size nv count s + length l ≤ size nv count (run act relaxed l s)
 
 module _ (act : ℕ → Action) (A nv : ℕ) (count : ℕ → ℕ) (goal : List Fact) (ranged : (i v e : ℕ) → i < A → T (has (act i .eff) v e) → (v < nv) × (e < count v)) where
-  grown : (s : State) (i : ℕ) → i < A → T (adds act s i) → size nv count s < size nv count (step relaxed (act i) s)
-  unfolding adds
-  grown s i b t =
-      let r = missing s (act i .eff) (search and-r) in
-      let z = ranged i (r .0) (r .1) b (r .2) in
-      size-lt nv count s (step relaxed (act i) s) (λ v d h. step-keep relaxed (act i) s v d h (λ x _. x)) (r .0) (r .1) (z .0) (z .1) (step-eff relaxed (act i) s (r .0) (r .1) (r .2)) (r .3)
+  abbrev next : State → ℕ → State
+  next s i = step relaxed (act i) s
 
-  closed-of : (s : State) → ((i : ℕ) → i < A → T (adds act s i) → ⊥) → Closed act A s
+  -- k further actions are as many as can add a fact
+  abbrev Enough : ℕ → State → Type 0
+  Enough k s = total nv count ≤ size nv count s + k
+
+  adds-grows : (s : State) (i : ℕ) → i < A → T (adds act s i) → size nv count s < size nv count (next s i)
   unfolding adds
-  closed-of s h i b p = go (T-cases (holds s (act i .eff)))
+  adds-grows s i b t =
+      let r = holds-missing s (act i .eff) (search and-r) in
+      let z = ranged i (r .0) (r .1) b (r .2) in
+      size-lt nv count s (next s i) (λ v d h. step-keep relaxed (act i) s v d h (λ x _. x)) (r .0) (r .1) (z .0) (z .1) (step-eff relaxed (act i) s (r .0) (r .1) (r .2)) (r .3)
+
+  none-adds-closed : (s : State) → ((i : ℕ) → i < A → T (adds act s i) → ⊥) → Closed act A s
+  unfolding adds
+  none-adds-closed s h i b p = go (T-cases (holds s (act i .eff)))
     where
       go : T (holds s (act i .eff)) ⊎ T (not (holds s (act i .eff))) → has (act i .eff) ⊆ s
       go (inl t) = holds→sub s (act i .eff) t
       go (inr t) = absurd (h i b (and-i (holds s (act i .pre)) (not (holds s (act i .eff))) (sub→holds s (act i .pre) p) t))
 
-  pub forward-ok : (k : ℕ) (s : State) → total nv count ≤ size nv count s + k → Ran act A nv count goal s (forward act A goal k s)
+  pub forward-ran : (k : ℕ) (s : State) → Enough k s → Ran act A nv count goal s (forward act A goal k s)
   unfolding forward run runs adds
-  forward-ok zero s f = record {
+  forward-ran zero s f = record {
     below = tt;
     runs′ = tt;
-    size′ = omega arith;
+    grown = omega arith;
     ends = elim (T-cases (holds s goal)) [
       | inl t ↦ inl (holds→sub s goal t)
-      | inr n ↦ inr (closed-of s (λ i b t. omega (arith, grown s i b t, size-le nv count (step relaxed (act i) s))), n)
+      | inr n ↦ inr (none-adds-closed s (λ i b t. omega (arith, adds-grows s i b t, size-le nv count (next s i))), n)
     ];
   }
-  forward-ok (suc k) s f = go (holds s goal) refl (forward-ok k)
+  forward-ran (suc k) s f = go (holds s goal) refl (first A (adds act s)) (first-is A (adds act s)) (forward-ran k)
     where
-      body : Bool → Option ℕ → List ℕ
-      body b o = elim b [ true ↦ [] | false ↦ elim o [ none ↦ [] | some i ↦ i ∷ forward act A goal k (step relaxed (act i) s) ] ]
-
-      pick : (o : Option ℕ) → First? A (adds act s) o → holds s goal ≡ false → ((s : State) → total nv count ≤ size nv count s + k → Ran act A nv count goal s (forward act A goal k s)) → Ran act A nv count goal s (body false o)
-      pick none h e rec = record { below = tt; runs′ = tt; size′ = omega arith; ends = inr (closed-of s h, rw e tt) }
-      pick (some i) h e rec =
-          let g = grown s i (h .below) (h .passes) in
-          let R = rec (step relaxed (act i) s) (omega arith) in
-          let z = R .size′ in
+      go : (b : Bool) → holds s goal ≡ b → (o : Option ℕ) → First? A (adds act s) o → ((s : State) → Enough k s → Ran act A nv count goal s (forward act A goal k s))
+          → Ran act A nv count goal s (elim b [ true ↦ [] | false ↦ elim o [ none ↦ [] | some i ↦ i ∷ forward act A goal k (next s i) ] ])
+      go true e o h rec = record { below = tt; runs′ = tt; grown = omega arith; ends = inl (holds→sub s goal (rw e tt)) }
+      go false e none h rec = record { below = tt; runs′ = tt; grown = omega arith; ends = inr (none-adds-closed s h, rw e tt) }
+      go false e (some i) h rec =
+          let g = adds-grows s i (h .below) (h .passes) in
+          let R = rec (next s i) (omega arith) in
+          let p = and-l (holds s (act i .pre)) (not (holds s (act i .eff))) (h .passes) in
           record {
             below = (h .below, R .below);
-            runs′ = and-i (holds s (act i .pre)) (runs act relaxed (forward act A goal k (step relaxed (act i) s)) (step relaxed (act i) s)) (and-l (holds s (act i .pre)) (not (holds s (act i .eff))) (h .passes)) (R .runs′);
-            size′ = omega arith;
+            runs′ = and-i (holds s (act i .pre)) (runs act relaxed (forward act A goal k (next s i)) (next s i)) p (R .runs′);
+            grown = omega (arith, R .grown);
             ends = R .ends;
           }
 
-      go : (b : Bool) → holds s goal ≡ b → ((s : State) → total nv count ≤ size nv count s + k → Ran act A nv count goal s (forward act A goal k s)) → Ran act A nv count goal s (body b (first A (adds act s)))
-      go true e rec = record { below = tt; runs′ = tt; size′ = omega arith; ends = inl (holds→sub s goal (rw e tt)) }
-      go false e rec = pick (first A (adds act s)) (first-is A (adds act s)) e rec
-
-  -- a loop that takes actions until the goals hold or none adds: the fuel is never short
-  pub forward-take : (k i : ℕ) (s : State) → total nv count ≤ size nv count s + k → holds s goal ≡ false → first A (adds act s) ≡ some i
-      → (forward act A goal k s ≡ i ∷ forward act A goal (pred k) (step relaxed (act i) s)) × (total nv count ≤ size nv count (step relaxed (act i) s) + pred k)
+  -- for a loop that takes actions until the goals hold or none adds a fact: the fuel of the definition is never short
+  pub forward-take : (k i : ℕ) (s : State) → Enough k s → holds s goal ≡ false → first A (adds act s) ≡ some i
+      → (forward act A goal k s ≡ i ∷ forward act A goal (pred k) (next s i)) × Enough (pred k) (next s i)
   unfolding forward
   forward-take k i s f h e = go k f
     where
-      I : First A (adds act s) i
-      I = subst (First? A (adds act s)) e (first-is A (adds act s))
+      g : size nv count s < size nv count (next s i)
+      g = let I = subst (First? A (adds act s)) e (first-is A (adds act s)) in adds-grows s i (I .below) (I .passes)
 
-      g : size nv count s < size nv count (step relaxed (act i) s)
-      g = grown s i (I .below) (I .passes)
-
-      go : (k : ℕ) → total nv count ≤ size nv count s + k
-          → (forward act A goal k s ≡ i ∷ forward act A goal (pred k) (step relaxed (act i) s)) × (total nv count ≤ size nv count (step relaxed (act i) s) + pred k)
-      go zero f = absurd (omega (arith, g, size-le nv count (step relaxed (act i) s)))
+      go : (k : ℕ) → Enough k s → (forward act A goal k s ≡ i ∷ forward act A goal (pred k) (next s i)) × Enough (pred k) (next s i)
+      go zero f = absurd (omega (arith, g, size-le nv count (next s i)))
       go (suc k) f = (rw (h, e, forward) refl, omega (arith, g))
+
+pub forward-goal : (act : ℕ → Action) (A : ℕ) (goal : List Fact) (k : ℕ) (s : State) → holds s goal ≡ true → forward act A goal k s ≡ []
+unfolding forward
+forward-goal act A goal zero s h = refl
+forward-goal act A goal (suc k) s h = rw (h, forward) refl
+
+pub forward-none : (act : ℕ → Action) (A : ℕ) (goal : List Fact) (k : ℕ) (s : State) → first A (adds act s) ≡ none → forward act A goal k s ≡ []
+unfolding forward
+forward-none act A goal zero s e = refl
+forward-none act A goal (suc k) s e = go (holds s goal)
+  where
+    go : (b : Bool) → _≡_ {A = List ℕ} (elim b [ true ↦ [] | false ↦ elim (first A (adds act s)) [ none ↦ [] | some i ↦ i ∷ forward act A goal k (step relaxed (act i) s) ] ]) []
+    go true = refl
+    go false = rw e refl
 
 -- no number twice in a list
 abbrev pub Once : List ℕ → Type 0
@@ -131,11 +146,11 @@ module _ (act : ℕ → Action) (A : ℕ) (goal : List Fact) where
           → All (λ j. has (act j .eff) ⊆ s → ⊥) (elim b [ true ↦ [] | false ↦ elim o [ none ↦ [] | some i ↦ i ∷ forward act A goal k (step relaxed (act i) s) ] ])
       go true o f rec = tt
       go false none f rec = tt
-      go false (some i) f rec = (
-        λ h. T-not (holds s (act i .eff)) (and-r (holds s (act i .pre)) (not (holds s (act i .eff))) (f .passes)) (sub→holds s (act i .eff) h),
-        all-map (λ j. has (act j .eff) ⊆ step relaxed (act i) s → ⊥) (λ j. has (act j .eff) ⊆ s → ⊥)
-            (λ j n h. n (λ v d t. step-keep relaxed (act i) s v d (h v d t) (λ x _. x))) (forward act A goal k (step relaxed (act i) s)) (rec (step relaxed (act i) s)),
-      )
+      go false (some i) f rec =
+          let s′ : State = step relaxed (act i) s in (
+            λ h. T-not (holds s (act i .eff)) (and-r (holds s (act i .pre)) (not (holds s (act i .eff))) (f .passes)) (sub→holds s (act i .eff) h),
+            all-map (λ j. has (act j .eff) ⊆ s′ → ⊥) (λ j. has (act j .eff) ⊆ s → ⊥) (λ j n h. n (λ v d t. step-keep relaxed (act i) s v d (h v d t) (λ x _. x))) (forward act A goal k s′) (rec s′),
+          )
 
   pub forward-once : (k : ℕ) (s : State) → Once (forward act A goal k s)
   unfolding forward
@@ -146,11 +161,11 @@ module _ (act : ℕ → Action) (A : ℕ) (goal : List Fact) where
           → Once (elim b [ true ↦ [] | false ↦ elim o [ none ↦ [] | some i ↦ i ∷ forward act A goal k (step relaxed (act i) s) ] ])
       go true o rec = tt
       go false none rec = tt
-      go false (some i) rec = (
-        all-map (λ j. has (act j .eff) ⊆ step relaxed (act i) s → ⊥) (λ j. i ≢ j)
-            (λ j n e. n (subst (λ x. has (act x .eff) ⊆ step relaxed (act i) s) e (step-eff relaxed (act i) s))) (forward act A goal k (step relaxed (act i) s)) (forward-new k (step relaxed (act i) s)),
-        rec (step relaxed (act i) s),
-      )
+      go false (some i) rec =
+          let s′ : State = step relaxed (act i) s in (
+            all-map (λ j. has (act j .eff) ⊆ s′ → ⊥) (λ j. i ≢ j) (λ j n e. n (subst (λ x. has (act x .eff) ⊆ s′) e (step-eff relaxed (act i) s))) (forward act A goal k s′) (forward-new k s′),
+            rec s′,
+          )
 
 -- the forward run of a task
 module _ (t : Task) (F : Formed t) where
@@ -172,11 +187,11 @@ module _ (t : Task) (F : Formed t) where
 
   pub forwardRun-ran : Ran (act t) (actions t) (variables t) (count t) (goals t) (initial t) (forwardRun t)
   unfolding forwardRun
-  forwardRun-ran = forward-ok (act t) (actions t) (variables t) (count t) (goals t) eff-ranged (addable t) (initial t) (omega (arith, initial-size, facts-total))
+  forwardRun-ran = forward-ran (act t) (actions t) (variables t) (count t) (goals t) eff-ranged (addable t) (initial t) (omega (arith, initial-size, facts-total))
 
   pub forwardRun-length : length (forwardRun t) ≤ addable t
   unfolding forwardEnd
-  forwardRun-length = omega (arith, forwardRun-ran .size′, initial-size, facts-total, size-le (variables t) (count t) (run (act t) relaxed (forwardRun t) (initial t)))
+  forwardRun-length = omega (arith, forwardRun-ran .grown, initial-size, facts-total, size-le (variables t) (count t) (run (act t) relaxed (forwardRun t) (initial t)))
 
   pub forwardRun-once : Once (forwardRun t)
   unfolding forwardRun
@@ -195,4 +210,6 @@ module _ (t : Task) (F : Formed t) where
 
       go : (has (goals t) ⊆ S) ⊎ (Closed (act t) (actions t) S × T (not (holds S (goals t)))) → ⊥
       go (inl g) = subst T e (sub→holds S (goals t) g)
-      go (inr c) = subst T e (sub→holds S (goals t) (λ v d h. closed-run (act t) (actions t) S (c .0) l (initial t) (P .below) (run-grows (act t) (forwardRun t) (initial t)) (P .runs′) v d (P .meets v d h)))
+      go (inr c) =
+          let within = closed-run (act t) (actions t) S (c .0) l (initial t) (P .below) (run-grows (act t) (forwardRun t) (initial t)) (P .runs′) in
+          subst T e (sub→holds S (goals t) (λ v d h. within v d (P .meets v d h)))

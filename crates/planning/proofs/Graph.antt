@@ -1,11 +1,13 @@
--- Reachability in a finite graph, by a number of moves; below n nodes n - 1 moves are enough.
-use Prim.Native.Nat.{ℕ, zero, suc, _<_}
+-- Reachability in a finite graph, by a number of moves. Below n nodes n − 1 moves are enough: from k to k + 1 moves the set of nodes
+-- from which d is reached gains a node or stays the same, and once it stays the same it stays so for ever; and it has d at the start.
+use Prim.Native.Nat.{ℕ, zero, suc, _<_, pred}
 use mathlib.Core.Path.{_≡_}
 use mathlib.Core.Logic.{_⊎_, inl, inr}
 use mathlib.Core.Bool.{Bool, _&&_}
 use lib.Dec.{T, eqb, eqb→eq, eqb-refl}
 use native.Mathlib.Omega.{arith}
 use Rattle.planning.specs.Basics.{someBelow, tally, reach}
+use Rattle.planning.specs.Painting.{onCycle}
 use Rattle.planning.proofs.Tests.{or-l, or-r, or-cases, and-l, and-r, and-i}
 use Rattle.planning.proofs.Below.{some-intro, some-elim, tally-cases, tally-full, tally-pos}
 
@@ -42,24 +44,30 @@ module _ (n : ℕ) (adj : ℕ → ℕ → Bool) where
       go (inr r) f = reach-move (suc k) c (r .0) d (r .1) (r .2) (f (r .0) d (r .3))
 
   module _ (d : ℕ) (inside : d < n) where
-    -- no more nodes come: none ever comes
-    stable : (k : ℕ) → ((c : ℕ) → c < n → T (reach n adj (suc k) c d) → T (reach n adj k c d)) → (j c : ℕ) → c < n → T (reach n adj j c d) → T (reach n adj k c d)
-    stable k h zero c b t = rw (reach-zero c d t) (reach-here k d)
-    stable k h (suc j) c b t = go (reach-cases j c d t) (stable k h j)
+    -- no node comes with the next move: none ever comes
+    reach-stable : (k : ℕ) → ((c : ℕ) → c < n → T (reach n adj (suc k) c d) → T (reach n adj k c d)) → (j c : ℕ) → c < n → T (reach n adj j c d) → T (reach n adj k c d)
+    reach-stable k h zero c b t = rw (reach-zero c d t) (reach-here k d)
+    reach-stable k h (suc j) c b t = go (reach-cases j c d t) (reach-stable k h j)
       where
         go : (c ≡ d) ⊎ ((e : ℕ) × (e < n) × T (adj c e) × T (reach n adj j e d)) → ((c : ℕ) → c < n → T (reach n adj j c d) → T (reach n adj k c d)) → T (reach n adj k c d)
         go (inl e) f = rw e (reach-here k d)
         go (inr r) f = h c b (reach-move k c (r .0) d (r .1) (r .2) (f (r .0) (r .1) (r .3)))
 
-    grows : (k : ℕ) → ((j c : ℕ) → c < n → T (reach n adj j c d) → T (reach n adj k c d)) ⊎ (k < tally n (λ c. reach n adj k c d))
-    grows zero = inr (tally-pos n (λ c. reach n adj 0 c d) d inside (reach-here 0 d))
-    grows (suc k) = elim (grows k) [
+    reach-grows : (k : ℕ) → ((j c : ℕ) → c < n → T (reach n adj j c d) → T (reach n adj k c d)) ⊎ (k < tally n (λ c. reach n adj k c d))
+    reach-grows zero = inr (tally-pos n (λ c. reach n adj 0 c d) d inside (reach-here 0 d))
+    reach-grows (suc k) = elim (reach-grows k) [
       | inl f ↦ inl (λ j c b t. reach-suc k c d (f j c b t))
       | inr h ↦ elim (tally-cases n (λ c. reach n adj k c d) (λ c. reach n adj (suc k) c d) (λ c _ t. reach-suc k c d t)) [
-        | inl a ↦ inl (λ j c b t. reach-suc k c d (stable k (a .0) j c b t))
+        | inl a ↦ inl (λ j c b t. reach-suc k c d (reach-stable k (a .0) j c b t))
         | inr l ↦ inr (omega arith)
       ]
     ]
 
     pub reach-bound : (k : ℕ) → n ≡ suc k → (j c : ℕ) → c < n → T (reach n adj j c d) → T (reach n adj k c d)
-    reach-bound k e j c b t = elim (grows k) [ inl f ↦ f j c b t | inr h ↦ tally-full n (λ c. reach n adj k c d) (omega arith) c b ]
+    reach-bound k e j c b t = elim (reach-grows k) [ inl f ↦ f j c b t | inr h ↦ tally-full n (λ c. reach n adj k c d) (omega arith) c b ]
+
+-- any way back makes a cycle, however long
+pub onCycle-of : (n : ℕ) (adj : ℕ → ℕ → Bool) (v u k : ℕ) → v < n → u < n → T (adj v u) → T (reach n adj k u v) → T (onCycle n adj v)
+unfolding onCycle
+onCycle-of n adj v u k vb ub a r =
+    some-intro n (λ u. adj v u && reach n adj (pred n) u v) u ub (and-i (adj v u) (reach n adj (pred n) u v) a (reach-bound n adj v vb (pred n) (omega arith) k u ub r))

@@ -17,7 +17,6 @@ abbrev pub _≈_ : State → State → Type 0
 s ≈ t = (s ⊆ t) × (t ⊆ s)
 
 infix 4 _≈_
-
 pub ≈-trans : (s t u : State) → s ≈ t → t ≈ u → s ≈ u
 ≈-trans s t u h g = (λ v d x. g .0 v d (h .0 v d x), λ v d x. h .1 v d (g .1 v d x))
 

@@ -1,4 +1,5 @@
-pub mod Examples
+-- Laws about the definitions of specs/, from the ground up: tests and lists, the record, plans, the forward run and its relaxed plan,
+-- the parts of the repair, the painting, and on top the calls and demand 3.
 pub mod Tests
 pub mod Checks
 pub mod Below
@@ -23,3 +24,4 @@ pub mod Painting
 pub mod Sizes
 pub mod Calls
 pub mod Demand3
+pub mod Examples

@@ -17,10 +17,10 @@ use Rattle.planning.specs.Runs.{has, touches, holds, variables, actions,
 use Rattle.planning.specs.Painting.{causalArc, blackArc, onCycle, cyclic, target, arcFrom, outside, returnBy, lacksReturn, unreturned}
 use Rattle.planning.specs.Repair.{known, order, repairFrom, repaired}
 use Rattle.planning.specs.Existence.{share, blackProduct}
-use Rattle.planning.proofs.Tests.{or-l, or-r, or-cases, and-l, and-r, and-i, T-cases}
+use Rattle.planning.proofs.Tests.{or-l, or-r, and-l, and-r, and-i, T-cases}
 use Rattle.planning.proofs.Below.{some-intro, some-elim, first-none, tally-le, times-same}
-use Rattle.planning.proofs.Graph.{reach-here, reach-move}
-use Rattle.planning.proofs.Facts.{holds→sub, has→touches, Func}
+use Rattle.planning.proofs.Graph.{reach-here, reach-move, onCycle-of}
+use Rattle.planning.proofs.Facts.{has-here, has-there, has-cases, has-++, holds→sub, has→touches, Func}
 use Rattle.planning.proofs.Fields.{variable-past}
 use Rattle.planning.proofs.Formed.{Formed, sorted-has, sorted-func, goals-sorted, initial-holds, initial-elim}
 use Rattle.planning.proofs.Plans.{isPlan-elim, isPlan-intro}
@@ -29,8 +29,8 @@ use Rattle.planning.proofs.Walks.{Walk, Usable, stop}
 use Rattle.planning.proofs.Fill.{product}
 use Rattle.planning.proofs.Known.{known-start}
 use Rattle.planning.proofs.Conn.{Returns, Invertible, Inv, Conn, inv-same, conn-same}
-use Rattle.planning.proofs.Order.{untaken, clientsFirst-ok, clientsFirst-product, onCycle-of}
-use Rattle.planning.proofs.Repair.{Red, Accepted, repairFrom-ok, repairFrom-short}
+use Rattle.planning.proofs.Order.{untaken, clientsFirst-ordered, clientsFirst-product}
+use Rattle.planning.proofs.Repair.{Red, Accepted, repairFrom-leads, repairFrom-short}
 
 pub black-inside : (t : Task) (v : ℕ) → T (black t v) → v < variables t
 unfolding black
@@ -56,41 +56,25 @@ blackArc-ends t u v a = (search (and-l, and-r), search (and-l, and-r))
 
 -- the outside condition: the facts of a list on other variables
 has-outside : (v : ℕ) (fs : List Fact) (u x : ℕ) → u ≢ v → T (has fs u x) → T (has (outside v fs) u x)
-unfolding outside has
+unfolding outside
 has-outside v [] u x n h = h
-has-outside v (f ∷ fs) u x n h = go (eqb (f .var) v) refl (or-cases (eqb u (f .var) && eqb x (f .val)) (has fs u x) h) (has-outside v fs u x n)
+has-outside v (f ∷ fs) u x n h = go (eqb (f .var) v) refl (has-cases f fs u x h) (has-outside v fs u x n)
   where
-    rest : Bool → List Fact
-    rest b = elim b [ true ↦ outside v fs | false ↦ f ∷ outside v fs ]
-
-    go : (b : Bool) → eqb (f .var) v ≡ b → T (eqb u (f .var) && eqb x (f .val)) ⊎ T (has fs u x) → (T (has fs u x) → T (has (outside v fs) u x)) → T (has (rest b) u x)
-    go true e (inl z) k = absurd (n (eqb→eq u (f .var) (search and-l) ∙ eqb→eq (f .var) v (rw e tt)))
+    go : (b : Bool) → eqb (f .var) v ≡ b → ((u ≡ f .var) × (x ≡ f .val)) ⊎ T (has fs u x) → (T (has fs u x) → T (has (outside v fs) u x))
+        → T (has (elim b [ true ↦ outside v fs | false ↦ f ∷ outside v fs ]) u x)
+    go true e (inl z) k = absurd (n (z .0 ∙ eqb→eq (f .var) v (rw e tt)))
     go true e (inr z) k = k z
-    go false e (inl z) k = or-l (eqb u (f .var) && eqb x (f .val)) (has (outside v fs) u x) z
-    go false e (inr z) k = or-r (eqb u (f .var) && eqb x (f .val)) (has (outside v fs) u x) (k z)
+    go false e (inl z) k = rw (z .0, z .1) (has-here f (outside v fs))
+    go false e (inr z) k = has-there f (outside v fs) u x (k z)
 
 outside-has : (v : ℕ) (fs : List Fact) (u x : ℕ) → T (has (outside v fs) u x) → T (has fs u x)
-unfolding outside has
+unfolding outside
 outside-has v [] u x h = h
 outside-has v (f ∷ fs) u x h = go (eqb (f .var) v) h (outside-has v fs u x)
   where
-    rest : Bool → List Fact
-    rest b = elim b [ true ↦ outside v fs | false ↦ f ∷ outside v fs ]
-
-    go : (b : Bool) → T (has (rest b) u x) → (T (has (outside v fs) u x) → T (has fs u x)) → T (has (f ∷ fs) u x)
-    go true h k = or-r (eqb u (f .var) && eqb x (f .val)) (has fs u x) (k h)
-    go false h k = elim (or-cases (eqb u (f .var) && eqb x (f .val)) (has (outside v fs) u x) h) [
-      | inl z ↦ or-l (eqb u (f .var) && eqb x (f .val)) (has fs u x) z
-      | inr z ↦ or-r (eqb u (f .var) && eqb x (f .val)) (has fs u x) (k z)
-    ]
-
-has-++ : (fs gs : List Fact) (u x : ℕ) → T (has (fs ++ gs) u x) → T (has fs u x) ⊎ T (has gs u x)
-unfolding has
-has-++ [] gs u x h = inr h
-has-++ (f ∷ fs) gs u x h = elim (or-cases (eqb u (f .var) && eqb x (f .val)) (has (fs ++ gs) u x) h) [
-  | inl z ↦ inl (or-l (eqb u (f .var) && eqb x (f .val)) (has fs u x) z)
-  | inr z ↦ elim (has-++ fs gs u x z) [ inl y ↦ inl (or-r (eqb u (f .var) && eqb x (f .val)) (has fs u x) y) | inr y ↦ inr y ]
-]
+    go : (b : Bool) → T (has (elim b [ true ↦ outside v fs | false ↦ f ∷ outside v fs ]) u x) → (T (has (outside v fs) u x) → T (has fs u x)) → T (has (f ∷ fs) u x)
+    go true h k = has-there f fs u x (k h)
+    go false h k = elim (has-cases f (outside v fs) u x h) [ inl z ↦ rw (z .0, z .1) (has-here f fs) | inr z ↦ has-there f fs u x (k z) ]
 
 module _ (t : Task) (F : Formed t) where
   pre-func : (i : ℕ) → Func (act t i .pre)
@@ -168,9 +152,9 @@ module _ (t : Task) (F : Formed t) where
               arc = rw (own .1, q) at x;
               cond = λ u y n g. elim (has-++ (outside v (act t i .pre)) (outside v (act t i .eff)) u y
                   (holds→sub (has o) (outside v (act t j .pre)) (search and-r) u y (has-outside v (act t j .pre) u y n g))) [
-                | inl z ↦ inl (outside-has v (act t i .pre) u y z)
-                | inr z ↦ inr (outside-has v (act t i .eff) u y z)
-              ];
+                    | inl z ↦ inl (outside-has v (act t i .pre) u y z)
+                    | inr z ↦ inr (outside-has v (act t i .eff) u y z)
+                  ];
             }
 
     arcs : (i u v x : ℕ) → i < actions t → T (touches (act t i .eff) v) → T (has (act t i .pre) u x) → T (black t u) → T (black t v) → u ≢ v → T (blackArc t u v)
@@ -179,7 +163,7 @@ module _ (t : Task) (F : Formed t) where
     pub accepted : Accepted (act t) (actions t) (black t) (count t) (order t)
     unfolding order
     accepted =
-        let o = clientsFirst-ok (variables t) (blackArc t) (black t) (black-inside t) (blackArc-ends t) no-cycle (act t) (actions t) arcs
+        let o = clientsFirst-ordered (variables t) (blackArc t) (black t) (black-inside t) (blackArc-ends t) no-cycle (act t) (actions t) arcs
         (variables t) (λ _. false) (Red (black t))
         (record { shut = λ u w z _ _. z; out = λ u q. inl q; in′ = λ u. elim [ inl q ↦ q | inr z ↦ absurd z ] })
         (tally-le (variables t) (untaken (black t) (λ _. false))) in
@@ -196,8 +180,7 @@ module _ (t : Task) (F : Formed t) where
     pub product-order : product (count t) (order t) ≡ blackProduct t
     unfolding order blackProduct
     product-order =
-        clientsFirst-product (variables t) (blackArc t) (black t) (black-inside t) (blackArc-ends t) no-cycle (act t) (actions t) arcs
-        (count t) (variables t) (λ _. false) (tally-le (variables t) (untaken (black t) (λ _. false)))
+        clientsFirst-product (variables t) (blackArc t) (black t) (black-inside t) (blackArc-ends t) no-cycle (count t) (variables t) (λ _. false) (tally-le (variables t) (untaken (black t) (λ _. false)))
         ∙ times-same (variables t) (λ v. share (untaken (black t) (λ _. false) v) (count t v)) (λ v. share (black t v) (count t v)) (λ v _. rw (and-true (black t v)) refl)
 
     -- the repair of a relaxed plan: a red-black plan of at most n × P steps
@@ -206,7 +189,7 @@ module _ (t : Task) (F : Formed t) where
     repaired-is-plan l p =
         let P = isPlan-elim t relaxed l p in
         let k = known-start (black t) (initial t) in
-        let M = repairFrom-ok (act t) (actions t) (black t) (count t) (order t) accepted (goals t) (sorted-func (variables t) (count t) 0 (goals t) (goals-sorted t F))
+        let M = repairFrom-leads (act t) (actions t) (black t) (count t) (order t) accepted (goals t) (sorted-func (variables t) (count t) 0 (goals t) (goals-sorted t F))
         l (initial t) (initial t) (initial t) (λ v d h. h) (P .below) (k .0) (P .runs′) (P .meets)
         (inv-same (act t) (actions t) (black t) (count t) (initial t) (initial t) (known (black t) (initial t) (initial t)) k initial-inv)
         (conn-same (act t) (actions t) (black t) (count t) (initial t) (known (black t) (initial t) (initial t)) k initial-conn) in

@@ -1,4 +1,7 @@
--- One variable's pass of the repair.
+-- One variable's pass of the repair. Q are the variables that are settled: red ones, and black ones that have had their pass. The old
+-- list meets every need on Q; the pass inserts moves of v alone, so that the new list meets every need on Q and on v. The inserted
+-- moves may need red facts, which W holds and which never leave, but no settled black variable (clients come first); and they move no
+-- settled black variable. So the needs on Q stay met, and v is at each need where the last walk left it.
 use Prim.Native.Nat.{ℕ, _+_, _*_, _≤_, _<_}
 use mathlib.Core.Path.{_≡_, refl, subst}
 use mathlib.Core.Logic.{_⊎_, inl, inr}
@@ -11,17 +14,19 @@ use Rattle.planning.specs.Record.{Fact, Action}
 use Rattle.planning.specs.Runs.{State, has, touches, look, Mode, step}
 use Rattle.planning.specs.Repair.{toward, after, pass, moves}
 use Rattle.planning.proofs.Facts.{Func, look-some, look-none}
-use Rattle.planning.proofs.Steps.{step-eff, step-keep, step-at}
+use Rattle.planning.proofs.Steps.{step-eff, step-keep, step-at, All}
 use Rattle.planning.proofs.Walks.{Walk, stop, move}
 
+-- the facts of the list on the variables of Q are in the state
 abbrev pub HoldsOn : (ℕ → Type 0) → State → List Fact → Type 0
 HoldsOn Q t fs = (u x : ℕ) → T (has fs u x) → Q u → T (t u x)
 
--- every entry's demands on the variables of Q are met as it comes, and those of w at the end
-abbrev pub OkOn : (ℕ → Action) → (ℕ → Type 0) → Mode → State → List ℕ → List Fact → Type 0
-OkOn act Q m t [] w = HoldsOn Q t w
-OkOn act Q m t (i ∷ l) w = HoldsOn Q t (act i .pre) × OkOn act Q m (step m (act i) t) l w
+-- every entry's needs on the variables of Q are met as it comes, and those of w at the end
+abbrev pub MeetsOn : (ℕ → Action) → (ℕ → Type 0) → Mode → State → List ℕ → List Fact → Type 0
+MeetsOn act Q m t [] w = HoldsOn Q t w
+MeetsOn act Q m t (i ∷ l) w = HoldsOn Q t (act i .pre) × MeetsOn act Q m (step m (act i) t) l w
 
+-- the variables of Q, and v
 abbrev pub with : (ℕ → Type 0) → ℕ → ℕ → Type 0
 with Q v u = (u ≡ v) ⊎ Q u
 
@@ -30,6 +35,7 @@ pub record Mover (m : Mode) (Q : ℕ → Type 0) (W : State) (a : Action) : Type
   pub needs : (u x : ℕ) → T (has (a .pre) u x) → Q u → (T (m u) → ⊥) × T (W u x)
   pub moves : (u : ℕ) → T (touches (a .eff) u) → T (m u) → Q u → ⊥
 
+-- the one value that a list has for v is held
 held-at : (t : State) (fs : List Fact) (v c u x : ℕ) → u ≡ v → T (has fs u x) → ((y : ℕ) → T (has fs v y) → y ≡ c) → T (t v c) → T (t u x)
 held-at t fs v c u x e h f k = rw (e, f x (rw e at h)) k
 
@@ -47,12 +53,13 @@ module _ (act : ℕ → Action) (m : Mode) (Q : ℕ → Type 0) (W : State) (v :
     at = step-eff m a t′ v d e;
   }
 
-  walk-ok : {c d : ℕ} {p : List ℕ} → Walk act (λ i. Mover m Q W (act i)) v c p d → (t t′ : State) → Near t t′ c → (rest : List ℕ) (w : List Fact)
-      → ((t″ : State) → Near t t″ d → OkOn act (with Q v) m t″ rest w) → OkOn act (with Q v) m t′ (p ++ rest) w
-  walk-ok stop t t′ n rest w k = k t′ n
-  walk-ok (move {c = c} {d = d} {i = i} U pr ef wk) t t′ n rest w k = (
+  -- a walk of v in front of a list
+  walk-meets : {c d : ℕ} {p : List ℕ} → Walk act (λ i. Mover m Q W (act i)) v c p d → (t t′ : State) → Near t t′ c → (rest : List ℕ) (w : List Fact)
+      → ((t″ : State) → Near t t″ d → MeetsOn act (with Q v) m t″ rest w) → MeetsOn act (with Q v) m t′ (p ++ rest) w
+  walk-meets stop t t′ n rest w k = k t′ n
+  walk-meets (move {c = c} {d = d} {i = i} U pr ef wk) t t′ n rest w k = (
     λ u x h. elim [ inl e ↦ held-at t′ (act i .pre) v c u x e h pr (n .at) | inr q ↦ n .reds u x (U .needs u x h q .0) (U .needs u x h q .1) ],
-    walk-ok wk t (step m (act i) t′) (near-move (act i) t t′ c d U ef n) rest w k,
+    walk-meets wk t (step m (act i) t′) (near-move (act i) t t′ c d U ef n) rest w k,
   )
 
   -- what the entries so far must satisfy: they leave v alone, and what they need of it was held
@@ -60,10 +67,6 @@ module _ (act : ℕ → Action) (m : Mode) (Q : ℕ → Type 0) (W : State) (v :
     pub func : Func (a .pre)
     pub was : (x : ℕ) → T (has (a .pre) v x) → T (W v x)
     pub still : T (touches (a .eff) v) → ⊥
-
-  abbrev pub Entries : List ℕ → Type 0
-  Entries [] = Unit {0}
-  Entries (i ∷ l) = Entry (act i) × Entries l
 
   near-step : (a : Action) (t t′ : State) (c : ℕ) → Entry a → Near t t′ c → Near (step m a t) (step m a t′) c
   near-step a t t′ c E n = record {
@@ -73,28 +76,29 @@ module _ (act : ℕ → Action) (m : Mode) (Q : ℕ → Type 0) (W : State) (v :
   }
 
   module _ (path : ℕ → ℕ → List ℕ) (paths : (c d : ℕ) → T (W v c) → T (W v d) → Walk act (λ i. Mover m Q W (act i)) v c (path c d) d) where
-    seek : (o : Option ℕ) (fs : List Fact) → look fs v ≡ o → Func fs → ((x : ℕ) → T (has fs v x) → T (W v x)) → (t t′ : State) (c : ℕ) → Near t t′ c → T (W v c)
+    -- the walk to the value that a list has for v, if it has one
+    toward-meets : (o : Option ℕ) (fs : List Fact) → look fs v ≡ o → Func fs → ((x : ℕ) → T (has fs v x) → T (W v x)) → (t t′ : State) (c : ℕ) → Near t t′ c → T (W v c)
         → (rest : List ℕ) (w : List Fact)
-        → ((t″ : State) → Near t t″ (after c o) → T (W v (after c o)) → ((x : ℕ) → T (has fs v x) → x ≡ after c o) → OkOn act (with Q v) m t″ rest w)
-        → OkOn act (with Q v) m t′ (toward path c o ++ rest) w
+        → ((t″ : State) → Near t t″ (after c o) → T (W v (after c o)) → ((x : ℕ) → T (has fs v x) → x ≡ after c o) → MeetsOn act (with Q v) m t″ rest w)
+        → MeetsOn act (with Q v) m t′ (toward path c o ++ rest) w
     unfolding toward after
-    seek none fs e fn iw t t′ c n k rest w cont = cont t′ n k (λ x h. absurd (look-none fs v x e h))
-    seek (some d) fs e fn iw t t′ c n k rest w cont =
+    toward-meets none fs e fn iw t t′ c n k rest w cont = cont t′ n k (λ x h. absurd (look-none fs v x e h))
+    toward-meets (some d) fs e fn iw t t′ c n k rest w cont =
         let h = look-some fs v d e in
-        walk-ok (paths c d k (iw d h)) t t′ n rest w (λ t″ n′. cont t″ n′ (iw d h) (λ x g. fn v x d g h))
+        walk-meets (paths c d k (iw d h)) t t′ n rest w (λ t″ n′. cont t″ n′ (iw d h) (λ x g. fn v x d g h))
 
-    pub pass-ok : (l : List ℕ) (w : List Fact) → Func w → ((x : ℕ) → T (has w v x) → T (W v x)) → Entries l → (t t′ : State) (c : ℕ) → Near t t′ c → T (W v c)
-        → OkOn act Q m t l w → OkOn act (with Q v) m t′ (pass act path v c l w) w
+    pub pass-meets : (l : List ℕ) (w : List Fact) → Func w → ((x : ℕ) → T (has w v x) → T (W v x)) → All (λ i. Entry (act i)) l → (t t′ : State) (c : ℕ) → Near t t′ c → T (W v c)
+        → MeetsOn act Q m t l w → MeetsOn act (with Q v) m t′ (pass act path v c l w) w
     unfolding pass
-    pass-ok [] w fn iw E t t′ c n k ok =
-        subst (λ l. OkOn act (with Q v) m t′ l w) (append-nil (toward path c (look w v)))
-        (seek (look w v) w refl fn iw t t′ c n k [] w (λ t″ n′ k′ eq u x h. elim [ inl e ↦ held-at t″ w v (after c (look w v)) u x e h eq (n′ .at) | inr q ↦ n′ .sub u x q (ok u x h q) ]))
-    pass-ok (i ∷ l) w fn iw E t t′ c n k ok =
+    pass-meets [] w fn iw E t t′ c n k ok =
+        subst (λ l. MeetsOn act (with Q v) m t′ l w) (append-nil (toward path c (look w v)))
+        (toward-meets (look w v) w refl fn iw t t′ c n k [] w (λ t″ n′ k′ eq u x h. elim [ inl e ↦ held-at t″ w v (after c (look w v)) u x e h eq (n′ .at) | inr q ↦ n′ .sub u x q (ok u x h q) ]))
+    pass-meets (i ∷ l) w fn iw E t t′ c n k ok =
         let o = look (act i .pre) v in
-        seek o (act i .pre) refl (E .0 .func) (E .0 .was) t t′ c n k (i ∷ pass act path v (after c o) l w) w
+        toward-meets o (act i .pre) refl (E .0 .func) (E .0 .was) t t′ c n k (i ∷ pass act path v (after c o) l w) w
         (λ t″ n′ k′ eq. (
           λ u x h. elim [ inl e ↦ held-at t″ (act i .pre) v (after c o) u x e h eq (n′ .at) | inr q ↦ n′ .sub u x q (ok .0 u x h q) ],
-          pass-ok l w fn iw (E .1) (step m (act i) t) (step m (act i) t″) (after c o) (near-step (act i) t t″ (after c o) (E .0) n′) k′ (ok .1),
+          pass-meets l w fn iw (E .1) (step m (act i) t) (step m (act i) t″) (after c o) (near-step (act i) t t″ (after c o) (E .0) n′) k′ (ok .1),
         ))
 
 -- the length of a pass: each of the gaps takes a path of less than k moves

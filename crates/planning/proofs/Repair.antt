@@ -1,14 +1,16 @@
 -- The repair of a relaxed plan, over the functions that it needs of a task. `Accepted` is what the record's form and the painting's
--- two conditions give. Invariant after any number of steps: K, the facts of R and B, holds all that the relaxed actions done so far
--- reach, and any two values that a black variable has had are joined by usable walks (`Inv` and `Conn`). So each need can be met, the
--- list runs, and the relaxed run goes on within K.
+-- two conditions give. Invariant after any number of steps: the facts of R and B hold all that the relaxed actions done so far reach,
+-- and any two values that a black variable has had are joined by usable walks (`Inv` and `Conn`). So the facts wanted next were held
+-- before and can be reached again; after the inserted moves the action applies, and the relaxed run goes on within R and B.
+-- Length: moves for one need are fewer than P. The first action applies at the start and needs none, so that n actions have at most n
+-- needs (before the second to the last, and at the end): n + n × (P − 1) steps.
 use Prim.Native.Nat.{ℕ, _+_, _*_, _≤_, _<_}
 use mathlib.Core.Path.{_≡_, refl, ap}
-use mathlib.Core.Logic.{_⊎_, inl, inr}
+use mathlib.Core.Logic.{inl, inr}
 use mathlib.Core.Bool.{Bool, true, false, not, _&&_, _||_}
 use mathlib.Core.List.{List, [], _∷_, _++_}
 use mathlib.Core.Option.{Option, none, some}
-use lib.Dec.{T, T-not, eqb, eqb→eq, eqb-refl}
+use lib.Dec.{T, T-not}
 use lib.ListN.{length, length-append}
 use native.Mathlib.Omega.{arith}
 use native.Mathlib.Nat.{mul-le-mul-right}
@@ -17,33 +19,32 @@ use Rattle.planning.specs.Record.{Fact, Action}
 use Rattle.planning.specs.Runs.{State, has, holds, Mode, step, relaxed, run, runs}
 use Rattle.planning.specs.Painting.{orZero}
 use Rattle.planning.specs.Repair.{known, everAfter, shortest, fill, value, blackMet, moves, repairFrom}
-use Rattle.planning.proofs.Tests.{T→true, or-l, or-r, or-cases, and-l, and-r, and-i, T-cases}
+use Rattle.planning.proofs.Tests.{T→true, or-r, or-cases, and-l, and-r, and-i}
 use Rattle.planning.proofs.Below.{First?, first-is}
 use Rattle.planning.proofs.Facts.{_⊆_, holds→sub, sub→holds, Func}
 use Rattle.planning.proofs.Steps.{step-mono, run-append, runs-append, run-grows, All, all-append, all-map}
 use Rattle.planning.proofs.Walks.{Walk, Usable}
-use Rattle.planning.proofs.Fill.{withs, Ordered, Sound, fill-ok, ok→runs, product, fill-short}
+use Rattle.planning.proofs.Fill.{withs, Ordered, Sound, fill-meets, meets→runs, product, fill-short}
 use Rattle.planning.proofs.Short.{shortest-short, shortest-walk}
 use Rattle.planning.proofs.Known.{everAfter-now, known-run}
 use Rattle.planning.proofs.Conn.{Invertible, Inv, Conn, inv-same, conn-same, inv-step, conn-step}
 
-blackMet→sub : (m : Mode) (s : State) (w : List Fact) → T (blackMet m s w) → ((v d : ℕ) → T (has w v d) → (T (m v) → ⊥) → T (s v d)) → has w ⊆ s
-unfolding blackMet has
-blackMet→sub m s [] t h v d x = absurd x
-blackMet→sub m s (f ∷ fs) t h v d x =
-    go (T-cases (m v)) (or-cases (eqb v (f .var) && eqb d (f .val)) (has fs v d) x)
-    (blackMet→sub m s fs (search and-r) (λ u y z. h u y (search or-r)) v d)
-  where
-    go : T (m v) ⊎ T (not (m v)) → T (eqb v (f .var) && eqb d (f .val)) ⊎ T (has fs v d) → (T (has fs v d) → T (s v d)) → T (s v d)
-    go (inr r) e k = h v d x (T-not (m v) r)
-    go (inl b) (inr e) k = k e
-    go (inl b) (inl e) k =
-        let p = eqb→eq v (f .var) (search and-l) in
-        let q = eqb→eq d (f .val) (search and-r) in
-        let b′ : T (m (f .var)) = rw p at b in
-        let z : T (not (m (f .var)) || s (f .var) (f .val)) = search and-l in
-        rw (p, q) (elim (or-cases (not (m (f .var))) (s (f .var) (f .val)) z) [ inl n ↦ absurd (T-not (m (f .var)) n b′) | inr g ↦ g ])
+-- a need whose red facts are held is met where its black facts are
+blackMet-holds : (m : Mode) (s : State) (w : List Fact) → blackMet m s w ≡ holds (λ v d. not (m v) || s v d) w
+unfolding blackMet holds
+blackMet-holds m s [] = refl
+blackMet-holds m s (f ∷ fs) = ap (λ b. (not (m (f .var)) || s (f .var) (f .val)) && b) (blackMet-holds m s fs)
 
+blackMet→sub : (m : Mode) (s : State) (w : List Fact) → T (blackMet m s w) → ((v d : ℕ) → T (has w v d) → (T (m v) → ⊥) → T (s v d)) → has w ⊆ s
+blackMet→sub m s w t r v d h = elim (or-cases (not (m v)) (s v d) (holds→sub (λ v d. not (m v) || s v d) w (rw (blackMet-holds m s w) at t) v d h)) [
+  | inl n ↦ r v d h (T-not (m v) n)
+  | inr x ↦ x
+]
+
+sub→blackMet : (m : Mode) (s : State) (w : List Fact) → has w ⊆ s → T (blackMet m s w)
+sub→blackMet m s w h = rw (blackMet-holds m s w) (sub→holds (λ v d. not (m v) || s v d) w (λ v d t. or-r (not (m v)) (s v d) (h v d t)))
+
+-- at the start the red variables are settled
 abbrev pub Red : Mode → ℕ → Type 0
 Red m u = T (m u) → ⊥
 
@@ -56,6 +57,7 @@ pub record Accepted (act : ℕ → Action) (A : ℕ) (m : Mode) (count : ℕ →
   pub covers : (u : ℕ) → withs (Red m) order u
 
 module _ (act : ℕ → Action) (A : ℕ) (m : Mode) (count : ℕ → ℕ) (order : List ℕ) (K : Accepted act A m count order) where
+  -- the invariant along a run
   inv-run : (l : List ℕ) (s W : State) → All (λ i. i < A) l → T (runs act m l s) → Inv act A m count s W → Conn act A m count W
       → Inv act A m count (run act m l s) (run act relaxed l W) × Conn act A m count (run act relaxed l W)
   unfolding run runs
@@ -66,6 +68,7 @@ module _ (act : ℕ → Action) (A : ℕ) (m : Mode) (count : ℕ → ℕ) (orde
       (inv-step act A m count (K .sound) (K .range) i (b .0) s W h I)
       (conn-step act A m count (K .sound) (K .range) i (b .0) s W h I (K .invertible) C)
 
+  -- the present value of a black variable is held
   value-at : (s W : State) → Inv act A m count s W → (v : ℕ) → T (m v) → T (s v (value count s v))
   unfolding value orZero
   value-at s W I v mv = go (first (count v) (s v)) (first-is (count v) (s v))
@@ -74,14 +77,16 @@ module _ (act : ℕ → Action) (A : ℕ) (m : Mode) (count : ℕ → ℕ) (orde
       go none f = let c = I .val v mv in absurd (f (c .0) (I .ranged v (c .0) (I .ins v (c .0) (c .1))) (c .1))
       go (some c) f = f .passes
 
-  pub record Moved (s : State) (w : List Fact) (l : List ℕ) : Type 0 where
+  -- the list runs from s and meets w
+  pub record Leads (s : State) (w : List Fact) (l : List ℕ) : Type 0 where
     pub below : All (λ i. i < A) l
     pub runs′ : T (runs act m l s)
     pub meets : has w ⊆ run act m l s
 
-  moves-ok : (s ever : State) (w : List Fact) → Func w → has w ⊆ known m s ever → Inv act A m count s (known m s ever) → Conn act A m count (known m s ever) → Moved s w (moves act A m count order s ever w)
+  moves-leads : (s ever : State) (w : List Fact) → Func w → has w ⊆ known m s ever
+      → Inv act A m count s (known m s ever) → Conn act A m count (known m s ever) → Leads s w (moves act A m count order s ever w)
   unfolding moves run runs
-  moves-ok s ever w fw ww I C = go (blackMet m s w) refl
+  moves-leads s ever w fw ww I C = go (blackMet m s w) refl
     where
       W : State
       W = known m s ever
@@ -94,23 +99,26 @@ module _ (act : ℕ → Action) (A : ℕ) (m : Mode) (count : ℕ → ℕ) (orde
           let p = C v c d mv h g in
           shortest-walk act A W v (count v) (K .sound .pres) (K .sound .effs) (λ i e. K .range i v e) c d (I .ranged v c h) (I .ranged v d g) (p .0) (p .1)
 
-      go : (b : Bool) → blackMet m s w ≡ b → Moved s w (elim b [ true ↦ [] | false ↦ fill act path (value count s) order [] w ])
+      go : (b : Bool) → blackMet m s w ≡ b → Leads s w (elim b [ true ↦ [] | false ↦ fill act path (value count s) order [] w ])
       go true e = record { below = tt; runs′ = tt; meets = blackMet→sub m s w (rw e tt) (λ v d h r. I .reds v d r (ww v d h)) }
       go false e =
-          let r = fill-ok act A m (K .sound) W s path (value count s) paths (I .reds) (I .ins) (value-at s W I) w fw ww order (Red m) [] (K .ordered) tt (λ u x h q. I .reds u x q (ww u x h)) in
-          let z = ok→runs act (withs (Red m) order) (K .covers) m w (fill act path (value count s) order [] w) s (r .0) in
-          record { below = all-map _ (λ i. i < A) (λ i o. o .below) (fill act path (value count s) order [] w) (r .1); runs′ = z .0; meets = z .1 }
+          let l : List ℕ = fill act path (value count s) order [] w in
+          let r = fill-meets act A m (K .sound) W s path (value count s) paths (I .reds) (I .ins) (value-at s W I) w fw ww
+          order (Red m) [] (K .ordered) tt (λ u x h q. I .reds u x q (ww u x h)) in
+          let z = meets→runs act (withs (Red m) order) (K .covers) m w l s (r .0) in
+          record { below = all-map _ (λ i. i < A) (λ i o. o .below) l (r .1); runs′ = z .0; meets = z .1 }
 
   -- the repaired list runs and meets the goal: X is the state of the relaxed run of the relaxed actions done so far
-  pub repairFrom-ok : (goal : List Fact) → Func goal → (l : List ℕ) (s ever X : State) → s ⊆ ever → All (λ i. i < A) l → X ⊆ known m s ever → T (runs act relaxed l X) → has goal ⊆ run act relaxed l X
-      → Inv act A m count s (known m s ever) → Conn act A m count (known m s ever) → Moved s goal (repairFrom act A m count order goal l s ever)
+  pub repairFrom-leads : (goal : List Fact) → Func goal → (l : List ℕ) (s ever X : State) → s ⊆ ever → All (λ i. i < A) l
+      → X ⊆ known m s ever → T (runs act relaxed l X) → has goal ⊆ run act relaxed l X
+      → Inv act A m count s (known m s ever) → Conn act A m count (known m s ever) → Leads s goal (repairFrom act A m count order goal l s ever)
   unfolding repairFrom run runs
-  repairFrom-ok goal fg [] s ever X e b x r g I C = moves-ok s ever goal fg (λ v d h. x v d (g v d h)) I C
-  repairFrom-ok goal fg (i ∷ l) s ever X e b x r g I C =
+  repairFrom-leads goal fg [] s ever X e b x r g I C = moves-leads s ever goal fg (λ v d h. x v d (g v d h)) I C
+  repairFrom-leads goal fg (i ∷ l) s ever X e b x r g I C =
       let W : State = known m s ever in
       let p = holds→sub X (act i .pre) (search and-l) in
       let j : List ℕ = moves act A m count order s ever (act i .pre) in
-      let M = moves-ok s ever (act i .pre) (K .sound .pres i (b .0)) (λ v d h. x v d (p v d h)) I C in
+      let M = moves-leads s ever (act i .pre) (K .sound .pres i (b .0)) (λ v d h. x v d (p v d h)) I C in
       let k : List ℕ = j ++ (i ∷ []) in
       let kb = all-append (λ i. i < A) j (i ∷ []) (M .below) (b .0, tt) in
       let s₁ : State = run act m j s in
@@ -122,15 +130,16 @@ module _ (act : ℕ → Action) (A : ℕ) (m : Mode) (count : ℕ → ℕ) (orde
       let I′ = inv-same act A m count s′ (run act relaxed k W) (known m s′ ever′) n (J .0) in
       let C′ = conn-same act A m count (run act relaxed k W) (known m s′ ever′) n (J .1) in
       let rest : List ℕ = repairFrom act A m count order goal l s′ ever′ in
-      let up : step relaxed (act i) X ⊆ known m s′ ever′ = λ v d h. n .0 v d (rw (run-append act relaxed j (i ∷ []) W) (step-mono relaxed relaxed (act i) X (run act relaxed j W) (λ v t. t) (λ v d h. run-grows act j W v d (x v d h)) v d h)) in
-      let N = repairFrom-ok goal fg l s′ ever′ (step relaxed (act i) X) (everAfter-now act m k s ever e) (b .1) up (search and-r) g I′ C′ in
+      let X′ : State = step relaxed (act i) X in
+      let x₁ = step-mono relaxed relaxed (act i) X (run act relaxed j W) (λ v t. t) (λ v d h. run-grows act j W v d (x v d h)) in
+      let x′ : X′ ⊆ known m s′ ever′ = λ v d h. n .0 v d (rw (run-append act relaxed j (i ∷ []) W) (x₁ v d h)) in
+      let N = repairFrom-leads goal fg l s′ ever′ X′ (everAfter-now act m k s ever e) (b .1) x′ (search and-r) g I′ C′ in
       record {
         below = all-append (λ i. i < A) k rest kb (N .below);
         runs′ = runs-append act m k rest s kr (N .runs′);
         meets = λ v d h. rw (run-append act m k rest s) (N .meets v d h);
       }
 
-  -- the length
   product-pos : (vs : List ℕ) → 0 < product count vs
   unfolding product
   product-pos [] = omega arith
@@ -157,19 +166,12 @@ module _ (act : ℕ → Action) (A : ℕ) (m : Mode) (count : ℕ → ℕ) (orde
       let k : List ℕ = moves act A m count order s ever (act i .pre) ++ (i ∷ []) in
       simp length-append (omega (arith, moves-short s ever (act i .pre), repairFrom-long goal l (run act m k s) (everAfter act m k s ever)))
 
-  -- from a state that a relaxed run may start in too, the first action needs no repair
-  blackMet-of : (s : State) (w : List Fact) → has w ⊆ s → T (blackMet m s w)
-  unfolding blackMet has
-  blackMet-of s [] h = tt
-  blackMet-of s (f ∷ fs) h =
-      let g = blackMet-of s fs (λ v d t. h v d (search or-r)) in
-      search (and-i, or-l, or-r, eqb-refl, h) depth 7
-
+  -- a need that is met takes no moves; at the start that is so of the first action
   moves-none : (s ever : State) (w : List Fact) → has w ⊆ s → moves act A m count order s ever w ≡ []
   unfolding moves
   moves-none s ever w h =
       ap (λ (b : Bool). elim b as (λ _. List ℕ) [ true ↦ [] | false ↦ fill act (λ v. shortest act A (known m s ever) v (count v)) (value count s) order [] w ])
-      (T→true (blackMet m s w) (blackMet-of s w h))
+      (T→true (blackMet m s w) (sub→blackMet m s w h))
 
   pub repairFrom-short : (goal : List Fact) (l : List ℕ) (s ever : State) → T (runs act relaxed l s) → has goal ⊆ run act relaxed l s
       → length (repairFrom act A m count order goal l s ever) ≤ length l * product count order

@@ -1,4 +1,5 @@
--- Walks of one variable: moves by actions that each apply where the last one left it.
+-- Walks of one variable: moves by actions that each apply where the last one left it. In this file and in those above, W are the
+-- facts that moves may count on, R and B of the paper.
 use Prim.Native.Nat.{ℕ, _<_}
 use mathlib.Core.Path.{_≡_}
 use mathlib.Core.List.{List, [], _∷_, _++_}
@@ -25,8 +26,8 @@ pub walk-append : {act : ℕ → Action} {U : ℕ → Type 0} {v b c d : ℕ} {p
 walk-append stop k = k
 walk-append (move u pr ef h) k = move u pr ef (walk-append h k)
 
--- an action that sets v and whose preconditions all lie in K
-pub record Usable (act : ℕ → Action) (A : ℕ) (K : State) (v i : ℕ) : Type 0 where
+-- an action that sets v and whose preconditions all lie in W
+pub record Usable (act : ℕ → Action) (A : ℕ) (W : State) (v i : ℕ) : Type 0 where
   pub below : i < A
-  pub met : has (act i .pre) ⊆ K
+  pub met : has (act i .pre) ⊆ W
   pub sets : T (touches (act i .eff) v)
