@@ -15,7 +15,7 @@ use lib.Seq.{slice, slice-cons, slice-empty}
 use Rattle.planning.specs.Record.{Fact}
 use Rattle.planning.specs.Runs.{look, holds}
 use Rattle.planning.specs.Painting.{fits}
-use Rattle.table.specs.Table.{factOf, factsIn, preAt, effAt}
+use Rattle.table.specs.Table.{factOf, factsIn, preAt, effAt, endAt}
 use Rattle.state.specs.Sets.{inSet, setsOf, actionOf}
 use Rattle.state.proofs.Members.{inSet-single, inSet-empty, one-shl}
 use Rattle.paths.specs.Paths.{Asked}
@@ -88,3 +88,7 @@ module _ (table ever : List ℕ) (i v rest m : ℕ) (s : (c : ℕ) → inSet m c
 
   pub usable-no : met ≡ false → (c : ℕ) → inSet 0 c ≡ (inSet rest c && (met && from′ c))
   usable-no e c = rw (e, and-false (inSet rest c)) (inSet-empty c)
+
+pub asked-eff : (table : List ℕ) (i v from to d : ℕ) → from ≡ effAt table i → to ≡ endAt table i → Asked (look (factsIn table from to) v) d → Asked (look (actionOf table i .eff) v) d
+unfolding actionOf
+asked-eff table i v from to d a b q = rw (← a, ← b) q

@@ -4,3 +4,4 @@ pub mod Marking
 pub mod Leads
 pub mod Arriving
 pub mod Walking
+pub mod Memos

@@ -19,11 +19,27 @@ use Rattle.planning.proofs.Tests.{and-l, and-r}
 use Rattle.planning.proofs.Facts.{look-is}
 use Rattle.planning.proofs.Below.{First, First?, first-is}
 use Rattle.planning.proofs.Graph.{reach-move}
-use Rattle.planning.proofs.Formed.{Formed}
-use Rattle.state.specs.Sets.{actionOf}
+use Rattle.planning.proofs.Formed.{Formed, formed-of}
+use Rattle.table.specs.Table.{Tabled}
+use Rattle.state.proofs.Rows.{listed, listed-act}
+use Rattle.state.specs.Sets.{actionOf, Listed}
 use Rattle.paths.specs.Paths.{Asked, leadIn, lead, numberOf, Leads, Sets, Put}
 use Rattle.paths.specs.declared.Written.the-variants.{Upto, Long}
 use Rattle.paths.proofs.Leads.{first-at, range, hop-sets, hop-adj, effs}
+
+-- the path of the definition
+abbrev pub PathTo : Task → State → ℕ → ℕ → ℕ → List ℕ
+PathTo t K v d c = shortest (act t) (actions t) K v (count t v) c d
+
+-- the list while a path is written: what stands before e, and the path from the value x on
+pub record Walking (t : Task) (K : State) (v d c at : ℕ) (row d₀ dd : List ℕ) (x e i : ℕ) : Type 0 where
+  pub within : e ≤ length d₀
+  pub long : length dd ≡ length d₀
+  pub inside : x < count t v
+  pub leads : Leads t K v d row
+  pub is-lead : i ≡ getD row x 0
+  pub so-far : take at d₀ ++ PathTo t K v d c ≡ take e dd ++ PathTo t K v d x
+  pub counts : at + length (PathTo t K v d c) ≡ e + length (PathTo t K v d x)
 
 module _ (t : Task) (F : Formed t) (K : State) (v d : ℕ) where
   abbrev n : ℕ
@@ -96,20 +112,10 @@ module _ (t : Task) (F : Formed t) (K : State) (v d : ℕ) where
       let z : y ≡ target (act t) v x = (rw l at q) .0 in
       (z, rw z (range t F K v x (target (act t) v x) (M .below) s))
 
-  -- the list while a path is written: what stands before e, and the path from the value x on
-  pub record Walking (c at : ℕ) (row d₀ dd : List ℕ) (x e i : ℕ) : Type 0 where
-    pub within : e ≤ length d₀
-    pub long : length dd ≡ length d₀
-    pub inside : x < n
-    pub leads : Leads t K v d row
-    pub is-lead : i ≡ getD row x 0
-    pub so-far : take at d₀ ++ Path′ c ≡ take e dd ++ Path′ x
-    pub counts : at + length (Path′ c) ≡ e + length (Path′ x)
-
-  pub walking-start : (c at : ℕ) (row d₀ : List ℕ) (i : ℕ) → at ≤ length d₀ → c < n → Leads t K v d row → i ≡ getD row c 0 → Walking c at row d₀ d₀ c at i
+  pub walking-start : (c at : ℕ) (row d₀ : List ℕ) (i : ℕ) → at ≤ length d₀ → c < n → Leads t K v d row → i ≡ getD row c 0 → Walking t K v d c at row d₀ d₀ c at i
   walking-start c at row d₀ i w b L e = record { within = w; long = refl; inside = b; leads = L; is-lead = e; so-far = refl; counts = refl }
 
-  module _ (c at : ℕ) (row d₀ dd : List ℕ) (x e i : ℕ) (W : Walking c at row d₀ dd x e i) where
+  module _ (c at : ℕ) (row d₀ dd : List ℕ) (x e i : ℕ) (W : Walking t K v d c at row d₀ dd x e i) where
     pub walking-move : (i ≡ 65535 → ⊥) → Move x i
     walking-move ne = walk-move x i (W .is-lead ∙ W .leads x (W .inside)) ne
 
@@ -118,7 +124,7 @@ module _ (t : Task) (F : Formed t) (K : State) (v d : ℕ) where
         let z : length (Path′ x) ≡ suc (length (Path′ (target (act t) v i))) = ap length (walking-move ne .rest) in
         omega (arith, W .counts)
 
-    pub walking-turn : (ne : i ≡ 65535 → ⊥) → e < length d₀ → (y j : ℕ) → Asked (look (act t i .eff) v) y → j ≡ getD row y 0 → Walking c at row d₀ (set dd e i) y (e + 1) j
+    pub walking-turn : (ne : i ≡ 65535 → ⊥) → e < length d₀ → (y j : ℕ) → Asked (look (act t i .eff) v) y → j ≡ getD row y 0 → Walking t K v d c at row d₀ (set dd e i) y (e + 1) j
     walking-turn ne h y j q ej =
         let M = walking-move ne in
         let T′ = target-is x i y M q in
@@ -138,7 +144,8 @@ module _ (t : Task) (F : Formed t) (K : State) (v d : ℕ) where
     pub walking-less : (ne : i ≡ 65535 → ⊥) (y : ℕ) → Asked (look (act t i .eff) v) y → length (Path′ y) < length (Path′ x)
     walking-less ne y q =
         let M = walking-move ne in
-        let z : length (Path′ x) ≡ suc (length (Path′ y)) = ap length (M .rest ∙ rw (target-is x i y M q .0) refl) in
+        let p : Path′ x ≡ i ∷ Path′ y = M .rest ∙ rw (target-is x i y M q .0) refl in
+        let z : length (Path′ x) ≡ suc (length (Path′ y)) = ap length p in
         omega arith
 
     pub walking-end : i ≡ 65535 → Put d₀ dd at (Path′ c) (Upto e)
@@ -146,3 +153,27 @@ module _ (t : Task) (F : Formed t) (K : State) (v d : ℕ) where
         let z : Path′ x ≡ [] = walk-stop x (sym (W .leads x (W .inside)) ∙ sym (W .is-lead) ∙ q) in
         let zl : length (Path′ x) ≡ 0 = ap length z in
         (omega (arith, W .counts), W .within, sym (W .so-far ∙ rw (z, append-nil) refl))
+
+-- the same over the table of an accepted record
+module _ (s table : List ℕ) (acc : recordCheck s ≡ none) (tab : Tabled (taskOf s) table) (K : State) (v d c at : ℕ) (row d₀ dd : List ℕ) (x e i j : ℕ)
+    (W : Walking (taskOf s) K v d c at row d₀ dd x e i) (ne : i ≡ 65535 → ⊥) (same : j ≡ i) where
+  F : Formed (taskOf s)
+  F = formed-of s acc
+
+  below : i < actions (taskOf s)
+  below = walking-move (taskOf s) F K v d c at row d₀ dd x e i W ne .below
+
+  pub walk-listed : Listed table j
+  walk-listed = rw same (listed (taskOf s) table F tab i below)
+
+  walk-asked : (y : ℕ) → Asked (look (actionOf table j .eff) v) y → Asked (look (act (taskOf s) i .eff) v) y
+  walk-asked y q = rw (same, listed-act (taskOf s) table F tab i below) at q
+
+  pub walk-inside : (y : ℕ) → Asked (look (actionOf table j .eff) v) y → y < count (taskOf s) v
+  walk-inside y q = target-is (taskOf s) F K v d x i y (walking-move (taskOf s) F K v d c at row d₀ dd x e i W ne) (walk-asked y q) .1
+
+  pub walk-less : (y : ℕ) → Asked (look (actionOf table j .eff) v) y → length (PathTo (taskOf s) K v d y) < length (PathTo (taskOf s) K v d x)
+  walk-less y q = walking-less (taskOf s) F K v d c at row d₀ dd x e i W ne y (walk-asked y q)
+
+  pub walk-turn : e < length d₀ → (y k : ℕ) → Asked (look (actionOf table j .eff) v) y → k ≡ getD row y 0 → Walking (taskOf s) K v d c at row d₀ (set dd e i) y (e + 1) k
+  walk-turn h y k q = walking-turn (taskOf s) F K v d c at row d₀ dd x e i W ne h y k (walk-asked y q)

@@ -184,3 +184,31 @@ fn walk(bytes: &[u8], table: &[u16], ever: &[u64; 64], row: &[u16], v: usize, c:
     }
     Written::Upto(e)
 }
+
+// The row of leads to d stands in the memo: it is searched for if it does not yet.
+fn prepare(bytes: &[u8], table: &[u16], head: &[u16; 4096], chain: &[u16; 1024], masks: &[u64; 64], ever: &[u64; 64], memo: &mut [u16], v: usize, n: usize, d: usize)
+    requires { ⌜ Ground (now bytes) (now table) (now head) (now chain) (now masks) × T (black (taskOf (now bytes)) v) × (v < 64) × Memo (taskOf (now bytes)) (setsOf (now ever)) v (now memo) ⌝ }
+    requires { ⌜ (n ≡ count (taskOf (now bytes)) v) × (n ≤ 64) × (d < n) ⌝ }
+    ensures { λ _. ⌜ Memo (taskOf (now (bytes .entry))) (setsOf (now (ever .entry))) v (now (memo .exit)) × (getD (now (memo .exit)) (4096 + d) 0 ≡ 1) ⌝ }
+{
+    if memo[4096 + d] == 1 {
+        return;
+    }
+    let from = 64 * d;
+    let to = from + 64;
+    towards(bytes, table, head, chain, masks, ever, &mut memo[from..to], v, n, d);
+    memo[4096 + d] = 1;
+}
+
+// The shortest path of v from c to d along usable arcs, of those the one whose action numbers are smallest, compared first to
+// last: written into the list from place `at` on.
+pub fn path(bytes: &[u8], table: &[u16], head: &[u16; 4096], chain: &[u16; 1024], masks: &[u64; 64], ever: &[u64; 64], memo: &mut [u16], v: usize, n: usize, c: usize, d: usize, list: &mut [u16], at: usize) -> Written
+    requires { ⌜ Ground (now bytes) (now table) (now head) (now chain) (now masks) × T (black (taskOf (now bytes)) v) × (v < 64) × Memo (taskOf (now bytes)) (setsOf (now ever)) v (now memo) ⌝ }
+    requires { ⌜ (n ≡ count (taskOf (now bytes)) v) × (n ≤ 64) × (c < n) × (d < n) × (at ≤ length (now list)) ⌝ }
+    ensures { λ r. ⌜ Put (now (list .entry)) (now (list .exit)) at (shortest (act (taskOf (now (bytes .entry)))) (actions (taskOf (now (bytes .entry)))) (setsOf (now (ever .entry))) v (count (taskOf (now (bytes .entry))) v) c d) r × Memo (taskOf (now (bytes .entry))) (setsOf (now (ever .entry))) v (now (memo .exit)) ⌝ }
+{
+    prepare(bytes, table, head, chain, masks, ever, memo, v, n, d);
+    let from = 64 * d;
+    let to = from + 64;
+    walk(bytes, table, ever, &memo[from..to], v, c, d, list, at)
+}
