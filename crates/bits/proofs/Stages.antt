@@ -29,11 +29,6 @@ unfolding answer
 answer-done none a b e = (refl, cc)
 answer-done (some r) a b e = let z : _≡_ {A = ℕ} 0 1 = cc in absurd (omega arith)
 
--- a stage that refuses, before any rest
-pub stage-refuses : {A : Type 0} (xs ys : List Check) (a b : A) (n p : ℕ) → answer (inOrder xs) a ≡ refused n p → answer (inOrder (xs ++ ys)) b ≡ refused n p
-unfolding andThen answer
-stage-refuses xs ys a b n p e = rw (inOrder-append xs ys, answer-refused (inOrder xs) a n p e) refl
-
 -- a stage that passes leaves the rest
 pub stage-passes : (xs ys : List Check) → inOrder xs ≡ none → inOrder (xs ++ ys) ≡ inOrder ys
 unfolding andThen
@@ -50,3 +45,30 @@ handed-on r f g c b e k h = rw (k ∙ ap refusalOf e) (answer-refused c b (f .nu
 pub stops : (r : Read) (f : Refusal) (c : Check) (b : ℕ) (xs : List Check) (d : ℕ) → r ≡ Refused f → readOf r ≡ answer c b → readOf r ≡ answer (inOrder (c ∷ xs)) d
 unfolding inOrder andThen answer
 stops r f c b xs d e h = rw (e, answer-refused c b (f .number) (f .place) (sym h ∙ ap readOf e)) refl
+
+-- checks one by one, and stage by stage: the first passes, and the rest says
+pub skip : {A : Type 0} (c : Check) (xs : List Check) (a : Answer A) (b : A) → c ≡ none → a ≡ answer (inOrder xs) b → a ≡ answer (inOrder (c ∷ xs)) b
+unfolding inOrder andThen
+skip c xs a b e h = rw e h
+
+pub skip-stage : {A : Type 0} (xs ys : List Check) (a : Answer A) (b : A) → inOrder xs ≡ none → a ≡ answer (inOrder ys) b → a ≡ answer (inOrder (xs ++ ys)) b
+skip-stage xs ys a b e h = rw (stage-passes xs ys e) h
+
+-- the first refuses
+pub hit : {A : Type 0} (c : Check) (xs : List Check) (n p : ℕ) (b : A) → c ≡ refuse n p → refused n p ≡ answer (inOrder (c ∷ xs)) b
+unfolding inOrder andThen answer
+hit c xs n p b e = rw e refl
+
+pub stops-stage : (r : Read) (f : Refusal) (xs ys : List Check) (b d : ℕ) → r ≡ Refused f → readOf r ≡ answer (inOrder xs) b → readOf r ≡ answer (inOrder (xs ++ ys)) d
+unfolding andThen answer
+stops-stage r f xs ys b d e h = rw (e, inOrder-append xs ys, answer-refused (inOrder xs) b (f .number) (f .place) (sym h ∙ ap readOf e)) refl
+
+-- no check is left
+pub pass-end : {A : Type 0} (b : A) → done b ≡ answer (inOrder []) b
+unfolding inOrder answer
+pass-end b = refl
+
+-- an answer whose checks pass
+pub answer-passes : {A : Type 0} (x : Answer A) (c : Check) (b : A) → x ≡ answer c b → c ≡ none → x ≡ done b
+unfolding answer
+answer-passes x c b h e = h ∙ rw e refl

@@ -101,7 +101,7 @@ module _ (t : Task) (F : Formed t) where
   pub initial-conn : Conn (act t) (actions t) (black t) (count t) (initial t)
   initial-conn v c d mv h g = ([], subst (λ z. Walk (act t) (Usable (act t) (actions t) (initial t) v) v c [] z) (initial-one v c d h g) stop)
 
-  module _ (Y : cyclic t ≡ none) (R : unreturned t ≡ none) where
+  module _ (Y : cyclic t ≡ none) where
     no-cycle : (v : ℕ) → v < variables t → T (onCycle (variables t) (blackArc t) v) → ⊥
     unfolding cyclic
     no-cycle v b c = first-none (variables t) (onCycle (variables t) (blackArc t)) Y v b c
@@ -122,6 +122,7 @@ module _ (t : Task) (F : Formed t) where
             (blackArc-intro t i u v b bu bv n tv (or-r (touches (act t i .pre) u) (touches (act t i .eff) u) tu))
             (blackArc-intro t i v u b bv bu (λ e. n (sym e)) tu (or-r (touches (act t i .pre) v) (touches (act t i .eff) v) tv)))
 
+  module _ (Y : cyclic t ≡ none) (R : unreturned t ≡ none) where
     returns-at : (i v d : ℕ) → i < actions t → v < variables t → d < count t v → T (lacksReturn t i v d) → ⊥
     unfolding unreturned
     returns-at i v d b vb db l =
@@ -163,12 +164,12 @@ module _ (t : Task) (F : Formed t) where
     pub accepted : Accepted (act t) (actions t) (black t) (count t) (order t)
     unfolding order
     accepted =
-        let o = clientsFirst-ordered (variables t) (blackArc t) (black t) (black-inside t) (blackArc-ends t) no-cycle (act t) (actions t) arcs
+        let o = clientsFirst-ordered (variables t) (blackArc t) (black t) (black-inside t) (blackArc-ends t) (no-cycle Y) (act t) (actions t) arcs
         (variables t) (λ _. false) (Red (black t))
         (record { shut = λ u w z _ _. z; out = λ u q. inl q; in′ = λ u. elim [ inl q ↦ q | inr z ↦ absurd z ] })
         (tally-le (variables t) (untaken (black t) (λ _. false))) in
         record {
-          sound = record { pres = λ i _. pre-func i; effs = λ i _. eff-func i; one = one-black };
+          sound = record { pres = λ i _. pre-func i; effs = λ i _. eff-func i; one = one-black Y };
           range = λ i v e _ h. eff-ranged i v e h;
           pos = F .count-min;
           invertible = inverts;
@@ -180,7 +181,7 @@ module _ (t : Task) (F : Formed t) where
     pub product-order : product (count t) (order t) ≡ blackProduct t
     unfolding order blackProduct
     product-order =
-        clientsFirst-product (variables t) (blackArc t) (black t) (black-inside t) (blackArc-ends t) no-cycle (count t) (variables t) (λ _. false) (tally-le (variables t) (untaken (black t) (λ _. false)))
+        clientsFirst-product (variables t) (blackArc t) (black t) (black-inside t) (blackArc-ends t) (no-cycle Y) (count t) (variables t) (λ _. false) (tally-le (variables t) (untaken (black t) (λ _. false)))
         ∙ times-same (variables t) (λ v. share (untaken (black t) (λ _. false) v) (count t v)) (λ v. share (black t v) (count t v)) (λ v _. rw (and-true (black t v)) refl)
 
     -- the repair of a relaxed plan: a red-black plan of at most n × P steps

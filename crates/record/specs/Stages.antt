@@ -8,8 +8,6 @@ use lib.Dec.{eqb, leb, ltb}
 use lib.ListN.{getD}
 use Rattle.planning.specs.Basics.{Check, refuse, check, bitsAt}
 use Rattle.planning.specs.Record.{variablesIn, actionsIn, countIn, preconditionsIn, effectsIn, effectsFrom, fieldCheck, goalFits, variablesChecks, factsChecks, actionsChecks, endsAt, recordEnd}
-use Rattle.bits.specs.declared.Read.{Read}
-use Rattle.bits.specs.declared.Read.the-variants.{Value, Refused as Refusal′}
 use Rattle.record.specs.declared.Checked.{Checked}
 use Rattle.record.specs.declared.Checked.the-variants.{Accepted, Refused}
 
@@ -17,10 +15,6 @@ use Rattle.record.specs.declared.Checked.the-variants.{Accepted, Refused
 abbrev pub checkedOf : Checked → Check
 checkedOf Accepted = none
 checkedOf (Refused f) = refuse (f .number) (f .place)
-
-abbrev pub refusedOf : Checked → Read
-refusedOf Accepted = Value 0
-refusedOf (Refused f) = Refusal′ f
 
 -- the greatest value of each variable, in the first entries of the list
 abbrev pub Lasts : List ℕ → List ℕ → ℕ → Type 0

@@ -73,7 +73,7 @@ putAll-step m a ms r n = fun-ext (λ v. fun-ext (λ d. putAll-at m (a .eff) ms 0
 
 -- one turn of a loop over the facts of a list of numbers, and its end
 module _ (l : List ℕ) (k t : ℕ) (h : k < t) (b : t ≤ length l) where
-  factsIn-cons : factsIn l k t ≡ factOf (getD l k 0) ∷ factsIn l (k + 1) t
+  pub factsIn-cons : factsIn l k t ≡ factOf (getD l k 0) ∷ factsIn l (k + 1) t
   unfolding factsIn
   factsIn-cons = rw (slice-cons k t l 0 h b, add-one) refl
 
@@ -89,7 +89,7 @@ module _ (l : List ℕ) (k t : ℕ) (h : k < t) (b : t ≤ length l) where
   unfolding putAll
   putAll-turn m ms = rw factsIn-cons refl
 
-factsIn-none : (l : List ℕ) (k t : ℕ) → k ≡ t → factsIn l k t ≡ []
+pub factsIn-none : (l : List ℕ) (k t : ℕ) → k ≡ t → factsIn l k t ≡ []
 unfolding factsIn
 factsIn-none l k t e = rw (e, slice-empty t l) refl
 

@@ -3,3 +3,4 @@ pub mod Effects
 pub mod Loading
 pub mod Count
 pub mod Rows
+pub mod Tabled

@@ -1,1 +1,4 @@
 pub mod Table
+pub mod Size
+pub mod Loaded
+pub mod Goals

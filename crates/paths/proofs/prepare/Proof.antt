@@ -62,7 +62,7 @@ same-length : tie.Need-same-length
 same-length c = search needs
 
 returns-2 : tie.Need-returns-2
-returns-2 c = let p = c .before .before .before .before .before .before .before .before .before .pre in let a = c .before .before .before .before .before .before .before .before .before .args in memo-filled (taskOf (a .bytes .now)) (setsOf (a .ever .now)) (a .v) (a .d) (omega (arith, p .1)) (omega (arith, formed-of (a .bytes .now) (p .0 .0 .accepted) .count-max (a .v))) (a .memo .now) _ (p .0 .3) (let z : length {A = ℕ} (c .before .before .towards .last .1 .1 .1 .1 .1 .1 .0) ≡ length (take ((64 * a .d + 64) - 64 * a .d) (drop (64 * a .d) (a .memo .now))) = c .before .memo .given .0 in z ∙ part-long (a .memo .now) (64 * a .d) ((64 * a .d + 64) - 64 * a .d) (omega arith) (omega (arith, p .0 .3 .long, p .1))) (c .before .before .towards .ensures) ((64 * a .d + 64) - 64 * a .d) (omega arith)
+returns-2 c = let p = c .before .before .before .before .before .before .before .before .before .pre in let a = c .before .before .before .before .before .before .before .before .before .args in memo-filled (taskOf (a .bytes .now)) (setsOf (a .ever .now)) (a .v) (a .d) (omega (arith, p .1)) (omega (arith, formed-of (a .bytes .now) (p .0 .0 .accepted) .count-max (a .v))) (a .memo .now) (c .before .before .towards .last .1 .1 .1 .1 .1 .1 .0) (p .0 .3) (let z : length {A = ℕ} (c .before .before .towards .last .1 .1 .1 .1 .1 .1 .0) ≡ length (take ((64 * a .d + 64) - 64 * a .d) (drop (64 * a .d) (a .memo .now))) = c .before .memo .given .0 in z ∙ part-long (a .memo .now) (64 * a .d) ((64 * a .d + 64) - 64 * a .d) (omega arith) (omega (arith, p .0 .3 .long, p .1))) (c .before .before .towards .ensures) ((64 * a .d + 64) - 64 * a .d) (omega arith)
 
 pub prepare-spec : {M : Type 1} → statement M
 prepare-spec =

@@ -1,3 +1,11 @@
+use Prim.Native.Nat.{_+_}
+use Rattle.bits.proofs.Window.{bitsAt-lt}
+use Rattle.bits.proofs.Stages.{passed, skip, skip-stage, hit, stops, stops-stage}
+use Rattle.record.specs.Stages.{goalChecks, initialChecks, actionFactsChecks}
+use Rattle.planning.specs.Record.{factsChecks, variableChecks, actionChecks, preconditionsIn, effectsIn, effectsFrom, actionEnd}
+use Rattle.planning.specs.Basics.{inOrder, answer, done, bitsAt}
+use native.Mathlib.Omega.{arith}
+use mathlib.Core.Path.{_≡_, refl, sym, ap, _∙_}
 use borrow.Author.Needs.{needs}
 use Rattle.record.proofs.check_action.Statement.{statement}
 use Rattle.record.proofs.check_action.Tie as tie
@@ -16,7 +24,8 @@ enum-told-2 : tie.Need-enum-told-2
 enum-told-2 c = search needs
 
 returns : tie.Need-returns
-returns c = ?
+unfolding actionChecks
+returns c = stops _ _ _ _ _ _ (c .enum-told2 .given .1) (c .before .before .take .ensures)
 
 add-take : tie.Need-add-take
 add-take c = search needs
@@ -31,7 +40,8 @@ enum-told-3 : tie.Need-enum-told-3
 enum-told-3 c = search needs
 
 returns-2 : tie.Need-returns-2
-returns-2 c = ?
+unfolding actionChecks
+returns-2 c = skip _ _ _ _ ((passed _ _ _ _ (c .before .before .before .enum-told .given .1) (c .before .before .before .before .before .take .ensures)) .0) (stops _ _ _ _ _ _ (c .enum-told3 .given .1) (c .before .before .take2 .ensures))
 
 add-take-2 : tie.Need-add-take-2
 add-take-2 c = search needs
@@ -46,13 +56,16 @@ enum-told-4 : tie.Need-enum-told-4
 enum-told-4 c = search needs
 
 returns-3 : tie.Need-returns-3
-returns-3 c = ?
+unfolding actionChecks
+returns-3 c = skip _ _ _ _ ((passed _ _ _ _ (c .before .before .before .before .before .before .before .enum-told .given .1) (c .before .before .before .before .before .before .before .before .before .take .ensures)) .0) (skip _ _ _ _ ((passed _ _ _ _ (c .before .before .before .before .p .given .1) (c .before .before .before .before .before .before .take2 .ensures)) .0) (stops _ _ _ _ _ _ (c .enum-told4 .given .1) (c .before .before .take3 .ensures)))
 
 check-action-facts-requires : tie.Need-check-action-facts-requires
-check-action-facts-requires c κs = ?
+unfolding preconditionsIn effectsIn
+check-action-facts-requires c κs = (search needs, sym ((passed _ _ _ _ (c .before .before .before .before .before .p .given .1) (c .before .before .before .before .before .before .before .take2 .ensures)) .1), sym ((passed _ _ _ _ (c .before .e .given .1) (c .before .before .before .take3 .ensures)) .1), omega (arith, (passed _ _ _ _ (c .before .before .before .before .before .p .given .1) (c .before .before .before .before .before .before .before .take2 .ensures)) .1, bitsAt-lt (c .before .before .before .before .before .before .before .before .before .before .before .before .args .bytes .now) (c .before .before .before .before .before .before .before .before .before .before .before .before .args .at + 16) 4), omega (arith, (passed _ _ _ _ (c .before .e .given .1) (c .before .before .before .take3 .ensures)) .1, bitsAt-lt (c .before .before .before .before .before .before .before .before .before .before .before .before .args .bytes .now) (c .before .before .before .before .before .before .before .before .before .before .before .before .args .at + 20) 4), search needs, search needs, search needs)
 
 returns-4 : tie.Need-returns-4
-returns-4 c = ?
+unfolding actionChecks actionFactsChecks
+returns-4 c = skip _ _ _ _ ((passed _ _ _ _ (c .before .before .before .before .before .before .before .before .before .enum-told .given .1) (c .before .before .before .before .before .before .before .before .before .before .before .take .ensures)) .0) (skip _ _ _ _ ((passed _ _ _ _ (c .before .before .before .before .before .before .p .given .1) (c .before .before .before .before .before .before .before .before .take2 .ensures)) .0) (skip _ _ _ _ ((passed _ _ _ _ (c .before .before .e .given .1) (c .before .before .before .before .take3 .ensures)) .0) (c .check-action-facts .ensures)))
 
 pub check-action-spec : {M : Type 1} → statement M
 check-action-spec =

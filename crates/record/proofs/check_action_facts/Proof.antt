@@ -1,76 +1,47 @@
+use Rattle.record.proofs.Laws.{pre-refused, eff-answer}
+use Rattle.bits.proofs.Window.{bitsAt-lt}
+use Rattle.bits.proofs.Stages.{passed, skip, skip-stage, hit, stops, stops-stage}
+use Rattle.record.specs.Stages.{goalChecks, initialChecks, actionFactsChecks}
+use Rattle.planning.specs.Record.{factsChecks, variableChecks, actionChecks, preconditionsIn, effectsIn, effectsFrom, actionEnd}
+use Rattle.planning.specs.Basics.{inOrder, answer, done, bitsAt}
+use native.Mathlib.Omega.{arith}
+use mathlib.Core.Path.{_≡_, refl, sym, ap, _∙_}
 use borrow.Author.Needs.{needs}
 use Rattle.record.proofs.check_action_facts.Statement.{statement}
 use Rattle.record.proofs.check_action_facts.Tie as tie
 use Rattle.record.proofs.check_action_facts.Reads as reads
 use Rattle.record.proofs.check_action_facts.Lts as lts
 use Rattle.record.proofs.check_facts.Reads as check-facts-reads
-use Rattle.record.proofs.refused.Reads as refused-reads
 
-add-from : tie.Need-add-from
-add-from c = search needs
+add-check-facts : tie.Need-add-check-facts
+add-check-facts c = search needs
 
 check-facts-requires : tie.Need-check-facts-requires
 check-facts-requires c κs = search needs
 
+enum-known-p : tie.Need-enum-known-p
+enum-known-p c = search needs
+
 enum-told : tie.Need-enum-told
 enum-told c = search needs
 
-enum-told-2 : tie.Need-enum-told-2
-enum-told-2 c = search needs
-
-refused-requires : tie.Need-refused-requires
-refused-requires c κs = search needs
-
 returns : tie.Need-returns
-returns c = ?
-
-mul-mid : tie.Need-mul-mid
-mul-mid c = search needs
-
-add-mid : tie.Need-add-mid
-add-mid c = search needs
+returns c = pre-refused _ _ _ (search needs) _ _ _ _ (c .enum-told .given .1) (c .before .before .check-facts .ensures)
 
 check-facts-requires-2 : tie.Need-check-facts-requires-2
-check-facts-requires-2 c κs = search needs
-
-enum-told-3 : tie.Need-enum-told-3
-enum-told-3 c = search needs
-
-enum-told-4 : tie.Need-enum-told-4
-enum-told-4 c = search needs
-
-refused-requires-2 : tie.Need-refused-requires-2
-refused-requires-2 c κs = search needs
+check-facts-requires-2 c κs = (omega (arith, (passed _ _ _ _ (c .before .p .given .1) (c .before .before .before .check-facts .ensures)) .1), search needs, search needs, search needs, search needs)
 
 returns-2 : tie.Need-returns-2
-returns-2 c = ?
-
-mul-t11 : tie.Need-mul-t11
-mul-t11 c = search needs
-
-add-t12 : tie.Need-add-t12
-add-t12 c = search needs
-
-returns-3 : tie.Need-returns-3
-returns-3 c = ?
+returns-2 c = eff-answer _ _ _ (search needs) _ _ _ (search needs) (passed _ _ _ _ (c .before .before .p .given .1) (c .before .before .before .before .check-facts .ensures)) (c .check-facts2 .ensures)
 
 pub check-action-facts-spec : {M : Type 1} → statement M
 check-action-facts-spec =
     tie.close
     (tie.spec
-    add-from
+    add-check-facts
     check-facts-requires
+    enum-known-p
     enum-told
-    enum-told-2
-    refused-requires
     returns
-    mul-mid
-    add-mid
     check-facts-requires-2
-    enum-told-3
-    enum-told-4
-    refused-requires-2
-    returns-2
-    mul-t11
-    add-t12
-    returns-3)
+    returns-2)

@@ -1,3 +1,9 @@
+use Rattle.record.proofs.Laws.{Behind, actions-start, action-stops, actions-turn, actions-done}
+use Rattle.bits.proofs.Window.{bitsAt-lt}
+use Rattle.bits.proofs.Stages.{passed, skip, skip-stage, hit, stops, stops-stage}
+use Rattle.record.specs.Stages.{goalChecks, initialChecks, actionFactsChecks}
+use Rattle.planning.specs.Record.{factsChecks, variableChecks, actionChecks, preconditionsIn, effectsIn, effectsFrom, actionEnd}
+use Rattle.planning.specs.Basics.{inOrder, answer, done, bitsAt}
 use borrow.Author.Needs.{needs}
 use mathlib.Core.Path.{_≡_, refl, sym, ap, _∙_}
 use Prim.Native.Nat.{ℕ, _+_, _*_, _/_, _^_, _-_, _≤_, _<_}
@@ -10,10 +16,10 @@ use Rattle.record.proofs.check_actions.Lts as lts
 use Rattle.record.proofs.check_action.Reads as check-action-reads
 
 abbrev Inv-loop : tie.InvT-loop
-Inv-loop bytes count variables lasts at₀ i₀ at i = ?
+Inv-loop bytes count variables lasts at₀ i₀ at i = Behind bytes (22 + 20 * variables) count at i
 
 abbrev μ-loop : tie.MeasureT-loop
-μ-loop bytes count variables lasts at₀ i₀ at i = ?
+μ-loop bytes count variables lasts at₀ i₀ at i = count - i
 
 mul-at : tie.Need-mul-at Inv-loop μ-loop
 mul-at c = search needs
@@ -22,10 +28,10 @@ add-at : tie.Need-add-at Inv-loop μ-loop
 add-at c = search needs
 
 loop-holds : tie.Need-loop-holds Inv-loop μ-loop
-loop-holds c = ?
+loop-holds c = actions-start _ _ _ (omega arith)
 
 check-action-requires : tie.Need-check-action-requires Inv-loop μ-loop
-check-action-requires c κs = search needs
+check-action-requires c κs = (omega (arith, c .before .loop .inv .below), search needs, search needs, search needs)
 
 enum-known-a : tie.Need-enum-known-a Inv-loop μ-loop
 enum-known-a c = search needs
@@ -34,7 +40,7 @@ enum-told : tie.Need-enum-told Inv-loop μ-loop
 enum-told c = search needs
 
 returns : tie.Need-returns Inv-loop μ-loop
-returns c = ?
+returns c = action-stops _ _ _ _ _ (c .before .before .before .before .loop .inv) _ _ _ (omega arith) (c .enum-told .given .1) (c .before .before .check-action .ensures)
 
 add-i : tie.Need-add-i Inv-loop μ-loop
 add-i c = search needs
@@ -43,10 +49,10 @@ loop-less : tie.Need-loop-less Inv-loop μ-loop
 loop-less c = search needs
 
 loop-again : tie.Need-loop-again Inv-loop μ-loop
-loop-again c = ?
+loop-again c = actions-turn _ _ _ _ _ (c .before .before .before .before .before .loop .inv) _ (omega arith) (passed _ _ _ _ (c .before .a .given .1) (c .before .before .before .check-action .ensures))
 
 returns-2 : tie.Need-returns-2 Inv-loop μ-loop
-returns-2 c = ?
+returns-2 c = actions-done _ _ _ _ _ (c .before .loop .inv) (omega arith)
 
 pub check-actions-spec : {M : Type 1} → statement M
 check-actions-spec =

@@ -1,10 +1,9 @@
-use Rattle.record.proofs.Laws.{facts-start, facts-turn, facts-stop, facts-none}
+use Rattle.record.proofs.Laws.{facts-start, facts-step, facts-turn, facts-none}
 use Rattle.bits.proofs.Window.{bitsAt-lt}
-use Rattle.bits.proofs.Stages.{passed, handed-on}
-use Rattle.bits.specs.Answers.{readOf, refusalOf}
-use Rattle.planning.specs.Record.{factChecks, factsChecks}
-use Rattle.planning.specs.Basics.{refuse, inOrder, answer, done, refused, bitsAt}
-use mathlib.Core.Option.{none}
+use Rattle.bits.proofs.Stages.{passed, skip, skip-stage, hit, stops, stops-stage}
+use Rattle.record.specs.Stages.{goalChecks, initialChecks, actionFactsChecks}
+use Rattle.planning.specs.Record.{factsChecks, variableChecks, actionChecks, preconditionsIn, effectsIn, effectsFrom, actionEnd}
+use Rattle.planning.specs.Basics.{inOrder, answer, done, bitsAt}
 use borrow.Author.Needs.{needs}
 use mathlib.Core.Path.{_≡_, refl, sym, ap, _∙_}
 use Prim.Native.Nat.{ℕ, _+_, _*_, _/_, _^_, _-_, _≤_, _<_}
@@ -14,7 +13,6 @@ use Rattle.record.proofs.check_facts.Statement.{statement}
 use Rattle.record.proofs.check_facts.Tie as tie
 use Rattle.record.proofs.check_facts.Reads as reads
 use Rattle.record.proofs.check_facts.Lts as lts
-use Rattle.bits.proofs.refusal_of.Reads as refusal-of-reads
 use Rattle.record.proofs.check_fact.Reads as check-fact-reads
 
 abbrev Inv-loop : tie.InvT-loop
@@ -41,14 +39,11 @@ enum-known-f c = search needs
 enum-told : tie.Need-enum-told Inv-loop μ-loop
 enum-told c = search needs
 
-refusal-of-requires : tie.Need-refusal-of-requires Inv-loop μ-loop
-refusal-of-requires c κs = search needs
-
 returns : tie.Need-returns Inv-loop μ-loop
-returns c = sym (c .before .before .before .before .before .loop .inv .1 ∙ facts-stop _ _ _ _ _ (omega arith) _ _ (handed-on _ _ _ _ _ (c .before .enum-told .given .1) (c .refusal-of .ensures) (c .before .before .before .check-fact .ensures)))
+returns c = rw (c .before .before .before .before .loop .inv .1 ∙ facts-step _ _ _ _ _ (omega arith)) (stops-stage _ _ _ _ _ _ (c .enum-told .given .1) (c .before .before .check-fact .ensures))
 
 add-low : tie.Need-add-low Inv-loop μ-loop
-add-low c = record { fits = omega (arith, passed _ _ _ _ (c .before .f .given .1) (c .before .before .before .check-fact .ensures) .1, bitsAt-lt (c .before .before .before .before .before .before .before .args .bytes .now) (c .before .before .before .before .before .before .before .args .from + 12 * c .before .before .before .before .before .loop .i) 6) }
+add-low c = record { fits = omega (arith, (passed _ _ _ _ (c .before .f .given .1) (c .before .before .before .check-fact .ensures)) .1, bitsAt-lt (c .before .before .before .before .before .before .before .args .bytes .now) (c .before .before .before .before .before .before .before .args .from + 12 * c .before .before .before .before .before .loop .i) 6) }
 
 add-i : tie.Need-add-i Inv-loop μ-loop
 add-i c = search needs
@@ -59,8 +54,15 @@ loop-less c = search needs
 loop-again : tie.Need-loop-again Inv-loop μ-loop
 loop-again c = (omega arith, c .before .before .before .before .before .loop .inv .1 ∙ facts-turn _ _ _ _ _ (omega arith) _ (passed _ _ _ _ (c .before .f .given .1) (c .before .before .before .check-fact .ensures)))
 
+mul-t13 : tie.Need-mul-t13 Inv-loop μ-loop
+mul-t13 c = search needs
+
+add-t14 : tie.Need-add-t14 Inv-loop μ-loop
+add-t14 c = search needs
+
 returns-2 : tie.Need-returns-2 Inv-loop μ-loop
-returns-2 c = sym (c .before .loop .inv .1 ∙ facts-none _ _ _ _ _ (omega arith))
+unfolding answer
+returns-2 c = rw (c .before .loop .inv .1 ∙ facts-none _ _ _ _ _ (omega arith)) refl
 
 pub check-facts-spec : {M : Type 1} → statement M
 check-facts-spec =
@@ -74,10 +76,11 @@ check-facts-spec =
     check-fact-requires
     enum-known-f
     enum-told
-    refusal-of-requires
     returns
     add-low
     add-i
     loop-less
     loop-again
+    mul-t13
+    add-t14
     returns-2)

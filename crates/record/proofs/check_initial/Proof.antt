@@ -1,9 +1,16 @@
+use Rattle.record.proofs.Laws.{value-above, value-right}
+use Rattle.bits.proofs.Window.{bitsAt-lt}
+use Rattle.bits.proofs.Stages.{passed, skip, skip-stage, hit, stops, stops-stage}
+use Rattle.record.specs.Stages.{goalChecks, initialChecks, actionFactsChecks}
+use Rattle.planning.specs.Record.{factsChecks, variableChecks, actionChecks, preconditionsIn, effectsIn, effectsFrom, actionEnd}
+use Rattle.planning.specs.Basics.{inOrder, answer, done, bitsAt}
+use native.Mathlib.Omega.{arith}
+use mathlib.Core.Path.{_≡_, refl, sym, ap, _∙_}
 use borrow.Author.Needs.{needs}
 use Rattle.record.proofs.check_initial.Statement.{statement}
 use Rattle.record.proofs.check_initial.Tie as tie
 use Rattle.record.proofs.check_initial.Reads as reads
 use Rattle.record.proofs.check_initial.Lts as lts
-use Rattle.bits.proofs.refusal_of.Reads as refusal-of-reads
 use Rattle.record.proofs.check_goal.Reads as check-goal-reads
 use Rattle.record.proofs.take.Reads as take-reads
 
@@ -19,23 +26,23 @@ enum-known-i c = search needs
 enum-told : tie.Need-enum-told
 enum-told c = search needs
 
-refusal-of-requires : tie.Need-refusal-of-requires
-refusal-of-requires c κs = search needs
-
 returns : tie.Need-returns
-returns c = ?
+unfolding initialChecks
+returns c = stops _ _ _ _ _ _ (c .enum-told .given .1) (c .before .before .take .ensures)
 
-add-t9 : tie.Need-add-t9
-add-t9 c = search needs
+add-t8 : tie.Need-add-t8
+add-t8 c = search needs
 
 returns-2 : tie.Need-returns-2
-returns-2 c = ?
+unfolding initialChecks
+returns-2 c = skip _ _ _ _ ((passed _ _ _ _ (c .before .before .i .given .1) (c .before .before .before .before .take .ensures)) .0) (hit _ _ _ _ _ (value-above _ _ _ _ _ ((passed _ _ _ _ (c .before .before .i .given .1) (c .before .before .before .before .take .ensures)) .1) (c .if1 .taken)))
 
 check-goal-requires : tie.Need-check-goal-requires
 check-goal-requires c κs = search needs
 
 returns-3 : tie.Need-returns-3
-returns-3 c = ?
+unfolding initialChecks
+returns-3 c = skip _ _ _ _ ((passed _ _ _ _ (c .before .before .before .i .given .1) (c .before .before .before .before .before .take .ensures)) .0) (skip _ _ _ _ (value-right _ _ _ _ _ ((passed _ _ _ _ (c .before .before .before .i .given .1) (c .before .before .before .before .before .take .ensures)) .1) (c .before .if1 .left)) (c .check-goal .ensures))
 
 pub check-initial-spec : {M : Type 1} → statement M
 check-initial-spec =
@@ -45,9 +52,8 @@ check-initial-spec =
     take-requires
     enum-known-i
     enum-told
-    refusal-of-requires
     returns
-    add-t9
+    add-t8
     returns-2
     check-goal-requires
     returns-3)

@@ -1,10 +1,17 @@
+use Rattle.record.proofs.Laws.{variable-rest}
+use Rattle.bits.proofs.Window.{bitsAt-lt}
+use Rattle.bits.proofs.Stages.{passed, skip, skip-stage, hit, stops, stops-stage}
+use Rattle.record.specs.Stages.{goalChecks, initialChecks, actionFactsChecks}
+use Rattle.planning.specs.Record.{factsChecks, variableChecks, actionChecks, preconditionsIn, effectsIn, effectsFrom, actionEnd}
+use Rattle.planning.specs.Basics.{inOrder, answer, done, bitsAt}
+use native.Mathlib.Omega.{arith}
+use mathlib.Core.Path.{_≡_, refl, sym, ap, _∙_}
 use borrow.Author.Needs.{needs}
 use Rattle.record.proofs.check_variable.Statement.{statement}
 use Rattle.record.proofs.check_variable.Tie as tie
 use Rattle.record.proofs.check_variable.Reads as reads
 use Rattle.record.proofs.check_variable.Lts as lts
 use Rattle.record.proofs.check_initial.Reads as check-initial-reads
-use Rattle.record.proofs.refused.Reads as refused-reads
 use Rattle.record.proofs.take.Reads as take-reads
 
 take-requires : tie.Need-take-requires
@@ -17,7 +24,8 @@ enum-told : tie.Need-enum-told
 enum-told c = search needs
 
 returns : tie.Need-returns
-returns c = ?
+unfolding variableChecks
+returns c = stops _ _ _ _ _ _ (c .enum-told .given .1) (c .before .before .take .ensures)
 
 add-take : tie.Need-add-take
 add-take c = search needs
@@ -32,25 +40,14 @@ enum-told-3 : tie.Need-enum-told-3
 enum-told-3 c = search needs
 
 returns-2 : tie.Need-returns-2
-returns-2 c = ?
+unfolding variableChecks
+returns-2 c = skip _ _ _ _ ((passed _ _ _ _ (c .before .before .before .before .l .given .1) (c .before .before .before .before .before .before .take .ensures)) .0) (stops _ _ _ _ _ _ (c .enum-told3 .given .1) (c .before .before .take2 .ensures))
 
 check-initial-requires : tie.Need-check-initial-requires
-check-initial-requires c κs = ?
-
-enum-told-4 : tie.Need-enum-told-4
-enum-told-4 c = search needs
-
-enum-told-5 : tie.Need-enum-told-5
-enum-told-5 c = search needs
-
-refused-requires : tie.Need-refused-requires
-refused-requires c κs = search needs
+check-initial-requires c κs = (search needs, omega (arith, (passed _ _ _ _ (c .before .before .before .before .l .given .1) (c .before .before .before .before .before .before .take .ensures)) .1, bitsAt-lt (c .before .before .before .before .before .before .before .before .args .bytes .now) (c .before .before .before .before .before .before .before .before .args .at) 6))
 
 returns-3 : tie.Need-returns-3
-returns-3 c = ?
-
-returns-4 : tie.Need-returns-4
-returns-4 c = ?
+returns-3 c = variable-rest _ _ _ _ ((passed _ _ _ _ (c .before .before .before .before .before .l .given .1) (c .before .before .before .before .before .before .before .take .ensures)) .1) ((passed _ _ _ _ (c .before .before .before .before .before .l .given .1) (c .before .before .before .before .before .before .before .take .ensures)) .0) ((passed _ _ _ _ (c .before .enum-told2 .given .1) (c .before .before .before .take2 .ensures)) .0) (c .check-initial .ensures)
 
 pub check-variable-spec : {M : Type 1} → statement M
 check-variable-spec =
@@ -66,8 +63,4 @@ check-variable-spec =
     enum-told-3
     returns-2
     check-initial-requires
-    enum-told-4
-    enum-told-5
-    refused-requires
-    returns-3
-    returns-4)
+    returns-3)

@@ -1,0 +1,164 @@
+-- The clients-first order as the loop builds it: `left` is the set of untaken black variables, and what is written with what
+-- the definition still takes is the order.
+use mathlib.Core.Path.{_≡_, refl, sym, ap, _∙_, fun-ext, subst}
+use mathlib.Core.Logic.{_⊎_, inl, inr}
+use mathlib.Core.Bool.{Bool, true, false, not, _&&_, _||_, and-true, and-comm}
+use mathlib.Core.List.{List, [], _∷_, _++_, append-assoc, append-nil}
+use mathlib.Core.Option.{Option, none, some}
+use Prim.Native.Nat.{ℕ, zero, suc, _+_, _-_, _*_, _/_, _%_, _^_, _<_, _≤_}
+use native.Mathlib.Numerals.{add-one}
+use native.Mathlib.Omega.{arith}
+use native.Mathlib.Decide.{ℕ-discrete}
+use borrow.Author.Tests.{eq-eqb, ne-eqb}
+use lib.Bits.{bitAnd, bitXor, and-lt}
+use lib.Dec.{T, T-not, not-T, eqb, eqb→eq, eqb-refl}
+use lib.ListN.{length, getD, set, take, replicate, length-set}
+use lib.Seq.{take-suc-set}
+use Rattle.planning.specs.Basics.{someBelow, first}
+use Rattle.planning.specs.Record.{Task}
+use Rattle.planning.specs.Runs.{variables, black}
+use Rattle.planning.specs.Painting.{blackArc}
+use Rattle.planning.specs.Repair.{ready, clientsFirst, order}
+use Rattle.planning.proofs.Tests.{T→true, true→T, F→false, or-l, or-r, or-cases, and-l, and-r, and-i}
+use Rattle.planning.proofs.Below.{First?, first-is, some-intro, some-elim}
+use Rattle.planning.proofs.Painting.{black-inside}
+use Rattle.state.specs.Sets.{inSet, setsOf, modeOf}
+use Rattle.state.proofs.Members.{one-shl, inSet-empty, inSet-single}
+use Rattle.graph.proofs.Bits.{inSet-and, inSet-xor, xor, empty-is}
+use Rattle.graph.proofs.Searches.{both, false-not, first-same, first-found, some-found, some-lacks}
+
+-- one variable's test
+module _ (row left v : ℕ) (small : row < 2 ^ 64) (small′ : left < 2 ^ 64) where
+  meets : Bool
+  meets = someBelow 64 (λ u. inSet left u && inSet row u)
+
+  meets-not : (b : Bool) → eqb (bitAnd row left) 0 ≡ b → not meets ≡ b
+  unfolding meets
+  meets-not true e =
+      let z : bitAnd row left ≡ 0 = eqb→eq (bitAnd row left) 0 (true→T (eqb (bitAnd row left) 0) e) in
+      ap not (some-lacks 64 (λ u. inSet left u && inSet row u) (λ u b. and-comm (inSet left u) (inSet row u) ∙ sym (inSet-and row left u) ∙ rw z (inSet-empty u)))
+  meets-not false e = ap not (T→true meets (hit meets refl))
+    where
+      none-shared : meets ≡ false → (u : ℕ) → u < 64 → inSet (bitAnd row left) u ≡ false
+      none-shared f u b = inSet-and row left u ∙ F→false (inSet row u && inSet left u) (λ t. false-not meets f
+          (some-intro 64 (λ u. inSet left u && inSet row u) u b (and-i (inSet left u) (inSet row u) (and-r (inSet row u) (inSet left u) t) (and-l (inSet row u) (inSet left u) t))))
+
+      hit : (b : Bool) → meets ≡ b → T b
+      hit true f = tt
+      hit false f = false-not (eqb (bitAnd row left) 0) e (true→T (eqb (bitAnd row left) 0) (eq-eqb (bitAnd row left) 0 (empty-is 64 (bitAnd row left) (and-lt 64 row left small small′) (none-shared f))))
+
+  pub ready-of : inSet left v ≡ true → eqb (bitAnd row left) 0 ≡ (inSet left v && not (someBelow 64 (λ u. inSet left u && inSet row u)))
+  unfolding meets
+  ready-of e = rw e (sym (meets-not (eqb (bitAnd row left) 0) refl))
+
+pub unready-of : (row left v : ℕ) → inSet left v ≡ false → false ≡ (inSet left v && not (someBelow 64 (λ u. inSet left u && inSet row u)))
+unready-of row left v e = rw e refl
+
+end-black : (t : Task) (v u : ℕ) → T (blackArc t v u) → T (black t u)
+unfolding blackArc
+end-black t v u a = search (and-l, and-r)
+
+-- the first k are taken, and `left` has the others
+pub record Taking (t : Task) (n : ℕ) (vars : List ℕ) (count left k : ℕ) : Type 0 where
+  pub within : k ≤ n
+  pub counted : count ≡ k
+  pub few : n ≤ 64
+  pub long : length vars ≡ 64
+  pub taken : ℕ → Bool
+  pub still : (u : ℕ) → inSet left u ≡ (black t u && not (taken u))
+  pub so-far : take k vars ++ clientsFirst n (blackArc t) (black t) (n - k) taken ≡ order t
+
+module _ (t : Task) (rows : List ℕ) (n : ℕ) (arcs : setsOf rows ≡ blackArc t) (all : n ≡ variables t) where
+  -- the test that the code makes of a variable of `left`
+  ready-same : (left : ℕ) (taken : ℕ → Bool) → ((u : ℕ) → inSet left u ≡ (black t u && not (taken u))) → n ≤ 64 → (v : ℕ)
+      → (inSet left v && not (someBelow 64 (λ u. inSet left u && setsOf rows v u))) ≡ ready n (blackArc t) (black t) taken v
+  unfolding ready
+  ready-same left taken s b v = rw (arcs, s v) (ap (λ (x : Bool). (black t v && not (taken v)) && not x) (both (someBelow 64 (λ u. inSet left u && blackArc t v u)) (someBelow n (λ u. not (taken u) && blackArc t v u)) there back))
+    where
+      there : T (someBelow 64 (λ u. inSet left u && blackArc t v u)) → T (someBelow n (λ u. not (taken u) && blackArc t v u))
+      there h =
+          let r = some-elim 64 (λ u. inSet left u && blackArc t v u) h in
+          let u : ℕ = r .0 in
+          let a = and-r (inSet left u) (blackArc t v u) (r .2) in
+          let l : T (black t u && not (taken u)) = subst T (s u) (and-l (inSet left u) (blackArc t v u) (r .2)) in
+          some-intro n (λ u. not (taken u) && blackArc t v u) u (omega (arith, black-inside t u (end-black t v u a))) (and-i (not (taken u)) (blackArc t v u) (and-r (black t u) (not (taken u)) l) a)
+
+      back : T (someBelow n (λ u. not (taken u) && blackArc t v u)) → T (someBelow 64 (λ u. inSet left u && blackArc t v u))
+      back h =
+          let r = some-elim n (λ u. not (taken u) && blackArc t v u) h in
+          let u : ℕ = r .0 in
+          let a = and-r (not (taken u)) (blackArc t v u) (r .2) in
+          let q = and-l (not (taken u)) (blackArc t v u) (r .2) in
+          some-intro 64 (λ u. inSet left u && blackArc t v u) u (omega (arith, r .1)) (and-i (inSet left u) (blackArc t v u) (subst T (sym (s u)) (and-i (black t u) (not (taken u)) (end-black t v u a) q)) a)
+
+  takes-none : (j : ℕ) (taken : ℕ → Bool) → first n (ready n (blackArc t) (black t) taken) ≡ none → clientsFirst n (blackArc t) (black t) j taken ≡ []
+  unfolding clientsFirst
+  takes-none zero taken e = refl
+  takes-none (suc j) taken e = rw (clientsFirst, e) refl
+
+  takes-one : (j : ℕ) (taken : ℕ → Bool) (v : ℕ) → first n (ready n (blackArc t) (black t) taken) ≡ some v → clientsFirst n (blackArc t) (black t) (suc j) taken ≡ v ∷ clientsFirst n (blackArc t) (black t) j (λ u. eqb u v || taken u)
+  unfolding clientsFirst
+  takes-one j taken v e = rw (clientsFirst, e) refl
+
+  pub taking-start : (paint : ℕ) → modeOf paint ≡ black t → n ≤ 64 → Taking t n (replicate 64 0) 0 paint 0
+  unfolding modeOf order
+  taking-start paint e b = record {
+    within = omega arith;
+    counted = refl;
+    few = b;
+    long = refl;
+    taken = λ _. false;
+    still = λ u. ap (λ (g : ℕ → Bool). g u) e ∙ sym (and-true (black t u));
+    so-far = let z : n - 0 ≡ n = omega arith in rw (z, all) refl;
+  }
+
+  module _ (vars : List ℕ) (count left k : ℕ) (P : Taking t n vars count left k) where
+    same-first : (o : Option ℕ) → o ≡ first n (λ v. inSet left v && not (someBelow 64 (λ u. inSet left u && setsOf rows v u))) → first n (ready n (blackArc t) (black t) (P .taken)) ≡ o
+    same-first o e = sym (e ∙ first-same n (λ v. inSet left v && not (someBelow 64 (λ u. inSet left u && setsOf rows v u))) (ready n (blackArc t) (black t) (P .taken)) (λ v _. ready-same left (P .taken) (P .still) (P .few) v))
+
+    pub taking-found : (v : ℕ) → some v ≡ first n (λ v. inSet left v && not (someBelow 64 (λ u. inSet left u && setsOf rows v u))) → (v < n) × T (inSet left v)
+    unfolding ready
+    taking-found v e = go (first n (ready n (blackArc t) (black t) (P .taken))) (first-is n (ready n (blackArc t) (black t) (P .taken))) (same-first (some v) e)
+      where
+        go : (o : Option ℕ) → First? n (ready n (blackArc t) (black t) (P .taken)) o → o ≡ some v → (v < n) × T (inSet left v)
+        go none f q = let z : _≡_ {A = ℕ} 0 1 = cc in absurd (omega arith)
+        go (some w) f q =
+            let i : w ≡ v = cc in
+            let r : T ((black t w && not (P .taken w)) && not (someBelow n (λ u. not (P .taken u) && blackArc t w u))) = f .passes in
+            (omega (arith, f .below), subst (λ (x : ℕ). T (inSet left x)) i (subst T (sym (P .still w)) (and-l (black t w && not (P .taken w)) (not (someBelow n (λ u. not (P .taken u) && blackArc t w u))) r)))
+
+    pub taking-turn : k < n → (v : ℕ) → some v ≡ first n (λ v. inSet left v && not (someBelow 64 (λ u. inSet left u && setsOf rows v u))) → Taking t n (set vars k v) (k + 1) (bitXor left (1 * 2 ^ v % 2 ^ 64)) (k + 1)
+    taking-turn h v e = record {
+      within = omega arith;
+      counted = refl;
+      few = P .few;
+      long = length-set vars k v ∙ P .long;
+      taken = λ u. eqb u v || P .taken u;
+      still = λ u. rw (one-shl v (omega (arith, taking-found v e .0, P .few)), inSet-xor left (2 ^ v) u, inSet-single v u) (go u (ℕ-discrete u v));
+      so-far =
+        let j : n - k ≡ suc (n - (k + 1)) = omega arith in
+        rw (add-one k, take-suc-set vars k v (omega (arith, P .long, P .few)), append-assoc)
+        (sym (ap (λ (l : List ℕ). take k vars ++ l) (takes-one (n - suc k) (P .taken) v (same-first (some v) e)))
+        ∙ (rw (j, add-one k) at (P .so-far)));
+    }
+      where
+        go : (u : ℕ) → Dec (u ≡ v) → xor (inSet left u) (eqb u v) ≡ (black t u && not (eqb u v || P .taken u))
+        go u (yes q) = rw (q, eq-eqb v v refl, T→true (inSet left v) (taking-found v e .1)) (sym (and-false′ (black t v)))
+          where
+            and-false′ : (b : Bool) → (b && false) ≡ false
+            and-false′ true = refl
+            and-false′ false = refl
+        go u (no q) = rw (ne-eqb u v q, P .still u) (xor-false (black t u && not (P .taken u)))
+          where
+            xor-false : (b : Bool) → xor b false ≡ b
+            xor-false true = refl
+            xor-false false = refl
+
+    pub taking-stop : none ≡ first n (λ v. inSet left v && not (someBelow 64 (λ u. inSet left u && setsOf rows v u))) → take count vars ≡ order t
+    taking-stop e = rw (P .counted) (sym (append-nil (take k vars)) ∙ sym (ap (λ (l : List ℕ). take k vars ++ l) (takes-none (n - k) (P .taken) (same-first none e))) ∙ P .so-far)
+
+    pub taking-end : n ≤ k → take count vars ≡ order t
+    unfolding clientsFirst
+    taking-end h =
+        let z : n - k ≡ 0 = omega arith in
+        rw (P .counted) (sym (append-nil (take k vars)) ∙ (rw z at (P .so-far)))

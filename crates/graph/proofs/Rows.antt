@@ -1,0 +1,241 @@
+-- The black causal graph, filled action by action: the rows at action i hold the arcs of the actions below i.
+use mathlib.Core.Path.{_≡_, refl, sym, ap, _∙_, fun-ext, subst}
+use mathlib.Core.Bool.{Bool, true, false, not, _&&_, _||_, or-false, or-assoc, and-false}
+use mathlib.Core.List.{List, [], _∷_, _++_, map, map-append}
+use Prim.Native.Nat.{ℕ, zero, suc, _+_, _-_, _*_, _/_, _%_, _^_, _<_, _≤_}
+use native.Mathlib.Numerals.{add-one}
+use native.Mathlib.Omega.{arith}
+use native.Mathlib.Decide.{ℕ-discrete}
+use borrow.Author.Tests.{eq-eqb, ne-eqb}
+use lib.Bits.{bitAnd, bitOr, bitXor}
+use lib.Dec.{T, eqb}
+use lib.ListN.{length, getD, set, take, drop, replicate, length-set, getD-replicate}
+use lib.Seq.{slice, slice-cons, slice-empty, getD-set-same, getD-set-other}
+use Rattle.planning.specs.Basics.{someBelow}
+use Rattle.planning.specs.Record.{Fact, Action, Task, taskOf, recordCheck}
+use Rattle.planning.specs.Runs.{Mode, touches, actions, act, black}
+use Rattle.planning.specs.Painting.{causalArc, blackArc}
+use Rattle.planning.proofs.Tests.{or-l, or-r, and-l, and-r, and-i}
+use Rattle.planning.proofs.Formed.{formed-of}
+use Rattle.table.specs.Table.{factOf, factsIn, preAt, effAt, endAt}
+use Rattle.state.specs.Sets.{inSet, setsOf, modeOf, actionOf, Listed}
+use Rattle.state.proofs.Members.{one-shl, inSet-single, inSet-empty, inSet-or}
+use Rattle.state.proofs.Effects.{factsIn-cons, factsIn-none}
+use Rattle.state.proofs.Tabled.{tabled-action, tabled-listed}
+use Rattle.graph.specs.Given.{Given, Facts, Rows, withAction}
+use Rattle.graph.proofs.Bits.{inSet-and, inSet-without}
+use Rattle.graph.proofs.Searches.{both}
+
+-- facts of the places from a up to b and from b up to c
+pub factsIn-split : (l : List ℕ) (n a b c : ℕ) → a + n ≡ b → b ≤ c → c ≤ length l → factsIn l a c ≡ factsIn l a b ++ factsIn l b c
+factsIn-split l zero a b c e h k =
+    let q : a ≡ b = omega arith in
+    rw (q, factsIn-none l b b refl) refl
+factsIn-split l (suc n) a b c e h k =
+    let i = factsIn-cons l a c (omega arith) k in
+    let j = factsIn-cons l a b (omega arith) (omega arith) in
+    i ∙ rw (j, factsIn-split l n (a + 1) b c (omega arith) h k) refl
+
+pub touches-++ : (fs gs : List Fact) (v : ℕ) → touches (fs ++ gs) v ≡ (touches fs v || touches gs v)
+unfolding touches
+touches-++ [] gs v = refl
+touches-++ (f ∷ fs) gs v = rw (touches-++ fs gs v) (sym (or-assoc (eqb v (f .var)) (touches fs v) (touches gs v)))
+
+pub fact-variable : (table : List ℕ) (a b : ℕ) → Facts table a b → (k f : ℕ) → a ≤ k → k < b → f ≡ getD table k 0 → f / 64 < 64
+fact-variable table a b F k f p q e = omega (arith, F .small k p q)
+
+-- the places of an action's effects, and of all its facts
+pub listed-effects : (table : List ℕ) (i : ℕ) → Listed table i → (a b : ℕ) → a ≡ effAt table i → b ≡ endAt table i → Facts table a b
+listed-effects table i L a b ea eb = record {
+  rises = omega (arith, L .eff-below);
+  within = omega (arith, L .end-below);
+  small = λ k p q. L .small k (omega (arith, L .pre-below)) (omega arith);
+}
+
+pub listed-preconditions : (table : List ℕ) (i : ℕ) → Listed table i → (a b : ℕ) → a ≡ preAt table i → b ≡ effAt table i → Facts table a b
+listed-preconditions table i L a b ea eb = record {
+  rises = omega (arith, L .pre-below);
+  within = omega (arith, L .eff-below, L .end-below);
+  small = λ k p q. L .small k (omega arith) (omega (arith, L .eff-below));
+}
+
+pub listed-facts : (table : List ℕ) (i : ℕ) → Listed table i → (a b : ℕ) → a ≡ preAt table i → b ≡ endAt table i → Facts table a b
+listed-facts table i L a b ea eb = record {
+  rises = omega (arith, L .pre-below, L .eff-below);
+  within = omega (arith, L .end-below);
+  small = λ k p q. L .small k (omega arith) (omega arith);
+}
+
+-- the variables of a list of facts, collected in a set
+pub record Touching (table : List ℕ) (a b m k : ℕ) : Type 0 where
+  pub from : a ≤ k
+  pub to : k ≤ b
+  pub so-far : (v : ℕ) → (inSet m v || touches (factsIn table k b) v) ≡ touches (factsIn table a b) v
+
+module _ (table : List ℕ) (a b : ℕ) (F : Facts table a b) where
+  pub touching-start : Touching table a b 0 a
+  touching-start = record { from = omega arith; to = F .rises; so-far = λ v. rw (inSet-empty v) refl }
+
+  touches-more : (k : ℕ) → k < b → (v : ℕ) → touches (factsIn table k b) v ≡ (eqb v (getD table k 0 / 64) || touches (factsIn table (k + 1) b) v)
+  unfolding touches factOf
+  touches-more k h v = rw (factsIn-cons table k b h (F .within)) refl
+
+  touches-none : (k : ℕ) → k ≡ b → (v : ℕ) → touches (factsIn table k b) v ≡ false
+  unfolding touches
+  touches-none k e v = rw (factsIn-none table k b e) refl
+
+  module _ (m k : ℕ) (p : Touching table a b m k) where
+    pub touching-turn : k < b → (f : ℕ) → f ≡ getD table k 0 → Touching table a b (bitOr m (1 * 2 ^ (f / 64) % 2 ^ 64)) (k + 1)
+    touching-turn h f e = record {
+      from = omega (arith, p .from);
+      to = omega arith;
+      so-far = λ v.
+        rw (one-shl (f / 64) (omega (arith, F .small k (p .from) h)), inSet-or m (2 ^ (f / 64)) v, inSet-single (f / 64) v)
+        (or-assoc (inSet m v) (eqb v (f / 64)) (touches (factsIn table (k + 1) b) v)
+        ∙ (rw (touches-more k h v, ← e) at (p .so-far v)));
+    }
+
+    pub touching-end : b ≤ k → modeOf m ≡ touches (factsIn table a b)
+    unfolding modeOf
+    touching-end h = fun-ext (λ v. sym (or-false (inSet m v)) ∙ (rw (touches-none k (omega (arith, p .to)) v) at (p .so-far v)))
+
+-- one row
+pub joined-row : (row affected u paint : ℕ) → u < 64 → inSet paint u ≡ true
+    → modeOf (bitOr row (bitXor (bitOr affected (1 * 2 ^ u % 2 ^ 64)) (1 * 2 ^ u % 2 ^ 64))) ≡ (λ v. inSet row v || ((inSet paint u && not (eqb u v)) && inSet affected v))
+unfolding modeOf
+joined-row row affected u paint h e = fun-ext (λ v.
+    rw (one-shl u h, e, inSet-or row (bitXor (bitOr affected (2 ^ u)) (2 ^ u)) v, inSet-without affected u v, eqb-swap u v) refl)
+  where
+    eqb-swap : (u v : ℕ) → eqb v u ≡ eqb u v
+    eqb-swap u v = go (ℕ-discrete u v)
+      where
+        go : Dec (u ≡ v) → eqb v u ≡ eqb u v
+        go (yes q) = rw q refl
+        go (no q) = ne-eqb v u (λ z. q (sym z)) ∙ sym (ne-eqb u v q)
+
+pub kept-row : (row affected u paint : ℕ) → inSet paint u ≡ false → modeOf row ≡ (λ v. inSet row v || ((inSet paint u && not (eqb u v)) && inSet affected v))
+unfolding modeOf
+kept-row row affected u paint e = fun-ext (λ v. rw e (sym (or-false (inSet row v))))
+
+-- arcs of one action
+abbrev arcs : ℕ → ℕ → ℕ → ℕ → Bool
+arcs affected paint u v = (inSet paint u && not (eqb u v)) && inSet affected v
+
+pub record Adding (table : List ℕ) (a b affected paint : ℕ) (rows₀ rows : List ℕ) (k : ℕ) : Type 0 where
+  pub from : a ≤ k
+  pub to : k ≤ b
+  pub long : length rows ≡ 64
+  pub so-far : (u v : ℕ) → (setsOf rows u v || (touches (factsIn table k b) u && arcs affected paint u v)) ≡ (setsOf rows₀ u v || (touches (factsIn table a b) u && arcs affected paint u v))
+
+own-turn : (r x t : Bool) → ((r || x) || (t && x)) ≡ (r || x)
+own-turn true x t = refl
+own-turn false true t = refl
+own-turn false false t = and-false t
+
+module _ (table : List ℕ) (a b affected paint : ℕ) (rows₀ : List ℕ) (F : Facts table a b) where
+  pub adding-start : length rows₀ ≡ 64 → Adding table a b affected paint rows₀ rows₀ a
+  adding-start n = record { from = omega arith; to = F .rises; long = n; so-far = λ u v. refl }
+
+  module _ (rows : List ℕ) (k : ℕ) (p : Adding table a b affected paint rows₀ rows k) where
+    pub adding-turn : k < b → (f u w : ℕ) → f ≡ getD table k 0 → u ≡ f / 64 → modeOf w ≡ (λ v. inSet (getD rows u 0) v || arcs affected paint u v)
+        → Adding table a b affected paint rows₀ (set rows u w) (k + 1)
+    unfolding modeOf setsOf
+    adding-turn h f u w e eu ew = record {
+      from = omega (arith, p .from);
+      to = omega arith;
+      long = length-set rows u w ∙ p .long;
+      so-far = λ x v. go x v (ℕ-discrete x u) ∙ (rw (touches-more table a b F k h x, ← e, ← eu) at (p .so-far x v));
+    }
+      where
+        rest : ℕ → Bool
+        rest x = touches (factsIn table (k + 1) b) x
+
+        go : (x v : ℕ) → Dec (x ≡ u) → (inSet (getD (set rows u w) x 0) v || (rest x && arcs affected paint x v)) ≡ (inSet (getD rows x 0) v || ((eqb x u || rest x) && arcs affected paint x v))
+        go x v (yes q) =
+            let n : u < length rows = omega (arith, p .long, F .small k (p .from) h) in
+            let z : inSet w v ≡ (inSet (getD rows u 0) v || arcs affected paint u v) = ap (λ (g : ℕ → Bool). g v) ew in
+            rw (q, getD-set-same rows u w 0 n, z, eq-eqb u u refl) (own-turn (inSet (getD rows u 0) v) (arcs affected paint u v) (rest u))
+        go x v (no q) = rw (getD-set-other rows u x w 0 q, ne-eqb x u q) refl
+
+    pub adding-end : b ≤ k → setsOf rows ≡ (λ u v. setsOf rows₀ u v || (touches (factsIn table a b) u && arcs affected paint u v))
+    adding-end h = fun-ext (λ u. fun-ext (λ v. sym (or-false (setsOf rows u v)) ∙ (rw (touches-none table a b F k (omega (arith, p .to)) u) at (p .so-far u v))))
+
+-- the arcs that action i gives, from the loop's equation
+module _ (table : List ℕ) (i paint : ℕ) (s : ℕ → ℕ → Bool) (L : Listed table i) (a b c w : ℕ) (ea : a ≡ preAt table i) (eb : b ≡ effAt table i) (ec : c ≡ endAt table i)
+    (touch : modeOf w ≡ touches (factsIn table b c)) where
+  affects : (v : ℕ) → inSet (bitAnd w paint) v ≡ (touches (factsIn table b c) v && inSet paint v)
+  unfolding modeOf
+  affects v = inSet-and w paint v ∙ ap (λ (x : Bool). x && inSet paint v) (ap (λ (g : ℕ → Bool). g v) touch)
+
+  regroup : (r t : Bool) (mu ne tv mv : Bool) → r ≡ t → (r && ((mu && ne) && (tv && mv))) ≡ ((mu && mv) && (ne && (tv && t)))
+  regroup r t mu ne tv mv e = both (r && ((mu && ne) && (tv && mv))) ((mu && mv) && (ne && (tv && t)))
+      (λ h. let z : T t = subst T e (search and-l) in search (and-i, and-l, and-r))
+      (λ h. let z : T r = subst T (sym e) (search and-r) in search (and-i, and-l, and-r))
+
+  pub action-arcs : (λ u v. s u v || (touches (factsIn table a c) u && arcs (bitAnd w paint) paint u v)) ≡ withAction (modeOf paint) (actionOf table i) s
+  unfolding withAction modeOf actionOf
+  action-arcs = fun-ext (λ u. fun-ext (λ v.
+      rw (affects v, ← ea, ← eb, ← ec)
+      (ap (λ (x : Bool). s u v || x) (regroup (touches (factsIn table a c) u) (touches (factsIn table a b) u || touches (factsIn table b c) u) (inSet paint u) (not (eqb u v)) (touches (factsIn table b c) v) (inSet paint v) (both-lists u)))))
+    where
+      both-lists : (u : ℕ) → touches (factsIn table a c) u ≡ (touches (factsIn table a b) u || touches (factsIn table b c) u)
+      both-lists u =
+          ap (λ (fs : List Fact). touches fs u) (factsIn-split table (b - a) a b c (omega (arith, L .pre-below)) (omega (arith, L .eff-below)) (omega (arith, L .end-below)))
+          ∙ touches-++ (factsIn table a b) (factsIn table b c) u
+
+  -- nothing black is affected
+  pub action-none : bitAnd w paint ≡ 0 → s ≡ withAction (modeOf paint) (actionOf table i) s
+  action-none e = fun-ext (λ u. fun-ext (λ v. none-at u v)) ∙ action-arcs
+    where
+      none-at : (u v : ℕ) → s u v ≡ (s u v || (touches (factsIn table a c) u && arcs (bitAnd w paint) paint u v))
+      none-at u v = rw (e, inSet-empty v, and-false (inSet paint u && not (eqb u v)), and-false (touches (factsIn table a c) u)) (sym (or-false (s u v)))
+
+-- the whole graph: arcs of the actions below i
+unfoldable pub arcsBelow : Task → ℕ → ℕ → ℕ → Bool
+arcsBelow t n u v = (black t u && black t v) && (not (eqb u v) && someBelow n (λ i. touches (act t i .eff) v && (touches (act t i .pre) u || touches (act t i .eff) u)))
+
+one-more : (x y s p : Bool) → ((x && (y && s)) || (x && (y && p))) ≡ (x && (y && (s || p)))
+one-more true true s p = refl
+one-more true false s p = refl
+one-more false y s p = refl
+
+arcs-more : (t : Task) (i : ℕ) → withAction (black t) (act t i) (arcsBelow t i) ≡ arcsBelow t (i + 1)
+unfolding withAction arcsBelow someBelow
+arcs-more t i = fun-ext (λ u. fun-ext (λ v. rw add-one
+    (one-more (black t u && black t v) (not (eqb u v)) (someBelow i (λ i. touches (act t i .eff) v && (touches (act t i .pre) u || touches (act t i .eff) u)))
+    (touches (act t i .eff) v && (touches (act t i .pre) u || touches (act t i .eff) u)))))
+
+pub record Drawing (s : List ℕ) (n : ℕ) (rows : List ℕ) (i : ℕ) : Type 0 where
+  pub within : i ≤ n
+  pub long : length rows ≡ 64
+  pub drawn : setsOf rows ≡ arcsBelow (taskOf s) i
+
+module _ (s table : List ℕ) (paint n : ℕ) (G : Given s table paint n) where
+  pub given-listed : (i : ℕ) → i < n → Listed table i
+  given-listed i h = tabled-listed (taskOf s) table (formed-of s (G .accepted)) (G .tabled) i (omega (arith, G .all))
+
+  pub given-act : (i : ℕ) → i < n → actionOf table i ≡ act (taskOf s) i
+  given-act i h = tabled-action (taskOf s) table i (G .tabled i (omega (arith, G .all)))
+
+  pub drawing-start : Drawing s n (replicate 64 0) 0
+  unfolding arcsBelow someBelow setsOf
+  drawing-start = record { within = omega arith; long = refl; drawn = fun-ext (λ u. fun-ext (λ v. rw (zeros 64 u, inSet-empty v, and-false (not (eqb u v))) (sym (and-false (black (taskOf s) u && black (taskOf s) v))))) }
+    where
+      zeros : (n w : ℕ) → _≡_ {A = ℕ} (getD (replicate n 0) w 0) 0
+      zeros zero w = refl
+      zeros (suc n) zero = refl
+      zeros (suc n) (suc w) = zeros n w
+
+  module _ (rows : List ℕ) (i : ℕ) (D : Drawing s n rows i) where
+    pub drawing-turn : i < n → (rows′ : List ℕ) → Rows rows′ (withAction (modeOf paint) (actionOf table i) (setsOf rows)) → Drawing s n rows′ (i + 1)
+    drawing-turn h rows′ e = record {
+      within = omega arith;
+      long = e .long;
+      drawn = e .states ∙ rw (G .colours, given-act i h, D .drawn) (arcs-more (taskOf s) i);
+    }
+
+    pub drawing-end : n ≤ i → setsOf rows ≡ blackArc (taskOf s)
+    unfolding arcsBelow blackArc causalArc
+    drawing-end h =
+        let e : i ≡ actions (taskOf s) = omega (arith, D .within, G .all) in
+        D .drawn ∙ rw e refl

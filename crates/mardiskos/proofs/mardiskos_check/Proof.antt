@@ -1,0 +1,50 @@
+use Rattle.mardiskos.proofs.Laws.{code-accepted, code-refused}
+use Rattle.record.specs.Stages.{checkedOf}
+use mathlib.Core.Path.{sym, ap, _∙_}
+use borrow.Author.Needs.{needs}
+use Rattle.mardiskos.proofs.mardiskos_check.Statement.{statement}
+use Rattle.mardiskos.proofs.mardiskos_check.Tie as tie
+use Rattle.mardiskos.proofs.mardiskos_check.Reads as reads
+use Rattle.mardiskos.proofs.mardiskos_check.Lts as lts
+use Rattle.record.proofs.check.Reads as check-reads
+
+check-requires : tie.Need-check-requires
+check-requires c κs = search needs
+
+enum-known-c : tie.Need-enum-known-c
+enum-known-c c = search needs
+
+enum-told : tie.Need-enum-told
+enum-told c = search needs
+
+returns : tie.Need-returns
+returns c = code-accepted _ (sym (ap checkedOf (c .enum-told .given .1)) ∙ c .before .before .check .ensures)
+
+cast-result : tie.Need-cast-result
+cast-result c = search needs
+
+mul-result : tie.Need-mul-result
+mul-result c = search needs
+
+cast-result-2 : tie.Need-cast-result-2
+cast-result-2 c = search needs
+
+add-result : tie.Need-add-result
+add-result c = search needs
+
+returns-2 : tie.Need-returns-2
+returns-2 c = code-refused _ _ _ (sym (ap checkedOf (c .before .before .before .c .given .1)) ∙ c .before .before .before .before .before .check .ensures)
+
+pub mardiskos-check-spec : {M : Type 1} → statement M
+mardiskos-check-spec =
+    tie.close
+    (tie.spec
+    check-requires
+    enum-known-c
+    enum-told
+    returns
+    cast-result
+    mul-result
+    cast-result-2
+    add-result
+    returns-2)

@@ -1,0 +1,54 @@
+use Rattle.planning.specs.Record.{actionsIn, variablesIn}
+use Rattle.record.proofs.Laws.{count-above, count-right}
+use Rattle.record.specs.Stages.{fromActionCount, fromVariableCount}
+use Rattle.bits.proofs.Window.{bitsAt-lt}
+use Rattle.bits.proofs.Stages.{passed, skip, skip-stage, hit, stops, stops-stage}
+use Rattle.record.specs.Stages.{goalChecks, initialChecks, actionFactsChecks}
+use Rattle.planning.specs.Record.{factsChecks, variableChecks, actionChecks, preconditionsIn, effectsIn, effectsFrom, actionEnd}
+use Rattle.planning.specs.Basics.{inOrder, answer, done, bitsAt}
+use native.Mathlib.Omega.{arith}
+use mathlib.Core.Path.{_≡_, refl, sym, ap, _∙_}
+use borrow.Author.Needs.{needs}
+use Rattle.record.proofs.check_from_action_count.Statement.{statement}
+use Rattle.record.proofs.check_from_action_count.Tie as tie
+use Rattle.record.proofs.check_from_action_count.Reads as reads
+use Rattle.record.proofs.check_from_action_count.Lts as lts
+use Rattle.record.proofs.check_from_variables.Reads as check-from-variables-reads
+use Rattle.record.proofs.take.Reads as take-reads
+
+take-requires : tie.Need-take-requires
+take-requires c κs = search needs
+
+enum-known-a : tie.Need-enum-known-a
+enum-known-a c = search needs
+
+enum-told : tie.Need-enum-told
+enum-told c = search needs
+
+returns : tie.Need-returns
+unfolding fromActionCount actionsIn
+returns c = stops _ _ _ _ _ _ (c .enum-told .given .1) (c .before .before .take .ensures)
+
+returns-2 : tie.Need-returns-2
+unfolding fromActionCount actionsIn
+returns-2 c = skip _ _ _ _ ((passed _ _ _ _ (c .before .before .a .given .1) (c .before .before .before .before .take .ensures)) .0) (hit _ _ _ _ _ (count-above _ _ _ _ ((passed _ _ _ _ (c .before .before .a .given .1) (c .before .before .before .before .take .ensures)) .1) (c .if1 .taken)))
+
+check-from-variables-requires : tie.Need-check-from-variables-requires
+unfolding actionsIn
+check-from-variables-requires c κs = (sym ((passed _ _ _ _ (c .before .before .a .given .1) (c .before .before .before .before .take .ensures)) .1), c .if1 .left, search needs, search needs)
+
+returns-3 : tie.Need-returns-3
+unfolding fromActionCount actionsIn
+returns-3 c = skip _ _ _ _ ((passed _ _ _ _ (c .before .before .before .a .given .1) (c .before .before .before .before .before .take .ensures)) .0) (skip _ _ _ _ (count-right _ _ _ _ ((passed _ _ _ _ (c .before .before .before .a .given .1) (c .before .before .before .before .before .take .ensures)) .1) (c .before .if1 .left)) (c .check-from-variables .ensures))
+
+pub check-from-action-count-spec : {M : Type 1} → statement M
+check-from-action-count-spec =
+    tie.close
+    (tie.spec
+    take-requires
+    enum-known-a
+    enum-told
+    returns
+    returns-2
+    check-from-variables-requires
+    returns-3)

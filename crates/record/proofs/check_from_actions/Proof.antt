@@ -1,0 +1,38 @@
+use Rattle.record.proofs.Laws.{actions-refused, actions-passed, actions-end}
+use Rattle.bits.proofs.Window.{bitsAt-lt}
+use Rattle.bits.proofs.Stages.{passed, skip, skip-stage, hit, stops, stops-stage}
+use Rattle.record.specs.Stages.{goalChecks, initialChecks, actionFactsChecks}
+use Rattle.planning.specs.Record.{factsChecks, variableChecks, actionChecks, preconditionsIn, effectsIn, effectsFrom, actionEnd}
+use Rattle.planning.specs.Basics.{inOrder, answer, done, bitsAt}
+use native.Mathlib.Omega.{arith}
+use mathlib.Core.Path.{_≡_, refl, sym, ap, _∙_}
+use borrow.Author.Needs.{needs}
+use Rattle.record.proofs.check_from_actions.Statement.{statement}
+use Rattle.record.proofs.check_from_actions.Tie as tie
+use Rattle.record.proofs.check_from_actions.Reads as reads
+use Rattle.record.proofs.check_from_actions.Lts as lts
+use Rattle.record.proofs.check_actions.Reads as check-actions-reads
+use Rattle.record.proofs.check_end.Reads as check-end-reads
+
+check-actions-requires : tie.Need-check-actions-requires
+check-actions-requires c κs = search needs
+
+enum-known-a : tie.Need-enum-known-a
+enum-known-a c = search needs
+
+enum-told : tie.Need-enum-told
+enum-told c = search needs
+
+returns : tie.Need-returns
+returns c = actions-refused _ _ _ (search needs) (search needs) _ _ _ _ (c .enum-told .given .1) (c .before .before .check-actions .ensures)
+
+check-end-requires : tie.Need-check-end-requires
+check-end-requires c κs = actions-end _ _ _ (search needs) (search needs) _ (search needs) (search needs) ((passed _ _ _ _ (c .before .a .given .1) (c .before .before .before .check-actions .ensures)) .1)
+
+returns-2 : tie.Need-returns-2
+returns-2 c = actions-passed _ _ _ (search needs) (search needs) _ _ ((passed _ _ _ _ (c .before .before .a .given .1) (c .before .before .before .before .check-actions .ensures)) .0) (c .check-end .ensures)
+
+pub check-from-actions-spec : {M : Type 1} → statement M
+check-from-actions-spec =
+    tie.close
+    (tie.spec check-actions-requires enum-known-a enum-told returns check-end-requires returns-2)

@@ -1,0 +1,44 @@
+use Rattle.record.proofs.Laws.{variables-refused, variables-passed}
+use Rattle.bits.proofs.Window.{bitsAt-lt}
+use Rattle.bits.proofs.Stages.{passed, skip, skip-stage, hit, stops, stops-stage, answer-passes}
+use Rattle.record.specs.Stages.{goalChecks, initialChecks, actionFactsChecks}
+use Rattle.planning.specs.Record.{factsChecks, variableChecks, actionChecks, preconditionsIn, effectsIn, effectsFrom, actionEnd}
+use Rattle.planning.specs.Basics.{inOrder, answer, done, bitsAt}
+use native.Mathlib.Omega.{arith}
+use mathlib.Core.Path.{_≡_, refl, sym, ap, _∙_}
+use borrow.Author.Needs.{needs}
+use Rattle.record.proofs.check_from_variables.Statement.{statement}
+use Rattle.record.proofs.check_from_variables.Tie as tie
+use Rattle.record.proofs.check_from_variables.Reads as reads
+use Rattle.record.proofs.check_from_variables.Lts as lts
+use Rattle.record.proofs.check_from_actions.Reads as check-from-actions-reads
+use Rattle.record.proofs.check_variables.Reads as check-variables-reads
+
+check-variables-requires : tie.Need-check-variables-requires
+check-variables-requires c κs = (search needs, refl)
+
+enum-told : tie.Need-enum-told
+enum-told c = search needs
+
+enum-told-2 : tie.Need-enum-told-2
+enum-told-2 c = search needs
+
+returns : tie.Need-returns
+returns c = variables-refused _ _ (search needs) _ _ _ _ (c .enum-told2 .given .1) (c .before .before .check-variables .ensures .0)
+
+check-from-actions-requires : tie.Need-check-from-actions-requires
+check-from-actions-requires c κs = (search needs, search needs, search needs, search needs, c .before .before .before .check-variables .ensures .1 (answer-passes _ _ _ (c .before .before .before .check-variables .ensures .0) ((passed _ _ _ _ (c .before .enum-told .given .1) (c .before .before .before .check-variables .ensures .0)) .0)))
+
+returns-2 : tie.Need-returns-2
+returns-2 c = variables-passed _ _ (search needs) _ _ ((passed _ _ _ _ (c .before .before .enum-told .given .1) (c .before .before .before .before .check-variables .ensures .0)) .0) (c .check-from-actions .ensures)
+
+pub check-from-variables-spec : {M : Type 1} → statement M
+check-from-variables-spec =
+    tie.close
+    (tie.spec
+    check-variables-requires
+    enum-told
+    enum-told-2
+    returns
+    check-from-actions-requires
+    returns-2)

@@ -1,0 +1,86 @@
+use Rattle.record.proofs.Laws.{Seen, variables-start, variable-stops, variables-turn, variables-done, not-done}
+use Rattle.record.proofs.Laws.{Seen, variables-start, variable-stops, variables-turn, variables-done}
+use Rattle.bits.proofs.Window.{bitsAt-lt}
+use Rattle.bits.proofs.Stages.{passed, skip, skip-stage, hit, stops, stops-stage}
+use Rattle.record.specs.Stages.{goalChecks, initialChecks, actionFactsChecks}
+use Rattle.planning.specs.Record.{factsChecks, variableChecks, actionChecks, preconditionsIn, effectsIn, effectsFrom, actionEnd}
+use Rattle.planning.specs.Basics.{inOrder, answer, done, bitsAt}
+use borrow.Author.Needs.{needs}
+use mathlib.Core.Path.{_≡_, refl, sym, ap, _∙_}
+use Prim.Native.Nat.{ℕ, _+_, _*_, _/_, _^_, _-_, _≤_, _<_}
+use native.Mathlib.Omega.{arith}
+use lib.ListN.{length, getD, take, drop, set, replicate}
+use Rattle.record.proofs.check_variables.Statement.{statement}
+use Rattle.record.proofs.check_variables.Tie as tie
+use Rattle.record.proofs.check_variables.Reads as reads
+use Rattle.record.proofs.check_variables.Lts as lts
+use Rattle.record.proofs.check_variable.Reads as check-variable-reads
+
+abbrev Inv-loop : tie.InvT-loop
+Inv-loop bytes count lasts₀ i₀ lasts i = Seen bytes count lasts i
+
+abbrev μ-loop : tie.MeasureT-loop
+μ-loop bytes count lasts₀ i₀ lasts i = count - i
+
+loop-holds : tie.Need-loop-holds Inv-loop μ-loop
+loop-holds c = variables-start _ _ _ (search needs)
+
+mul-check-variable : tie.Need-mul-check-variable Inv-loop μ-loop
+mul-check-variable c = search needs
+
+add-check-variable : tie.Need-add-check-variable Inv-loop μ-loop
+add-check-variable c = search needs
+
+check-variable-requires : tie.Need-check-variable-requires Inv-loop μ-loop
+check-variable-requires c κs = search needs
+
+enum-known-v : tie.Need-enum-known-v Inv-loop μ-loop
+enum-known-v c = search needs
+
+enum-told : tie.Need-enum-told Inv-loop μ-loop
+enum-told c = search needs
+
+returns : tie.Need-returns Inv-loop μ-loop
+returns c = (variable-stops _ _ _ _ (c .before .before .before .before .loop .inv) _ _ _ _ (omega arith) (c .enum-told .given .1) (c .before .before .check-variable .ensures), λ z. absurd (not-done _ _ _ (c .enum-told .given .1) z))
+
+cast-lasts : tie.Need-cast-lasts Inv-loop μ-loop
+cast-lasts c = search needs
+
+cast-lasts-2 : tie.Need-cast-lasts-2 Inv-loop μ-loop
+cast-lasts-2 c = search needs
+
+element-write-lasts : tie.Need-element-write-lasts Inv-loop μ-loop
+element-write-lasts c = search needs
+
+add-i : tie.Need-add-i Inv-loop μ-loop
+add-i c = search needs
+
+loop-less : tie.Need-loop-less Inv-loop μ-loop
+loop-less c = search needs
+
+loop-again : tie.Need-loop-again Inv-loop μ-loop
+loop-again c = variables-turn _ _ _ _ (c .before .before .before .before .before .loop .inv) _ (omega arith) (omega arith) (passed _ _ _ _ (c .before .v .given .1) (c .before .before .before .check-variable .ensures))
+
+returns-2 : tie.Need-returns-2 Inv-loop μ-loop
+returns-2 c = (variables-done _ _ _ _ (c .before .loop .inv) (omega arith) .0, λ _. variables-done _ _ _ _ (c .before .loop .inv) (omega arith) .1)
+
+pub check-variables-spec : {M : Type 1} → statement M
+check-variables-spec =
+    tie.close
+    (tie.spec
+    Inv-loop
+    μ-loop
+    loop-holds
+    mul-check-variable
+    add-check-variable
+    check-variable-requires
+    enum-known-v
+    enum-told
+    returns
+    cast-lasts
+    cast-lasts-2
+    element-write-lasts
+    add-i
+    loop-less
+    loop-again
+    returns-2)

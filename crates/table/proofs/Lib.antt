@@ -1,0 +1,4 @@
+pub mod Cut
+pub mod Size
+pub mod Loading
+pub mod Fields
