@@ -1,0 +1,31 @@
+-- What the repair is handed, and its parts over the facts held ever: those of R and B (planning/proofs/Known.antt).
+use mathlib.Core.Path.{_≡_}
+use mathlib.Core.Bool.{Bool, true, false}
+use mathlib.Core.List.{List, [], _∷_, _++_}
+use Prim.Native.Nat.{ℕ, _+_, _<_, _≤_}
+use lib.ListN.{length, getD}
+use Rattle.planning.specs.Record.{Fact, Task, taskOf}
+use Rattle.planning.specs.Runs.{State, actions, count, act, black}
+use Rattle.planning.specs.Repair.{order, fill, value, blackMet}
+use Rattle.state.specs.Sets.{modeOf}
+use Rattle.paths.specs.Paths.{Ground}
+use Rattle.passes.specs.Passes.{pathsOf, Fitting}
+
+-- the ground of the searches, the black variables as a set, and their clients-first order
+pub record Setting (s table head chain masks : List ℕ) (paint : ℕ) (ordered : List ℕ) : Type 0 where
+  pub ground : Ground s table head chain masks
+  pub colours : modeOf paint ≡ black (taskOf s)
+  pub clients : ordered ≡ order (taskOf s)
+
+-- facts of the task in a list of numbers
+pub record Wanted (t : Task) (facts : List ℕ) (fs : List Fact) : Type 0 where
+  pub small : (k : ℕ) → k < length facts → getD facts k 0 < 4096
+  pub fitting : Fitting t fs
+
+-- the passes of the variables vs
+abbrev pub filled : Task → State → State → List ℕ → List ℕ → List Fact → List ℕ
+filled t K s vs l w = fill (act t) (pathsOf t K) (value (count t) s) vs l w
+
+-- the moves to insert for the wanted facts w
+unfoldable pub movesFor : Task → State → State → List Fact → List ℕ
+movesFor t K s w = elim (blackMet (black t) s w) [ true ↦ [] | false ↦ filled t K s (order t) [] w ]
