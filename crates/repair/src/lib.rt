@@ -3,21 +3,21 @@
 // not fit, the whole plan does not.
 use paths::Written;
 ghost use mathlib.Core.Path.{_≡_};
-ghost use mathlib.Core.Bool.{true, false};
+ghost use mathlib.Core.Bool.{true, false, not, _&&_};
 ghost use mathlib.Core.List.{_++_, _∷_, []};
 ghost use mathlib.Core.Option.{none};
-ghost use Prim.Native.Nat.{ℕ, _+_, _-_, _*_, _^_, _<_, _≤_};
+ghost use Prim.Native.Nat.{ℕ, _+_, _-_, _*_, _/_, _%_, _^_, _<_, _≤_};
 ghost use lib.Dec.{T};
 ghost use lib.Count.{trailingZeros};
 ghost use lib.ListN.{length, getD, take, drop};
-ghost use lib.Seq.{slice};
+ghost use lib.Seq.{slice, paste};
 ghost use Rattle.planning.specs.Record.{taskOf, recordCheck};
 ghost use Rattle.planning.specs.Runs.{relaxed, step, run, actions, count, act, black, variables, initial};
-ghost use Rattle.planning.specs.Repair.{value, blackMet, repaired};
+ghost use Rattle.planning.specs.Repair.{pass, value, blackMet, repaired};
 ghost use Rattle.table.specs.Table.{factsIn, Tabled};
 ghost use Rattle.state.specs.Sets.{setsOf, modeOf, mixed, actionOf, Listed, singles};
 ghost use Rattle.paths.specs.Paths.{Put};
-ghost use Rattle.passes.specs.Passes.{Entries};
+ghost use Rattle.passes.specs.Passes.{pathsOf, Entries};
 ghost use Rattle.repair.specs.Repairs.{Setting, Wanted, filled, movesFor};
 
 fn wide(x: u16) -> usize
@@ -51,12 +51,24 @@ fn value(sets: &[u64; 64], v: usize, n: usize, bytes: &[u8]) -> usize
 // The list of the first n entries of work stands in the plan from place `at` on.
 fn copy_back(work: &[u16], n: usize, plan: &mut [u16], at: usize)
     requires { ⌜ (n ≤ length (now work)) × (at + n ≤ length (now plan)) ⌝ }
-    ensures { λ _. ⌜ now (plan .exit) ≡ take at (now (plan .entry)) ++ (take n (now (work .entry)) ++ drop (at + n) (now (plan .entry))) ⌝ }
+    ensures { λ _. ⌜ now (plan .exit) ≡ paste (now (plan .entry)) at (now (work .entry)) n ⌝ }
 {
     let mut k: usize = 0;
     while k < n {
         plan[at + k] = work[k];
         k += 1;
+    }
+}
+
+// The fact f is black and not held.
+fn unmet(masks: &[u64; 64], sets: &[u64; 64], f: usize, paint: u64) -> bool
+    requires { ⌜ (now masks ≡ singles) × (f < 4096) ⌝ }
+    ensures { λ r. ⌜ r ≡ (modeOf paint (f / 64) && not (setsOf (now (sets .entry)) (f / 64) (f % 64))) ⌝ }
+{
+    if (paint >> (f / 64)) % 2 == 1 {
+        !state::holds(masks, sets, f / 64, f % 64)
+    } else {
+        false
     }
 }
 
@@ -67,11 +79,8 @@ fn black_met(masks: &[u64; 64], sets: &[u64; 64], facts: &[u16], paint: u64) -> 
 {
     let mut k: usize = 0;
     while k < facts.len() {
-        let f = wide(facts[k]);
-        if (paint >> (f / 64)) % 2 == 1 {
-            if !state::holds(masks, sets, f / 64, f % 64) {
-                return false;
-            }
+        if unmet(masks, sets, wide(facts[k]), paint) {
+            return false;
         }
         k += 1;
     }
@@ -89,8 +98,8 @@ fn changed(old: u64, x: usize, black: bool) -> u64
 
 // Action i applied in place. Variable v acts as black where bit v of `mode` is 1.
 fn apply(sets: &mut [u64; 64], table: &[u16], i: usize, mode: u64)
-    requires { ⌜ Listed (now table) i ⌝ }
-    ensures { λ _. ⌜ setsOf (now (sets .exit)) ≡ step (modeOf mode) (actionOf (now (table .entry)) i) (setsOf (now (sets .entry))) ⌝ }
+    requires { ⌜ Listed (now table) i × (length (now sets) ≡ 64) ⌝ }
+    ensures { λ _. ⌜ (setsOf (now (sets .exit)) ≡ step (modeOf mode) (actionOf (now (table .entry)) i) (setsOf (now (sets .entry)))) × (length (now (sets .exit)) ≡ 64) ⌝ }
 {
     let end = wide(table[4 * i + 3]);
     let mut k = wide(table[4 * i + 2]);
@@ -104,12 +113,29 @@ fn apply(sets: &mut [u64; 64], table: &[u16], i: usize, mode: u64)
 
 // The actions of the list applied in turn.
 fn run_list(bytes: &[u8], table: &[u16], sets: &mut [u64; 64], list: &[u16], mode: u64)
-    requires { ⌜ (recordCheck (now bytes) ≡ none) × Tabled (taskOf (now bytes)) (now table) × Entries (taskOf (now bytes)) (now list) ⌝ }
-    ensures { λ _. ⌜ setsOf (now (sets .exit)) ≡ run (act (taskOf (now (bytes .entry)))) (modeOf mode) (now (list .entry)) (setsOf (now (sets .entry))) ⌝ }
+    requires { ⌜ (recordCheck (now bytes) ≡ none) × Tabled (taskOf (now bytes)) (now table) × Entries (taskOf (now bytes)) (now list) × (length (now sets) ≡ 64) ⌝ }
+    ensures { λ _. ⌜ (setsOf (now (sets .exit)) ≡ run (act (taskOf (now (bytes .entry)))) (modeOf mode) (now (list .entry)) (setsOf (now (sets .entry)))) × (length (now (sets .exit)) ≡ 64) ⌝ }
 {
     let mut k: usize = 0;
     while k < list.len() {
         apply(sets, table, wide(list[k]), mode);
         k += 1;
     }
+}
+
+// The pass for v over the moves that stand in the plan from place `at` up to e.
+fn serve(bytes: &[u8], table: &[u16], head: &[u16; 4096], chain: &[u16; 1024], masks: &[u64; 64], paint: u64, order: &[u16], sets: &[u64; 64], ever: &[u64; 64], memo: &mut [u16], v: usize, wanted: &[u16], plan: &mut [u16], at: usize, e: usize, work: &mut [u16]) -> Written
+    requires { ⌜ Setting (now bytes) (now table) (now head) (now chain) (now masks) paint (now order) × Wanted (taskOf (now bytes)) (now wanted) (factsIn (now wanted) 0 (length (now wanted))) × (length (now memo) ≡ 4160) × (length (now work) ≡ length (now plan)) ⌝ }
+    requires { ⌜ (v < variables (taskOf (now bytes))) × T (black (taskOf (now bytes)) v) × (at ≤ e) × (e ≤ length (now plan)) × Entries (taskOf (now bytes)) (take (e - at) (drop at (now plan))) ⌝ }
+    ensures { λ r. ⌜ Put (now (plan .entry)) (now (plan .exit)) at (pass (act (taskOf (now (bytes .entry)))) (pathsOf (taskOf (now (bytes .entry))) (setsOf (now (ever .entry))) v) v (value (count (taskOf (now (bytes .entry)))) (setsOf (now (sets .entry))) v) (take (e - at) (drop at (now (plan .entry)))) (factsIn (now (wanted .entry)) 0 (length (now (wanted .entry))))) r ⌝ }
+{
+    passes::forget(memo);
+    let n = table::count(bytes, v);
+    let c = value(sets, v, n, bytes);
+    let w = passes::pass(bytes, table, head, chain, masks, ever, memo, v, n, c, &plan[at..e], wanted, &mut work[at..]);
+    let Written::Upto(len) = w else {
+        return Written::Long;
+    };
+    copy_back(&work[at..], len, plan, at);
+    Written::Upto(at + len)
 }
