@@ -1,2 +1,4 @@
 pub mod Values
 pub mod Below
+pub mod Serving
+pub mod Filling

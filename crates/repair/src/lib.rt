@@ -139,3 +139,21 @@ fn serve(bytes: &[u8], table: &[u16], head: &[u16; 4096], chain: &[u16; 1024], m
     copy_back(&work[at..], len, plan, at);
     Written::Upto(at + len)
 }
+
+// The passes of the black variables in their order: moves for the wanted facts, from place `at` on.
+fn fill(bytes: &[u8], table: &[u16], head: &[u16; 4096], chain: &[u16; 1024], masks: &[u64; 64], paint: u64, order: &[u16], sets: &[u64; 64], ever: &[u64; 64], memo: &mut [u16], wanted: &[u16], plan: &mut [u16], at: usize, work: &mut [u16]) -> Written
+    requires { ⌜ Setting (now bytes) (now table) (now head) (now chain) (now masks) paint (now order) × Wanted (taskOf (now bytes)) (now wanted) (factsIn (now wanted) 0 (length (now wanted))) × (length (now memo) ≡ 4160) × (length (now work) ≡ length (now plan)) × (at ≤ length (now plan)) ⌝ }
+    ensures { λ r. ⌜ Put (now (plan .entry)) (now (plan .exit)) at (filled (taskOf (now (bytes .entry))) (setsOf (now (ever .entry))) (setsOf (now (sets .entry))) (now (order .entry)) [] (factsIn (now (wanted .entry)) 0 (length (now (wanted .entry))))) r ⌝ }
+{
+    let mut e = at;
+    let mut p: usize = 0;
+    while p < order.len() {
+        let w = serve(bytes, table, head, chain, masks, paint, order, sets, ever, memo, wide(order[p]), wanted, plan, at, e, work);
+        let Written::Upto(x) = w else {
+            return Written::Long;
+        };
+        e = x;
+        p += 1;
+    }
+    Written::Upto(e)
+}
