@@ -5,10 +5,12 @@ use mathlib.Core.List.{List, [], _∷_, _++_}
 use Prim.Native.Nat.{ℕ, _+_, _<_, _≤_}
 use lib.ListN.{length, getD}
 use Rattle.planning.specs.Record.{Fact, Task, taskOf}
-use Rattle.planning.specs.Runs.{State, actions, count, act, black}
+use Rattle.planning.specs.Runs.{State, relaxed, run, actions, count, act, black}
 use Rattle.planning.specs.Repair.{order, fill, value, blackMet}
-use Rattle.state.specs.Sets.{modeOf}
+use Rattle.state.specs.Sets.{setsOf, modeOf}
 use Rattle.paths.specs.Paths.{Ground}
+use Rattle.paths.specs.declared.Written.{Written}
+use Rattle.paths.specs.declared.Written.the-variants.{Upto, Long}
 use Rattle.passes.specs.Passes.{pathsOf, Fitting}
 
 -- the ground of the searches, the black variables as a set, and their clients-first order
@@ -29,3 +31,12 @@ filled t K s vs l w = fill (act t) (pathsOf t K) (value (count t) s) vs l w
 -- the moves to insert for the wanted facts w
 unfoldable pub movesFor : Task → State → State → List Fact → List ℕ
 movesFor t K s w = elim (blackMet (black t) s w) [ true ↦ [] | false ↦ filled t K s (order t) [] w ]
+
+-- the moves for action i, and the action
+abbrev pub stepsFor : Task → State → State → ℕ → List ℕ
+stepsFor t K s i = movesFor t K s (act t i .pre) ++ (i ∷ [])
+
+-- after success the state and the facts held ever are those behind the steps k
+abbrev pub Ran : Task → State → State → List ℕ → List ℕ → List ℕ → Written → Type 0
+Ran t K s k sets ever (Upto e) = (setsOf sets ≡ run (act t) (black t) k s) × (setsOf ever ≡ run (act t) relaxed k K)
+Ran t K s k sets ever Long = Unit {0}

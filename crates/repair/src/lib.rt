@@ -12,13 +12,13 @@ ghost use lib.Count.{trailingZeros};
 ghost use lib.ListN.{length, getD, take, drop};
 ghost use lib.Seq.{slice, paste};
 ghost use Rattle.planning.specs.Record.{taskOf, recordCheck};
-ghost use Rattle.planning.specs.Runs.{relaxed, step, run, actions, count, act, black, variables, initial};
+ghost use Rattle.planning.specs.Runs.{step, run, actions, count, act, black, variables, initial, goals};
 ghost use Rattle.planning.specs.Repair.{pass, value, blackMet, repaired};
 ghost use Rattle.table.specs.Table.{factsIn, Tabled};
 ghost use Rattle.state.specs.Sets.{setsOf, modeOf, mixed, actionOf, Listed, singles};
 ghost use Rattle.paths.specs.Paths.{Put};
 ghost use Rattle.passes.specs.Passes.{pathsOf, Entries};
-ghost use Rattle.repair.specs.Repairs.{Setting, Wanted, filled, movesFor};
+ghost use Rattle.repair.specs.Repairs.{Setting, Wanted, filled, movesFor, stepsFor, Ran};
 
 fn wide(x: u16) -> usize
     ensures { λ r. ⌜ r ≡ x ⌝ }
@@ -156,4 +156,67 @@ fn fill(bytes: &[u8], table: &[u16], head: &[u16; 4096], chain: &[u16; 1024], ma
         p += 1;
     }
     Written::Upto(e)
+}
+
+// The moves for the wanted facts, none if the black ones are met.
+fn moves(bytes: &[u8], table: &[u16], head: &[u16; 4096], chain: &[u16; 1024], masks: &[u64; 64], paint: u64, order: &[u16], sets: &[u64; 64], ever: &[u64; 64], memo: &mut [u16], wanted: &[u16], plan: &mut [u16], at: usize, work: &mut [u16]) -> Written
+    requires { ⌜ Setting (now bytes) (now table) (now head) (now chain) (now masks) paint (now order) × Wanted (taskOf (now bytes)) (now wanted) (factsIn (now wanted) 0 (length (now wanted))) × (length (now memo) ≡ 4160) × (length (now work) ≡ length (now plan)) × (at ≤ length (now plan)) ⌝ }
+    ensures { λ r. ⌜ Put (now (plan .entry)) (now (plan .exit)) at (movesFor (taskOf (now (bytes .entry))) (setsOf (now (ever .entry))) (setsOf (now (sets .entry))) (factsIn (now (wanted .entry)) 0 (length (now (wanted .entry))))) r ⌝ }
+{
+    if black_met(masks, sets, wanted, paint) {
+        return Written::Upto(at);
+    }
+    fill(bytes, table, head, chain, masks, paint, order, sets, ever, memo, wanted, plan, at, work)
+}
+
+// The moves for action i, and the action behind them.
+fn arrange(bytes: &[u8], table: &[u16], head: &[u16; 4096], chain: &[u16; 1024], masks: &[u64; 64], paint: u64, order: &[u16], sets: &[u64; 64], ever: &[u64; 64], memo: &mut [u16], i: u16, plan: &mut [u16], at: usize, work: &mut [u16]) -> Written
+    requires { ⌜ Setting (now bytes) (now table) (now head) (now chain) (now masks) paint (now order) × (i < actions (taskOf (now bytes))) × (length (now memo) ≡ 4160) × (length (now work) ≡ length (now plan)) × (at ≤ length (now plan)) ⌝ }
+    ensures { λ r. ⌜ Put (now (plan .entry)) (now (plan .exit)) at (stepsFor (taskOf (now (bytes .entry))) (setsOf (now (ever .entry))) (setsOf (now (sets .entry))) i) r ⌝ }
+{
+    let k = wide(i);
+    let from = wide(table[4 * k + 1]);
+    let to = wide(table[4 * k + 2]);
+    let w = moves(bytes, table, head, chain, masks, paint, order, sets, ever, memo, &table[from..to], plan, at, work);
+    let Written::Upto(e) = w else {
+        return Written::Long;
+    };
+    if e >= plan.len() {
+        return Written::Long;
+    }
+    plan[e] = i;
+    Written::Upto(e + 1)
+}
+
+// The same, and the state and the facts held ever behind them.
+fn advance(bytes: &[u8], table: &[u16], head: &[u16; 4096], chain: &[u16; 1024], masks: &[u64; 64], paint: u64, order: &[u16], sets: &mut [u64; 64], ever: &mut [u64; 64], memo: &mut [u16], i: u16, plan: &mut [u16], at: usize, work: &mut [u16]) -> Written
+    requires { ⌜ Setting (now bytes) (now table) (now head) (now chain) (now masks) paint (now order) × (i < actions (taskOf (now bytes))) × (length (now memo) ≡ 4160) × (length (now work) ≡ length (now plan)) × (at ≤ length (now plan)) × (length (now sets) ≡ 64) × (length (now ever) ≡ 64) ⌝ }
+    ensures { λ r. ⌜ Put (now (plan .entry)) (now (plan .exit)) at (stepsFor (taskOf (now (bytes .entry))) (setsOf (now (ever .entry))) (setsOf (now (sets .entry))) i) r × Ran (taskOf (now (bytes .entry))) (setsOf (now (ever .entry))) (setsOf (now (sets .entry))) (stepsFor (taskOf (now (bytes .entry))) (setsOf (now (ever .entry))) (setsOf (now (sets .entry))) i) (now (sets .exit)) (now (ever .exit)) r × (length (now (sets .exit)) ≡ 64) × (length (now (ever .exit)) ≡ 64) ⌝ }
+{
+    let w = arrange(bytes, table, head, chain, masks, paint, order, sets, ever, memo, i, plan, at, work);
+    let Written::Upto(e) = w else {
+        return Written::Long;
+    };
+    run_list(bytes, table, sets, &plan[at..e], paint);
+    run_list(bytes, table, ever, &plan[at..e], 0);
+    Written::Upto(e)
+}
+
+// The repair of the relaxed plan, from the initial state. The wanted facts are the goals.
+fn repair_from(bytes: &[u8], table: &[u16], head: &[u16; 4096], chain: &[u16; 1024], masks: &[u64; 64], paint: u64, order: &[u16], sets: &mut [u64; 64], ever: &mut [u64; 64], memo: &mut [u16], wanted: &[u16], relaxed: &[u16], plan: &mut [u16], work: &mut [u16]) -> Written
+    requires { ⌜ Setting (now bytes) (now table) (now head) (now chain) (now masks) paint (now order) × Wanted (taskOf (now bytes)) (now wanted) (factsIn (now wanted) 0 (length (now wanted))) × (factsIn (now wanted) 0 (length (now wanted)) ≡ goals (taskOf (now bytes))) × Entries (taskOf (now bytes)) (now relaxed) × (length (now memo) ≡ 4160) × (length (now work) ≡ length (now plan)) ⌝ }
+    requires { ⌜ (length (now sets) ≡ 64) × (length (now ever) ≡ 64) × (setsOf (now sets) ≡ initial (taskOf (now bytes))) × (setsOf (now ever) ≡ initial (taskOf (now bytes))) ⌝ }
+    ensures { λ r. ⌜ Put (now (plan .entry)) (now (plan .exit)) 0 (repaired (taskOf (now (bytes .entry))) (now (relaxed .entry))) r ⌝ }
+{
+    let mut at: usize = 0;
+    let mut j: usize = 0;
+    while j < relaxed.len() {
+        let w = advance(bytes, table, head, chain, masks, paint, order, sets, ever, memo, relaxed[j], plan, at, work);
+        let Written::Upto(x) = w else {
+            return Written::Long;
+        };
+        at = x;
+        j += 1;
+    }
+    moves(bytes, table, head, chain, masks, paint, order, sets, ever, memo, wanted, plan, at, work)
 }
