@@ -136,10 +136,10 @@ module _ (t : Task) (rows : List ℕ) (n : ℕ) (arcs : setsOf rows ≡ blackArc
       taken = λ u. eqb u v || P .taken u;
       still = λ u. rw (one-shl v (omega (arith, taking-found v e .0, P .few)), inSet-xor left (2 ^ v) u, inSet-single v u) (go u (ℕ-discrete u v));
       so-far =
-        let j : n - k ≡ suc (n - (k + 1)) = omega arith in
-        rw (add-one k, take-suc-set vars k v (omega (arith, P .long, P .few)), append-assoc)
-        (sym (ap (λ (l : List ℕ). take k vars ++ l) (takes-one (n - suc k) (P .taken) v (same-first (some v) e)))
-        ∙ (rw (j, add-one k) at (P .so-far)));
+          let j : n - k ≡ suc (n - (k + 1)) = omega arith in
+          rw (add-one k, take-suc-set vars k v (omega (arith, P .long, P .few)), append-assoc)
+          (sym (ap (λ (l : List ℕ). take k vars ++ l) (takes-one (n - suc k) (P .taken) v (same-first (some v) e)))
+          ∙ (rw (j, add-one k) at (P .so-far)));
     }
       where
         go : (u : ℕ) → Dec (u ≡ v) → xor (inSet left u) (eqb u v) ≡ (black t u && not (eqb u v || P .taken u))

@@ -90,9 +90,9 @@ module _ (table : List ℕ) (a b : ℕ) (F : Facts table a b) where
       from = omega (arith, p .from);
       to = omega arith;
       so-far = λ v.
-        rw (one-shl (f / 64) (omega (arith, F .small k (p .from) h)), inSet-or m (2 ^ (f / 64)) v, inSet-single (f / 64) v)
-        (or-assoc (inSet m v) (eqb v (f / 64)) (touches (factsIn table (k + 1) b) v)
-        ∙ (rw (touches-more k h v, ← e) at (p .so-far v)));
+          rw (one-shl (f / 64) (omega (arith, F .small k (p .from) h)), inSet-or m (2 ^ (f / 64)) v, inSet-single (f / 64) v)
+          (or-assoc (inSet m v) (eqb v (f / 64)) (touches (factsIn table (k + 1) b) v)
+          ∙ (rw (touches-more k h v, ← e) at (p .so-far v)));
     }
 
     pub touching-end : b ≤ k → modeOf m ≡ touches (factsIn table a b)

@@ -49,14 +49,7 @@ fn joined(row: u64, affected: u64, u: usize, paint: u64) -> u64
 }
 
 // Arcs from each black variable of the facts from place `from` up to `to`.
-fn add_arcs(
-    rows: &mut [u64; 64],
-    table: &[u16],
-    from: usize,
-    to: usize,
-    affected: u64,
-    paint: u64,
-)
+fn add_arcs(rows: &mut [u64; 64], table: &[u16], from: usize, to: usize, affected: u64, paint: u64)
     requires { ⌜ Facts (now table) from to × (length (now rows) ≡ 64) ⌝ }
     ensures { λ _. ⌜ Rows (now (rows .exit)) (λ u v. setsOf (now (rows .entry)) u v || (touches (factsIn (now (table .entry)) from to) u && ((inSet paint u && not (eqb u v)) && inSet affected v))) ⌝ }
 {
@@ -102,7 +95,11 @@ fn extended(row: u64, k: usize, onward: u64) -> u64
     requires { ⌜ k < 64 ⌝ }
     ensures { λ r. ⌜ modeOf r ≡ (λ v. inSet row v || (inSet row k && inSet onward v)) ⌝ }
 {
-    if (row >> k) % 2 == 1 { row | onward } else { row }
+    if (row >> k) % 2 == 1 {
+        row | onward
+    } else {
+        row
+    }
 }
 
 // Ways through k.
@@ -165,7 +162,11 @@ fn is_ready(row: u64, left: u64, v: usize) -> bool
     requires { ⌜ v < 64 ⌝ }
     ensures { λ r. ⌜ r ≡ (inSet left v && not (someBelow 64 (λ u. inSet left u && inSet row u))) ⌝ }
 {
-    if (left >> v) % 2 == 1 { row & left == 0 } else { false }
+    if (left >> v) % 2 == 1 {
+        row & left == 0
+    } else {
+        false
+    }
 }
 
 // The lowest variable of `left` with no arc to another of them.

@@ -50,7 +50,21 @@ fn next_value(c: usize, d: usize) -> usize
 }
 
 // The path from c to the value that d asks, if it asks one.
-fn lead_to(bytes: &[u8], table: &[u16], head: &[u16; 4096], chain: &[u16; 1024], masks: &[u64; 64], ever: &[u64; 64], memo: &mut [u16], v: usize, n: usize, c: usize, d: usize, list: &mut [u16], at: usize) -> Written
+fn lead_to(
+    bytes: &[u8],
+    table: &[u16],
+    head: &[u16; 4096],
+    chain: &[u16; 1024],
+    masks: &[u64; 64],
+    ever: &[u64; 64],
+    memo: &mut [u16],
+    v: usize,
+    n: usize,
+    c: usize,
+    d: usize,
+    list: &mut [u16],
+    at: usize,
+) -> Written
     requires { ⌜ Ground (now bytes) (now table) (now head) (now chain) (now masks) × T (black (taskOf (now bytes)) v) × (v < 64) × Memo (taskOf (now bytes)) (setsOf (now ever)) v (now memo) ⌝ }
     requires { ⌜ (n ≡ count (taskOf (now bytes)) v) × (n ≤ 64) × (c < n) × (d < 64 → d < n) × (at ≤ length (now list)) ⌝ }
     ensures { λ r. ⌜ Put (now (list .entry)) (now (list .exit)) at (toward (pathsOf (taskOf (now (bytes .entry))) (setsOf (now (ever .entry))) v) c (askedBy d)) r × Memo (taskOf (now (bytes .entry))) (setsOf (now (ever .entry))) v (now (memo .exit)) ⌝ }
@@ -58,16 +72,59 @@ fn lead_to(bytes: &[u8], table: &[u16], head: &[u16; 4096], chain: &[u16; 1024],
     if d >= 64 {
         return Written::Upto(at);
     }
-    paths::path(bytes, table, head, chain, masks, ever, memo, v, n, c, d, list, at)
+    paths::path(
+        bytes,
+        table,
+        head,
+        chain,
+        masks,
+        ever,
+        memo,
+        v,
+        n,
+        c,
+        d,
+        list,
+        at,
+    )
 }
 
 // The same, and action i behind it.
-fn insert(bytes: &[u8], table: &[u16], head: &[u16; 4096], chain: &[u16; 1024], masks: &[u64; 64], ever: &[u64; 64], memo: &mut [u16], v: usize, n: usize, c: usize, d: usize, i: u16, list: &mut [u16], at: usize) -> Written
+fn insert(
+    bytes: &[u8],
+    table: &[u16],
+    head: &[u16; 4096],
+    chain: &[u16; 1024],
+    masks: &[u64; 64],
+    ever: &[u64; 64],
+    memo: &mut [u16],
+    v: usize,
+    n: usize,
+    c: usize,
+    d: usize,
+    i: u16,
+    list: &mut [u16],
+    at: usize,
+) -> Written
     requires { ⌜ Ground (now bytes) (now table) (now head) (now chain) (now masks) × T (black (taskOf (now bytes)) v) × (v < 64) × Memo (taskOf (now bytes)) (setsOf (now ever)) v (now memo) ⌝ }
     requires { ⌜ (n ≡ count (taskOf (now bytes)) v) × (n ≤ 64) × (c < n) × (d < 64 → d < n) × (at ≤ length (now list)) ⌝ }
     ensures { λ r. ⌜ Put (now (list .entry)) (now (list .exit)) at (toward (pathsOf (taskOf (now (bytes .entry))) (setsOf (now (ever .entry))) v) c (askedBy d) ++ (i ∷ [])) r × Memo (taskOf (now (bytes .entry))) (setsOf (now (ever .entry))) v (now (memo .exit)) ⌝ }
 {
-    let w = lead_to(bytes, table, head, chain, masks, ever, memo, v, n, c, d, list, at);
+    let w = lead_to(
+        bytes,
+        table,
+        head,
+        chain,
+        masks,
+        ever,
+        memo,
+        v,
+        n,
+        c,
+        d,
+        list,
+        at,
+    );
     let Written::Upto(e) = w else {
         return Written::Long;
     };
@@ -79,7 +136,21 @@ fn insert(bytes: &[u8], table: &[u16], head: &[u16; 4096], chain: &[u16; 1024], 
 }
 
 // The pass for v, whose value is c, over the list, into another one.
-pub fn pass(bytes: &[u8], table: &[u16], head: &[u16; 4096], chain: &[u16; 1024], masks: &[u64; 64], ever: &[u64; 64], memo: &mut [u16], v: usize, n: usize, start: usize, list: &[u16], wanted: &[u16], out: &mut [u16]) -> Written
+pub fn pass(
+    bytes: &[u8],
+    table: &[u16],
+    head: &[u16; 4096],
+    chain: &[u16; 1024],
+    masks: &[u64; 64],
+    ever: &[u64; 64],
+    memo: &mut [u16],
+    v: usize,
+    n: usize,
+    start: usize,
+    list: &[u16],
+    wanted: &[u16],
+    out: &mut [u16],
+) -> Written
     requires { ⌜ Ground (now bytes) (now table) (now head) (now chain) (now masks) × T (black (taskOf (now bytes)) v) × (v < 64) × Memo (taskOf (now bytes)) (setsOf (now ever)) v (now memo) ⌝ }
     requires { ⌜ (n ≡ count (taskOf (now bytes)) v) × (n ≤ 64) × (start < n) × Entries (taskOf (now bytes)) (now list) × Fitting (taskOf (now bytes)) (factsIn (now wanted) 0 (length (now wanted))) ⌝ }
     ensures { λ r. ⌜ Put (now (out .entry)) (now (out .exit)) 0 (pass (act (taskOf (now (bytes .entry)))) (pathsOf (taskOf (now (bytes .entry))) (setsOf (now (ever .entry))) v) v start (now (list .entry)) (factsIn (now (wanted .entry)) 0 (length (now (wanted .entry))))) r × Memo (taskOf (now (bytes .entry))) (setsOf (now (ever .entry))) v (now (memo .exit)) ⌝ }
@@ -90,7 +161,22 @@ pub fn pass(bytes: &[u8], table: &[u16], head: &[u16; 4096], chain: &[u16; 1024]
     while j < list.len() {
         let i = list[j];
         let d = need(table, wide(i), v);
-        let w = insert(bytes, table, head, chain, masks, ever, memo, v, n, c, d, i, out, e);
+        let w = insert(
+            bytes,
+            table,
+            head,
+            chain,
+            masks,
+            ever,
+            memo,
+            v,
+            n,
+            c,
+            d,
+            i,
+            out,
+            e,
+        );
         let Written::Upto(x) = w else {
             return Written::Long;
         };
@@ -99,5 +185,19 @@ pub fn pass(bytes: &[u8], table: &[u16], head: &[u16; 4096], chain: &[u16; 1024]
         j += 1;
     }
     let d = paths::asked(wanted, 0, wanted.len(), v);
-    lead_to(bytes, table, head, chain, masks, ever, memo, v, n, c, d, out, e)
+    lead_to(
+        bytes,
+        table,
+        head,
+        chain,
+        masks,
+        ever,
+        memo,
+        v,
+        n,
+        c,
+        d,
+        out,
+        e,
+    )
 }

@@ -108,12 +108,15 @@ module _ (t : Task) (F : Formed t) (K : State) (v front e rest : ℕ) (apart : A
             below (no b) = absurd (N .least j (omega arith) jb l s)
 
     pub arriving-end : 1024 ≤ i → Marks (actions t) rest (Enters t K v front (e + 1)) row grow × Kept rest row₀ row
-    arriving-end h = (marks-map (actions t) rest (Before t K v front e i) (Enters t K v front (e + 1)) row grow
-        (λ c j jb D. elim D [
-          | inl d ↦ (d .0, (d .1 .0, omega (arith, d .1 .1), d .1 .2, d .1 .3))
-          | inr d ↦ (d .0, (e, omega arith, m, d .1))
-        ])
-        (λ c j jb D. old c j jb D (ℕ-discrete (D .1 .0) e)) (G .marks), G .kept)
+    arriving-end h = (
+      marks-map (actions t) rest (Before t K v front e i) (Enters t K v front (e + 1)) row grow
+          (λ c j jb D. elim D [
+            | inl d ↦ (d .0, (d .1 .0, omega (arith, d .1 .1), d .1 .2, d .1 .3))
+            | inr d ↦ (d .0, (e, omega arith, m, d .1))
+          ])
+          (λ c j jb D. old c j jb D (ℕ-discrete (D .1 .0) e)) (G .marks),
+      G .kept,
+    )
       where
         last : i ≡ 65535
         last = elim (G .here) [ inl q ↦ q | inr q ↦ absurd (omega (arith, q .0, F .actions-max)) ]

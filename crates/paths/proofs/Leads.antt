@@ -223,7 +223,7 @@ module _ (t : Task) (F : Formed t) (K : State) (v : ℕ) where
       rest-of = λ c b h. rw (rl c) (and-i (ltb c n) (not (eqb c d)) (lt→ltb c n b) (not-T (eqb c d) h));
       fronts = λ e h. rw (fl e) at h;
       cover = λ c i b h x r. rw (fl (target (act t) v i)) r;
-      leads = λ c b h. blank c (omega (arith, F .count-max v)) ∙ sym (ap numberOf (lead-at 0 c (omega arith) h (λ j l. absurd (omega arith)))) ;
+      leads = λ c b h. blank c (omega (arith, F .count-max v)) ∙ sym (ap numberOf (lead-at 0 c (omega arith) h (λ j l. absurd (omega arith))));
       blanks = λ c b h. blank c (omega (arith, F .count-max v));
     }
 
@@ -338,8 +338,8 @@ module _ (t : Task) (F : Formed t) (K : State) (v : ℕ) where
         layered-stop db e c b = elim (T-cases (R k c)) [
           | inl y ↦ kept c b y
           | inr y ↦
-            let x = T-not (R k c) y in
-            unmarked c b x (none c) ∙ sym (ap numberOf (lead-never c (λ j jb r. x (reach-stable n adj d db k (λ c b r. elim (T-cases (R k c)) [ inl z ↦ z | inr z ↦ absurd (none c (reach-marked c b (T-not (R k c) z) r)) ]) j c b r))))
+              let x = T-not (R k c) y in
+              unmarked c b x (none c) ∙ sym (ap numberOf (lead-never c (λ j jb r. x (reach-stable n adj d db k (λ c b r. elim (T-cases (R k c)) [ inl z ↦ z | inr z ↦ absurd (none c (reach-marked c b (T-not (R k c) z) r)) ]) j c b r))))
         ]
           where
             none : (c : ℕ) → T (inSet grow c) → ⊥

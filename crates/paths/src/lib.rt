@@ -73,7 +73,14 @@ fn sources(table: &[u16], i: usize, v: usize, rest: u64) -> u64
 }
 
 // The values of the set from which action i gives a usable arc of v: none if it is not usable.
-fn usable_sources(masks: &[u64; 64], ever: &[u64; 64], table: &[u16], i: usize, v: usize, rest: u64) -> u64
+fn usable_sources(
+    masks: &[u64; 64],
+    ever: &[u64; 64],
+    table: &[u16],
+    i: usize,
+    v: usize,
+    rest: u64,
+) -> u64
     requires { ⌜ Listed (now table) i × (now masks ≡ singles) ⌝ }
     ensures { λ r. ⌜ ((c : ℕ) → inSet r c ≡ (inSet rest c && (holds (setsOf (now (ever .entry))) (actionOf (now (table .entry)) i .pre) && fits (look (actionOf (now (table .entry)) i .pre) v) c))) ⌝ }
 {
@@ -81,7 +88,11 @@ fn usable_sources(masks: &[u64; 64], ever: &[u64; 64], table: &[u16], i: usize, 
     if set == 0 {
         return 0;
     }
-    if state::applies(masks, ever, table, i) { set } else { 0 }
+    if state::applies(masks, ever, table, i) {
+        set
+    } else {
+        0
+    }
 }
 
 fn lesser(a: u16, b: u16) -> u16
@@ -103,7 +114,20 @@ fn mark(row: &mut [u16], set: u64, i: u16)
 }
 
 // The values of the set rest with a usable arc into e are added to the set grow, and the least actions are noted in the row.
-fn arrive(bytes: &[u8], table: &[u16], head: &[u16; 4096], chain: &[u16; 1024], masks: &[u64; 64], ever: &[u64; 64], row: &mut [u16], v: usize, front: u64, e: usize, rest: u64, grow: u64) -> u64
+fn arrive(
+    bytes: &[u8],
+    table: &[u16],
+    head: &[u16; 4096],
+    chain: &[u16; 1024],
+    masks: &[u64; 64],
+    ever: &[u64; 64],
+    row: &mut [u16],
+    v: usize,
+    front: u64,
+    e: usize,
+    rest: u64,
+    grow: u64,
+) -> u64
     requires { ⌜ Ground (now bytes) (now table) (now head) (now chain) (now masks) × T (black (taskOf (now bytes)) v) × (v < 64) × (e < 64) × (length (now row) ≡ 64) ⌝ }
     requires { ⌜ T (inSet front e) × Apart front rest × Marks (actions (taskOf (now bytes))) rest (Enters (taskOf (now bytes)) (setsOf (now ever)) v front e) (now row) grow ⌝ }
     ensures { λ r. ⌜ Marks (actions (taskOf (now (bytes .entry)))) rest (Enters (taskOf (now (bytes .entry))) (setsOf (now (ever .entry))) v front (e + 1)) (now (row .exit)) r × Kept rest (now (row .entry)) (now (row .exit)) ⌝ }
@@ -120,7 +144,18 @@ fn arrive(bytes: &[u8], table: &[u16], head: &[u16; 4096], chain: &[u16; 1024], 
 }
 
 // The layer behind the layer front: values of the set rest with a usable arc into front, the least action noted for each.
-fn layer(bytes: &[u8], table: &[u16], head: &[u16; 4096], chain: &[u16; 1024], masks: &[u64; 64], ever: &[u64; 64], row: &mut [u16], v: usize, front: u64, rest: u64) -> u64
+fn layer(
+    bytes: &[u8],
+    table: &[u16],
+    head: &[u16; 4096],
+    chain: &[u16; 1024],
+    masks: &[u64; 64],
+    ever: &[u64; 64],
+    row: &mut [u16],
+    v: usize,
+    front: u64,
+    rest: u64,
+) -> u64
     requires { ⌜ Ground (now bytes) (now table) (now head) (now chain) (now masks) × T (black (taskOf (now bytes)) v) × (v < 64) × (length (now row) ≡ 64) ⌝ }
     requires { ⌜ Apart front rest × Marks (actions (taskOf (now bytes))) rest (Enters (taskOf (now bytes)) (setsOf (now ever)) v front 0) (now row) 0 ⌝ }
     ensures { λ r. ⌜ Marks (actions (taskOf (now (bytes .entry)))) rest (Enters (taskOf (now (bytes .entry))) (setsOf (now (ever .entry))) v front 64) (now (row .exit)) r × Kept rest (now (row .entry)) (now (row .exit)) ⌝ }
@@ -128,14 +163,38 @@ fn layer(bytes: &[u8], table: &[u16], head: &[u16; 4096], chain: &[u16; 1024], m
     let mut g: u64 = 0;
     let mut e = next_member(front, 0);
     while e < 64 {
-        g = arrive(bytes, table, head, chain, masks, ever, row, v, front, e, rest, g);
+        g = arrive(
+            bytes,
+            table,
+            head,
+            chain,
+            masks,
+            ever,
+            row,
+            v,
+            front,
+            e,
+            rest,
+            g,
+        );
         e = next_member(front, e + 1);
     }
     g
 }
 
 // The row of leads to d, of a variable with n values.
-fn towards(bytes: &[u8], table: &[u16], head: &[u16; 4096], chain: &[u16; 1024], masks: &[u64; 64], ever: &[u64; 64], row: &mut [u16], v: usize, n: usize, d: usize)
+fn towards(
+    bytes: &[u8],
+    table: &[u16],
+    head: &[u16; 4096],
+    chain: &[u16; 1024],
+    masks: &[u64; 64],
+    ever: &[u64; 64],
+    row: &mut [u16],
+    v: usize,
+    n: usize,
+    d: usize,
+)
     requires { ⌜ Ground (now bytes) (now table) (now head) (now chain) (now masks) × T (black (taskOf (now bytes)) v) × (v < 64) × (length (now row) ≡ 64) ⌝ }
     requires { ⌜ (n ≡ count (taskOf (now bytes)) v) × (n ≤ 64) × (d < n) ⌝ }
     ensures { λ _. ⌜ Leads (taskOf (now (bytes .entry))) (setsOf (now (ever .entry))) v d (now (row .exit)) ⌝ }
@@ -165,7 +224,17 @@ fn target(table: &[u16], i: usize, v: usize) -> usize
 }
 
 // The path from c to d by the row of leads to d, written into the list from place `at` on.
-fn walk(bytes: &[u8], table: &[u16], ever: &[u64; 64], row: &[u16], v: usize, c: usize, d: usize, list: &mut [u16], at: usize) -> Written
+fn walk(
+    bytes: &[u8],
+    table: &[u16],
+    ever: &[u64; 64],
+    row: &[u16],
+    v: usize,
+    c: usize,
+    d: usize,
+    list: &mut [u16],
+    at: usize,
+) -> Written
     requires { ⌜ (recordCheck (now bytes) ≡ none) × Tabled (taskOf (now bytes)) (now table) × Leads (taskOf (now bytes)) (setsOf (now ever)) v d (now row) ⌝ }
     requires { ⌜ (length (now row) ≡ 64) × (c < count (taskOf (now bytes)) v) × (at ≤ length (now list)) ⌝ }
     ensures { λ r. ⌜ Put (now (list .entry)) (now (list .exit)) at (shortest (act (taskOf (now (bytes .entry)))) (actions (taskOf (now (bytes .entry)))) (setsOf (now (ever .entry))) v (count (taskOf (now (bytes .entry))) v) c d) r ⌝ }
@@ -186,7 +255,18 @@ fn walk(bytes: &[u8], table: &[u16], ever: &[u64; 64], row: &[u16], v: usize, c:
 }
 
 // The row of leads to d stands in the memo: it is searched for if it does not yet.
-fn prepare(bytes: &[u8], table: &[u16], head: &[u16; 4096], chain: &[u16; 1024], masks: &[u64; 64], ever: &[u64; 64], memo: &mut [u16], v: usize, n: usize, d: usize)
+fn prepare(
+    bytes: &[u8],
+    table: &[u16],
+    head: &[u16; 4096],
+    chain: &[u16; 1024],
+    masks: &[u64; 64],
+    ever: &[u64; 64],
+    memo: &mut [u16],
+    v: usize,
+    n: usize,
+    d: usize,
+)
     requires { ⌜ Ground (now bytes) (now table) (now head) (now chain) (now masks) × T (black (taskOf (now bytes)) v) × (v < 64) × Memo (taskOf (now bytes)) (setsOf (now ever)) v (now memo) ⌝ }
     requires { ⌜ (n ≡ count (taskOf (now bytes)) v) × (n ≤ 64) × (d < n) ⌝ }
     ensures { λ _. ⌜ Memo (taskOf (now (bytes .entry))) (setsOf (now (ever .entry))) v (now (memo .exit)) × (getD (now (memo .exit)) (4096 + d) 0 ≡ 1) ⌝ }
@@ -196,13 +276,38 @@ fn prepare(bytes: &[u8], table: &[u16], head: &[u16; 4096], chain: &[u16; 1024],
     }
     let from = 64 * d;
     let to = from + 64;
-    towards(bytes, table, head, chain, masks, ever, &mut memo[from..to], v, n, d);
+    towards(
+        bytes,
+        table,
+        head,
+        chain,
+        masks,
+        ever,
+        &mut memo[from..to],
+        v,
+        n,
+        d,
+    );
     memo[4096 + d] = 1;
 }
 
 // The shortest path of v from c to d along usable arcs, of those the one whose action numbers are smallest, compared first to
 // last: written into the list from place `at` on.
-pub fn path(bytes: &[u8], table: &[u16], head: &[u16; 4096], chain: &[u16; 1024], masks: &[u64; 64], ever: &[u64; 64], memo: &mut [u16], v: usize, n: usize, c: usize, d: usize, list: &mut [u16], at: usize) -> Written
+pub fn path(
+    bytes: &[u8],
+    table: &[u16],
+    head: &[u16; 4096],
+    chain: &[u16; 1024],
+    masks: &[u64; 64],
+    ever: &[u64; 64],
+    memo: &mut [u16],
+    v: usize,
+    n: usize,
+    c: usize,
+    d: usize,
+    list: &mut [u16],
+    at: usize,
+) -> Written
     requires { ⌜ Ground (now bytes) (now table) (now head) (now chain) (now masks) × T (black (taskOf (now bytes)) v) × (v < 64) × Memo (taskOf (now bytes)) (setsOf (now ever)) v (now memo) ⌝ }
     requires { ⌜ (n ≡ count (taskOf (now bytes)) v) × (n ≤ 64) × (c < n) × (d < n) × (at ≤ length (now list)) ⌝ }
     ensures { λ r. ⌜ Put (now (list .entry)) (now (list .exit)) at (shortest (act (taskOf (now (bytes .entry)))) (actions (taskOf (now (bytes .entry)))) (setsOf (now (ever .entry))) v (count (taskOf (now (bytes .entry))) v) c d) r × Memo (taskOf (now (bytes .entry))) (setsOf (now (ever .entry))) v (now (memo .exit)) ⌝ }

@@ -4,3 +4,4 @@ pub mod Serving
 pub mod Filling
 pub mod Arranging
 pub mod Repairing
+pub mod Ending

@@ -37,9 +37,11 @@ module _ (plan work L : List ℕ) (a k : ℕ) (same : length work ≡ length pla
     rebuilt-long = omega (arith, length-append (take a work) (ys ++ drop k (drop a work)), length-append ys (drop k (drop a work)), length-take-le a work (omega arith), long, part-length, length-drop k (drop a work), length-drop a work)
 
     pub serve-done : (plan′ : List ℕ) → plan′ ≡ paste plan a (take (length rebuilt - a) (drop a rebuilt)) n → Put plan plan′ a L (Upto (a + n))
-    serve-done plan′ s =
-        (omega (arith, told .0), serve-fits .1,
-        rw (s, rebuilt-part (length rebuilt - a) rebuilt-long, take-paste plan a ys n h (omega (arith, told .1, part-length, long)), told .2) refl)
+    serve-done plan′ s = (
+      omega (arith, told .0),
+      serve-fits .1,
+      rw (s, rebuilt-part (length rebuilt - a) rebuilt-long, take-paste plan a ys n h (omega (arith, told .1, part-length, long)), told .2) refl,
+    )
 
     pub serve-room : n ≤ length (take (length rebuilt - a) (drop a rebuilt))
     serve-room = rw (rebuilt-part (length rebuilt - a) rebuilt-long) (omega (arith, told .1, long))

@@ -3,7 +3,7 @@ use mathlib.Core.Path.{_≡_}
 use mathlib.Core.Bool.{Bool, true, false}
 use mathlib.Core.List.{List, [], _∷_, _++_}
 use Prim.Native.Nat.{ℕ, _+_, _<_, _≤_}
-use lib.ListN.{length, getD}
+use lib.ListN.{length, getD, take}
 use Rattle.planning.specs.Record.{Fact, Task, taskOf}
 use Rattle.planning.specs.Runs.{State, relaxed, run, actions, count, act, black}
 use Rattle.planning.specs.Repair.{order, fill, value, blackMet}
@@ -12,6 +12,8 @@ use Rattle.paths.specs.Paths.{Ground}
 use Rattle.paths.specs.declared.Written.{Written}
 use Rattle.paths.specs.declared.Written.the-variants.{Upto, Long}
 use Rattle.passes.specs.Passes.{pathsOf, Fitting}
+use Rattle.repair.specs.declared.Repaired.{Repaired}
+use Rattle.repair.specs.declared.Repaired.the-variants.{Steps, TooLong}
 
 -- the ground of the searches, the black variables as a set, and their clients-first order
 pub record Setting (s table head chain masks : List ℕ) (paint : ℕ) (ordered : List ℕ) : Type 0 where
@@ -40,3 +42,8 @@ stepsFor t K s i = movesFor t K s (act t i .pre) ++ (i ∷ [])
 abbrev pub Ran : Task → State → State → List ℕ → List ℕ → List ℕ → Written → Type 0
 Ran t K s k sets ever (Upto e) = (setsOf sets ≡ run (act t) (black t) k s) × (setsOf ever ≡ run (act t) relaxed k K)
 Ran t K s k sets ever Long = Unit {0}
+
+-- the list l fills the front of d, which has room for it; or it is longer than the room
+abbrev pub Held : List ℕ → List ℕ → ℕ → Repaired → Type 0
+Held l d room (Steps n) = (n ≡ length l) × (n ≤ room) × (take n d ≡ l)
+Held l d room TooLong = room < length l

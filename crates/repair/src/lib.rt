@@ -2,11 +2,13 @@
 // each pass rebuilds the moves in the work list. Passes only insert and applying only appends, so as soon as steps and moves do
 // not fit, the whole plan does not.
 use paths::Written;
+use state::Goals;
+use state::State;
 ghost use mathlib.Core.Path.{_≡_};
 ghost use mathlib.Core.Bool.{true, false, not, _&&_};
 ghost use mathlib.Core.List.{_++_, _∷_, []};
 ghost use mathlib.Core.Option.{none};
-ghost use Prim.Native.Nat.{ℕ, _+_, _-_, _*_, _/_, _%_, _^_, _<_, _≤_};
+ghost use Prim.Native.Nat.{ℕ, _+_, _-_, _*_, _/_, _%_, _^_, _<_, _≤_, min};
 ghost use lib.Dec.{T};
 ghost use lib.Count.{trailingZeros};
 ghost use lib.ListN.{length, getD, take, drop};
@@ -18,7 +20,8 @@ ghost use Rattle.table.specs.Table.{factsIn, Tabled};
 ghost use Rattle.state.specs.Sets.{setsOf, modeOf, mixed, actionOf, Listed, singles};
 ghost use Rattle.paths.specs.Paths.{Put};
 ghost use Rattle.passes.specs.Passes.{pathsOf, Entries};
-ghost use Rattle.repair.specs.Repairs.{Setting, Wanted, filled, movesFor, stepsFor, Ran};
+ghost use Rattle.repair.specs.Repairs.{Setting, Wanted, filled, movesFor, stepsFor, Ran, Held};
+ghost use Rattle.planning.specs.Calls.{capacityOf};
 
 fn wide(x: u16) -> usize
     ensures { λ r. ⌜ r ≡ x ⌝ }
@@ -124,7 +127,24 @@ fn run_list(bytes: &[u8], table: &[u16], sets: &mut [u64; 64], list: &[u16], mod
 }
 
 // The pass for v over the moves that stand in the plan from place `at` up to e.
-fn serve(bytes: &[u8], table: &[u16], head: &[u16; 4096], chain: &[u16; 1024], masks: &[u64; 64], paint: u64, order: &[u16], sets: &[u64; 64], ever: &[u64; 64], memo: &mut [u16], v: usize, wanted: &[u16], plan: &mut [u16], at: usize, e: usize, work: &mut [u16]) -> Written
+fn serve(
+    bytes: &[u8],
+    table: &[u16],
+    head: &[u16; 4096],
+    chain: &[u16; 1024],
+    masks: &[u64; 64],
+    paint: u64,
+    order: &[u16],
+    sets: &[u64; 64],
+    ever: &[u64; 64],
+    memo: &mut [u16],
+    v: usize,
+    wanted: &[u16],
+    plan: &mut [u16],
+    at: usize,
+    e: usize,
+    work: &mut [u16],
+) -> Written
     requires { ⌜ Setting (now bytes) (now table) (now head) (now chain) (now masks) paint (now order) × Wanted (taskOf (now bytes)) (now wanted) (factsIn (now wanted) 0 (length (now wanted))) × (length (now memo) ≡ 4160) × (length (now work) ≡ length (now plan)) ⌝ }
     requires { ⌜ (v < variables (taskOf (now bytes))) × T (black (taskOf (now bytes)) v) × (at ≤ e) × (e ≤ length (now plan)) × Entries (taskOf (now bytes)) (take (e - at) (drop at (now plan))) ⌝ }
     ensures { λ r. ⌜ Put (now (plan .entry)) (now (plan .exit)) at (pass (act (taskOf (now (bytes .entry)))) (pathsOf (taskOf (now (bytes .entry))) (setsOf (now (ever .entry))) v) v (value (count (taskOf (now (bytes .entry)))) (setsOf (now (sets .entry))) v) (take (e - at) (drop at (now (plan .entry)))) (factsIn (now (wanted .entry)) 0 (length (now (wanted .entry))))) r ⌝ }
@@ -132,7 +152,21 @@ fn serve(bytes: &[u8], table: &[u16], head: &[u16; 4096], chain: &[u16; 1024], m
     passes::forget(memo);
     let n = table::count(bytes, v);
     let c = value(sets, v, n, bytes);
-    let w = passes::pass(bytes, table, head, chain, masks, ever, memo, v, n, c, &plan[at..e], wanted, &mut work[at..]);
+    let w = passes::pass(
+        bytes,
+        table,
+        head,
+        chain,
+        masks,
+        ever,
+        memo,
+        v,
+        n,
+        c,
+        &plan[at..e],
+        wanted,
+        &mut work[at..],
+    );
     let Written::Upto(len) = w else {
         return Written::Long;
     };
@@ -141,14 +175,46 @@ fn serve(bytes: &[u8], table: &[u16], head: &[u16; 4096], chain: &[u16; 1024], m
 }
 
 // The passes of the black variables in their order: moves for the wanted facts, from place `at` on.
-fn fill(bytes: &[u8], table: &[u16], head: &[u16; 4096], chain: &[u16; 1024], masks: &[u64; 64], paint: u64, order: &[u16], sets: &[u64; 64], ever: &[u64; 64], memo: &mut [u16], wanted: &[u16], plan: &mut [u16], at: usize, work: &mut [u16]) -> Written
+fn fill(
+    bytes: &[u8],
+    table: &[u16],
+    head: &[u16; 4096],
+    chain: &[u16; 1024],
+    masks: &[u64; 64],
+    paint: u64,
+    order: &[u16],
+    sets: &[u64; 64],
+    ever: &[u64; 64],
+    memo: &mut [u16],
+    wanted: &[u16],
+    plan: &mut [u16],
+    at: usize,
+    work: &mut [u16],
+) -> Written
     requires { ⌜ Setting (now bytes) (now table) (now head) (now chain) (now masks) paint (now order) × Wanted (taskOf (now bytes)) (now wanted) (factsIn (now wanted) 0 (length (now wanted))) × (length (now memo) ≡ 4160) × (length (now work) ≡ length (now plan)) × (at ≤ length (now plan)) ⌝ }
     ensures { λ r. ⌜ Put (now (plan .entry)) (now (plan .exit)) at (filled (taskOf (now (bytes .entry))) (setsOf (now (ever .entry))) (setsOf (now (sets .entry))) (now (order .entry)) [] (factsIn (now (wanted .entry)) 0 (length (now (wanted .entry))))) r ⌝ }
 {
     let mut e = at;
     let mut p: usize = 0;
     while p < order.len() {
-        let w = serve(bytes, table, head, chain, masks, paint, order, sets, ever, memo, wide(order[p]), wanted, plan, at, e, work);
+        let w = serve(
+            bytes,
+            table,
+            head,
+            chain,
+            masks,
+            paint,
+            order,
+            sets,
+            ever,
+            memo,
+            wide(order[p]),
+            wanted,
+            plan,
+            at,
+            e,
+            work,
+        );
         let Written::Upto(x) = w else {
             return Written::Long;
         };
@@ -159,25 +225,85 @@ fn fill(bytes: &[u8], table: &[u16], head: &[u16; 4096], chain: &[u16; 1024], ma
 }
 
 // The moves for the wanted facts, none if the black ones are met.
-fn moves(bytes: &[u8], table: &[u16], head: &[u16; 4096], chain: &[u16; 1024], masks: &[u64; 64], paint: u64, order: &[u16], sets: &[u64; 64], ever: &[u64; 64], memo: &mut [u16], wanted: &[u16], plan: &mut [u16], at: usize, work: &mut [u16]) -> Written
+fn moves(
+    bytes: &[u8],
+    table: &[u16],
+    head: &[u16; 4096],
+    chain: &[u16; 1024],
+    masks: &[u64; 64],
+    paint: u64,
+    order: &[u16],
+    sets: &[u64; 64],
+    ever: &[u64; 64],
+    memo: &mut [u16],
+    wanted: &[u16],
+    plan: &mut [u16],
+    at: usize,
+    work: &mut [u16],
+) -> Written
     requires { ⌜ Setting (now bytes) (now table) (now head) (now chain) (now masks) paint (now order) × Wanted (taskOf (now bytes)) (now wanted) (factsIn (now wanted) 0 (length (now wanted))) × (length (now memo) ≡ 4160) × (length (now work) ≡ length (now plan)) × (at ≤ length (now plan)) ⌝ }
     ensures { λ r. ⌜ Put (now (plan .entry)) (now (plan .exit)) at (movesFor (taskOf (now (bytes .entry))) (setsOf (now (ever .entry))) (setsOf (now (sets .entry))) (factsIn (now (wanted .entry)) 0 (length (now (wanted .entry))))) r ⌝ }
 {
     if black_met(masks, sets, wanted, paint) {
         return Written::Upto(at);
     }
-    fill(bytes, table, head, chain, masks, paint, order, sets, ever, memo, wanted, plan, at, work)
+    fill(
+        bytes,
+        table,
+        head,
+        chain,
+        masks,
+        paint,
+        order,
+        sets,
+        ever,
+        memo,
+        wanted,
+        plan,
+        at,
+        work,
+    )
 }
 
 // The moves for action i, and the action behind them.
-fn arrange(bytes: &[u8], table: &[u16], head: &[u16; 4096], chain: &[u16; 1024], masks: &[u64; 64], paint: u64, order: &[u16], sets: &[u64; 64], ever: &[u64; 64], memo: &mut [u16], i: u16, plan: &mut [u16], at: usize, work: &mut [u16]) -> Written
+fn arrange(
+    bytes: &[u8],
+    table: &[u16],
+    head: &[u16; 4096],
+    chain: &[u16; 1024],
+    masks: &[u64; 64],
+    paint: u64,
+    order: &[u16],
+    sets: &[u64; 64],
+    ever: &[u64; 64],
+    memo: &mut [u16],
+    i: u16,
+    plan: &mut [u16],
+    at: usize,
+    work: &mut [u16],
+) -> Written
     requires { ⌜ Setting (now bytes) (now table) (now head) (now chain) (now masks) paint (now order) × (i < actions (taskOf (now bytes))) × (length (now memo) ≡ 4160) × (length (now work) ≡ length (now plan)) × (at ≤ length (now plan)) ⌝ }
     ensures { λ r. ⌜ Put (now (plan .entry)) (now (plan .exit)) at (stepsFor (taskOf (now (bytes .entry))) (setsOf (now (ever .entry))) (setsOf (now (sets .entry))) i) r ⌝ }
 {
     let k = wide(i);
     let from = wide(table[4 * k + 1]);
     let to = wide(table[4 * k + 2]);
-    let w = moves(bytes, table, head, chain, masks, paint, order, sets, ever, memo, &table[from..to], plan, at, work);
+    let w = moves(
+        bytes,
+        table,
+        head,
+        chain,
+        masks,
+        paint,
+        order,
+        sets,
+        ever,
+        memo,
+        &table[from..to],
+        plan,
+        at,
+        work,
+    );
     let Written::Upto(e) = w else {
         return Written::Long;
     };
@@ -189,11 +315,41 @@ fn arrange(bytes: &[u8], table: &[u16], head: &[u16; 4096], chain: &[u16; 1024],
 }
 
 // The same, and the state and the facts held ever behind them.
-fn advance(bytes: &[u8], table: &[u16], head: &[u16; 4096], chain: &[u16; 1024], masks: &[u64; 64], paint: u64, order: &[u16], sets: &mut [u64; 64], ever: &mut [u64; 64], memo: &mut [u16], i: u16, plan: &mut [u16], at: usize, work: &mut [u16]) -> Written
+fn advance(
+    bytes: &[u8],
+    table: &[u16],
+    head: &[u16; 4096],
+    chain: &[u16; 1024],
+    masks: &[u64; 64],
+    paint: u64,
+    order: &[u16],
+    sets: &mut [u64; 64],
+    ever: &mut [u64; 64],
+    memo: &mut [u16],
+    i: u16,
+    plan: &mut [u16],
+    at: usize,
+    work: &mut [u16],
+) -> Written
     requires { ⌜ Setting (now bytes) (now table) (now head) (now chain) (now masks) paint (now order) × (i < actions (taskOf (now bytes))) × (length (now memo) ≡ 4160) × (length (now work) ≡ length (now plan)) × (at ≤ length (now plan)) × (length (now sets) ≡ 64) × (length (now ever) ≡ 64) ⌝ }
     ensures { λ r. ⌜ Put (now (plan .entry)) (now (plan .exit)) at (stepsFor (taskOf (now (bytes .entry))) (setsOf (now (ever .entry))) (setsOf (now (sets .entry))) i) r × Ran (taskOf (now (bytes .entry))) (setsOf (now (ever .entry))) (setsOf (now (sets .entry))) (stepsFor (taskOf (now (bytes .entry))) (setsOf (now (ever .entry))) (setsOf (now (sets .entry))) i) (now (sets .exit)) (now (ever .exit)) r × (length (now (sets .exit)) ≡ 64) × (length (now (ever .exit)) ≡ 64) ⌝ }
 {
-    let w = arrange(bytes, table, head, chain, masks, paint, order, sets, ever, memo, i, plan, at, work);
+    let w = arrange(
+        bytes,
+        table,
+        head,
+        chain,
+        masks,
+        paint,
+        order,
+        sets,
+        ever,
+        memo,
+        i,
+        plan,
+        at,
+        work,
+    );
     let Written::Upto(e) = w else {
         return Written::Long;
     };
@@ -203,7 +359,22 @@ fn advance(bytes: &[u8], table: &[u16], head: &[u16; 4096], chain: &[u16; 1024],
 }
 
 // The repair of the relaxed plan, from the initial state. The wanted facts are the goals.
-fn repair_from(bytes: &[u8], table: &[u16], head: &[u16; 4096], chain: &[u16; 1024], masks: &[u64; 64], paint: u64, order: &[u16], sets: &mut [u64; 64], ever: &mut [u64; 64], memo: &mut [u16], wanted: &[u16], relaxed: &[u16], plan: &mut [u16], work: &mut [u16]) -> Written
+fn repair_from(
+    bytes: &[u8],
+    table: &[u16],
+    head: &[u16; 4096],
+    chain: &[u16; 1024],
+    masks: &[u64; 64],
+    paint: u64,
+    order: &[u16],
+    sets: &mut [u64; 64],
+    ever: &mut [u64; 64],
+    memo: &mut [u16],
+    wanted: &[u16],
+    relaxed: &[u16],
+    plan: &mut [u16],
+    work: &mut [u16],
+) -> Written
     requires { ⌜ Setting (now bytes) (now table) (now head) (now chain) (now masks) paint (now order) × Wanted (taskOf (now bytes)) (now wanted) (factsIn (now wanted) 0 (length (now wanted))) × (factsIn (now wanted) 0 (length (now wanted)) ≡ goals (taskOf (now bytes))) × Entries (taskOf (now bytes)) (now relaxed) × (length (now memo) ≡ 4160) × (length (now work) ≡ length (now plan)) ⌝ }
     requires { ⌜ (length (now sets) ≡ 64) × (length (now ever) ≡ 64) × (setsOf (now sets) ≡ initial (taskOf (now bytes))) × (setsOf (now ever) ≡ initial (taskOf (now bytes))) ⌝ }
     ensures { λ r. ⌜ Put (now (plan .entry)) (now (plan .exit)) 0 (repaired (taskOf (now (bytes .entry))) (now (relaxed .entry))) r ⌝ }
@@ -211,12 +382,149 @@ fn repair_from(bytes: &[u8], table: &[u16], head: &[u16; 4096], chain: &[u16; 10
     let mut at: usize = 0;
     let mut j: usize = 0;
     while j < relaxed.len() {
-        let w = advance(bytes, table, head, chain, masks, paint, order, sets, ever, memo, relaxed[j], plan, at, work);
+        let w = advance(
+            bytes,
+            table,
+            head,
+            chain,
+            masks,
+            paint,
+            order,
+            sets,
+            ever,
+            memo,
+            relaxed[j],
+            plan,
+            at,
+            work,
+        );
         let Written::Upto(x) = w else {
             return Written::Long;
         };
         at = x;
         j += 1;
     }
-    moves(bytes, table, head, chain, masks, paint, order, sets, ever, memo, wanted, plan, at, work)
+    moves(
+        bytes,
+        table,
+        head,
+        chain,
+        masks,
+        paint,
+        order,
+        sets,
+        ever,
+        memo,
+        wanted,
+        plan,
+        at,
+        work,
+    )
+}
+
+// How the repair of a relaxed plan ends: its number of steps, or that it is longer than the capacity.
+pub enum Repaired {
+    Steps(u32),
+    TooLong,
+}
+
+fn lesser(a: usize, b: usize) -> usize
+    ensures { λ r. ⌜ r ≡ min a b ⌝ }
+{
+    if a < b { a } else { b }
+}
+
+// "Capacity is the least of their lengths and 32,768."
+fn capacity(plan: usize, work: usize) -> usize
+    ensures { λ r. ⌜ r ≡ capacityOf plan work ⌝ }
+{
+    lesser(lesser(plan, work), 32768)
+}
+
+fn sets_of(s: State) -> [u64; 64]
+    ensures { λ r. ⌜ (r ≡ s .sets) × (length r ≡ 64) ⌝ }
+{
+    s.sets
+}
+
+fn facts_of(g: Goals) -> [u16; 64]
+    ensures { λ r. ⌜ (r ≡ g .facts) × (length r ≡ 64) ⌝ }
+{
+    g.facts
+}
+
+// The repair with its state, its goals and its memo.
+fn repair_with(
+    bytes: &[u8],
+    table: &[u16],
+    head: &[u16; 4096],
+    chain: &[u16; 1024],
+    masks: &[u64; 64],
+    paint: u64,
+    order: &[u16],
+    relaxed: &[u16],
+    plan: &mut [u16],
+    work: &mut [u16],
+) -> Written
+    requires { ⌜ Setting (now bytes) (now table) (now head) (now chain) (now masks) paint (now order) × Entries (taskOf (now bytes)) (now relaxed) × (length (now work) ≡ length (now plan)) ⌝ }
+    ensures { λ r. ⌜ Put (now (plan .entry)) (now (plan .exit)) 0 (repaired (taskOf (now (bytes .entry))) (now (relaxed .entry))) r ⌝ }
+{
+    let start = State::initial(bytes);
+    let mut sets = sets_of(start);
+    let mut ever = sets_of(start);
+    let goals = Goals::load(bytes);
+    let facts = facts_of(goals);
+    let count = goals.count;
+    let mut memo = [0u16; 4160];
+    repair_from(
+        bytes,
+        table,
+        head,
+        chain,
+        masks,
+        paint,
+        order,
+        &mut sets,
+        &mut ever,
+        &mut memo,
+        &facts[..count],
+        relaxed,
+        plan,
+        work,
+    )
+}
+
+// The repair of a relaxed plan, in lists of any length.
+pub fn repair(
+    bytes: &[u8],
+    table: &[u16],
+    head: &[u16; 4096],
+    chain: &[u16; 1024],
+    masks: &[u64; 64],
+    paint: u64,
+    order: &[u16],
+    relaxed: &[u16],
+    plan: &mut [u16],
+    work: &mut [u16],
+) -> Repaired
+    requires { ⌜ Setting (now bytes) (now table) (now head) (now chain) (now masks) paint (now order) × Entries (taskOf (now bytes)) (now relaxed) ⌝ }
+    ensures { λ r. ⌜ Held (repaired (taskOf (now (bytes .entry))) (now (relaxed .entry))) (now (plan .exit)) (capacityOf (length (now (plan .entry))) (length (now (work .entry)))) r ⌝ }
+{
+    let room = capacity(plan.len(), work.len());
+    let w = repair_with(
+        bytes,
+        table,
+        head,
+        chain,
+        masks,
+        paint,
+        order,
+        relaxed,
+        &mut plan[..room],
+        &mut work[..room],
+    );
+    let Written::Upto(n) = w else {
+        return Repaired::TooLong;
+    };
+    Repaired::Steps(n as u32)
 }
