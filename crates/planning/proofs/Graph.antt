@@ -45,7 +45,7 @@ module _ (n : ℕ) (adj : ℕ → ℕ → Bool) where
 
   module _ (d : ℕ) (inside : d < n) where
     -- no node comes with the next move: none ever comes
-    reach-stable : (k : ℕ) → ((c : ℕ) → c < n → T (reach n adj (suc k) c d) → T (reach n adj k c d)) → (j c : ℕ) → c < n → T (reach n adj j c d) → T (reach n adj k c d)
+    pub reach-stable : (k : ℕ) → ((c : ℕ) → c < n → T (reach n adj (suc k) c d) → T (reach n adj k c d)) → (j c : ℕ) → c < n → T (reach n adj j c d) → T (reach n adj k c d)
     reach-stable k h zero c b t = rw (reach-zero c d t) (reach-here k d)
     reach-stable k h (suc j) c b t = go (reach-cases j c d t) (reach-stable k h j)
       where

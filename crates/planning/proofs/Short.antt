@@ -40,7 +40,7 @@ module _ (act : ℕ → Action) (A : ℕ) (W : State) (v n : ℕ) (pres : (i : �
   Way c p d = Walk act (Usable act A W v) v c p d
 
   -- a hop is a move of a walk, and a move that leaves its value is a hop
-  hop-elim : (c i : ℕ) → i < A → T (hop act W v c i) → Usable act A W v i × Arc act v i c (target act v i)
+  pub hop-elim : (c i : ℕ) → i < A → T (hop act W v c i) → Usable act A W v i × Arc act v i c (target act v i)
   unfolding hop
   hop-elim c i b t =
       let a = arcFrom-elim act v c i (pres i b) (search and-r) in
@@ -52,13 +52,13 @@ module _ (act : ℕ → Action) (A : ℕ) (W : State) (v n : ℕ) (pres : (i : �
       let r = arcFrom-intro act v c d i (effs i (u .below)) a in
       (and-i (holds W (act i .pre)) (arcFrom act v c i) (sub→holds W (act i .pre) (u .met)) (r .0), r .1)
 
-  adjacent-elim : (c e : ℕ) → T (adjacent act A W v c e) → (i : ℕ) × (i < A) × T (hop act W v c i) × (target act v i ≡ e)
+  pub adjacent-elim : (c e : ℕ) → T (adjacent act A W v c e) → (i : ℕ) × (i < A) × T (hop act W v c i) × (target act v i ≡ e)
   unfolding adjacent
   adjacent-elim c e t =
       let r = some-elim A (λ i. hop act W v c i && eqb (target act v i) e) t in
       (r .0, r .1, and-l (hop act W v c (r .0)) (eqb (target act v (r .0)) e) (r .2), eqb→eq (target act v (r .0)) e (and-r (hop act W v c (r .0)) (eqb (target act v (r .0)) e) (r .2)))
 
-  hop→adjacent : (c i : ℕ) → i < A → T (hop act W v c i) → T (adjacent act A W v c (target act v i))
+  pub hop→adjacent : (c i : ℕ) → i < A → T (hop act W v c i) → T (adjacent act A W v c (target act v i))
   unfolding adjacent
   hop→adjacent c i b t = some-intro A (λ j. hop act W v c j && eqb (target act v j) (target act v i)) i b (and-i (hop act W v c i) (eqb (target act v i) (target act v i)) t (eqb-refl (target act v i)))
 

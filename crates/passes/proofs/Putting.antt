@@ -1,0 +1,112 @@
+-- Lists written into a list, one behind the other; the value that is asked; the memo with no row.
+use mathlib.Core.Path.{_≡_, refl, sym, ap, _∙_, subst}
+use mathlib.Core.List.{List, [], _∷_, _++_, append-assoc, append-nil}
+use mathlib.Core.Option.{Option, none, some}
+use Prim.Native.Nat.{ℕ, _+_, _-_, _*_, _<_, _≤_}
+use native.Mathlib.Numerals.{add-one}
+use native.Mathlib.Omega.{arith}
+use native.Mathlib.Decide.{ℕ-discrete}
+use borrow.Author.Tests.{lt-ltb, le-ltb}
+use lib.ListN.{length, getD, set, take, length-set, length-append}
+use lib.Seq.{take-suc-set, getD-set-same, getD-set-other}
+use Rattle.planning.specs.Record.{Fact, Task}
+use Rattle.planning.specs.Runs.{State, look, count, act}
+use Rattle.planning.specs.Repair.{toward, after}
+use Rattle.planning.proofs.Facts.{look-some}
+use Rattle.planning.proofs.Formed.{Formed, sorted-has}
+use Rattle.table.specs.Table.{factsIn, preAt, effAt}
+use Rattle.state.specs.Sets.{actionOf}
+use Rattle.paths.specs.Paths.{Asked, Memo, Put}
+use Rattle.paths.specs.declared.Written.{Written}
+use Rattle.paths.specs.declared.Written.the-variants.{Upto, Long}
+use Rattle.passes.specs.Passes.{askedBy, Fitting, Blank}
+
+pub asked-some : (d : ℕ) → d < 64 → askedBy d ≡ some d
+unfolding askedBy
+asked-some d h = rw (lt-ltb d 64 h, askedBy) refl
+
+pub asked-none : (d : ℕ) → 64 ≤ d → askedBy d ≡ none
+unfolding askedBy
+asked-none d h = rw (le-ltb d 64 h, askedBy) refl
+
+pub asked-is : (o : Option ℕ) (d : ℕ) → Asked o d → askedBy d ≡ o
+asked-is none d e = asked-none d (omega arith)
+asked-is (some x) d e = asked-some d (omega (arith, e .0, e .1)) ∙ ap some (e .0)
+
+pub after-some : (c d : ℕ) → d < 64 → d ≡ after c (askedBy d)
+unfolding after
+after-some c d h = rw (asked-some d h) refl
+
+pub after-none : (c d : ℕ) → 64 ≤ d → c ≡ after c (askedBy d)
+unfolding after
+after-none c d h = rw (asked-none d h) refl
+
+pub asked-pre : (table : List ℕ) (i v from to d : ℕ) → from ≡ preAt table i → to ≡ effAt table i → Asked (look (factsIn table from to) v) d → Asked (look (actionOf table i .pre) v) d
+unfolding actionOf
+asked-pre table i v from to d a b q = rw (← a, ← b) q
+
+-- a value that is asked is one of its variable
+pub pre-fitting : (t : Task) → Formed t → (i : ℕ) → Fitting t (act t i .pre)
+pre-fitting t F i v d e = sorted-has _ (count t) 0 (act t i .pre) (F .pre-sorted i) v d (look-some (act t i .pre) v d e) .val-below
+
+pub asked-fits : (t : Task) (fs : List Fact) → Fitting t fs → (v d : ℕ) → Asked (look fs v) d → d < 64 → d < count t v
+asked-fits t fs f v d q h = go (look fs v) refl q
+  where
+    go : (o : Option ℕ) → look fs v ≡ o → Asked o d → d < count t v
+    go none e q = absurd (omega arith)
+    go (some x) e q = rw (q .0) (f v x e)
+
+pub after-fits : (t : Task) (fs : List Fact) → Fitting t fs → (v c : ℕ) → c < count t v → after c (look fs v) < count t v
+unfolding after
+after-fits t fs f v c h = go (look fs v) refl
+  where
+    go : (o : Option ℕ) → look fs v ≡ o → after c o < count t v
+    go none e = h
+    go (some x) e = f v x e
+
+-- no path
+pub lead-none : (path : ℕ → ℕ → List ℕ) (c d : ℕ) (l : List ℕ) (at : ℕ) → 64 ≤ d → at ≤ length l → Put l l at (toward path c (askedBy d)) (Upto at)
+unfolding toward
+lead-none path c d l at h b = rw (asked-none d h) (omega arith, b, sym (append-nil (take at l)))
+
+pub lead-some : (path : ℕ → ℕ → List ℕ) (c d : ℕ) (l l′ : List ℕ) (at : ℕ) (r : Written) → d < 64 → Put l l′ at (path c d) r → Put l l′ at (toward path c (askedBy d)) r
+unfolding toward
+lead-some path c d l l′ at r h p = subst (λ (o : Option ℕ). Put l l′ at (toward path c o) r) (sym (asked-some d h)) p
+
+-- one entry more, behind what an answer r says
+module _ (d₀ d : List ℕ) (a : ℕ) (l : List ℕ) (i : ℕ) (r : Written) (p : Put d₀ d a l r) where
+  pub put-upto : (e : ℕ) → r ≡ Upto e → Put d₀ d a l (Upto e)
+  put-upto e q = subst (λ (z : Written). Put d₀ d a l z) q p
+
+  pub put-more : (e : ℕ) → r ≡ Upto e → e < length d₀ → length d ≡ length d₀ → Put d₀ (set d e i) a (l ++ (i ∷ [])) (Upto (e + 1))
+  put-more e q h n =
+      let b : e < length d = omega arith in
+      let z = put-upto e q in
+      (omega (arith, z .0, length-append l (i ∷ [])), omega arith, rw (add-one, take-suc-set d e i b, z .2, append-assoc) refl)
+
+  pub put-long : r ≡ Long → length d₀ < a + length (l ++ (i ∷ []))
+  put-long q =
+      let z : Put d₀ d a l Long = subst (λ (z : Written). Put d₀ d a l z) q p in
+      omega (arith, z, length-append l (i ∷ []))
+
+  pub put-full : (e : ℕ) → r ≡ Upto e → length d₀ ≤ e → length d₀ < a + length (l ++ (i ∷ []))
+  put-full e q h = omega (arith, put-upto e q .0, length-append l (i ∷ []))
+
+-- forgetting
+pub record Forgetting (memo : List ℕ) (k : ℕ) : Type 0 where
+  pub long : length memo ≡ 4160
+  pub from : 4096 ≤ k
+  pub done : (x : ℕ) → 4096 ≤ x → x < k → getD memo x 0 ≡ 0
+
+pub forgetting-turn : (memo : List ℕ) (k : ℕ) → Forgetting memo k → k < 4160 → Forgetting (set memo k 0) (k + 1)
+forgetting-turn memo k f h = record { long = length-set memo k 0 ∙ f .long; from = omega (arith, f .from); done = λ x a b. go x a b (ℕ-discrete x k) }
+  where
+    go : (x : ℕ) → 4096 ≤ x → x < k + 1 → Dec (x ≡ k) → getD (set memo k 0) x 0 ≡ 0
+    go x a b (yes e) = rw e (getD-set-same memo k 0 0 (omega (arith, f .long)))
+    go x a b (no e) = getD-set-other memo k x 0 0 e ∙ f .done x a (omega arith)
+
+pub forgetting-end : (memo : List ℕ) (k : ℕ) → Forgetting memo k → 4160 ≤ k → Blank memo
+forgetting-end memo k f h = record { long = f .long; none-marked = λ d b. f .done (4096 + d) (omega arith) (omega arith) }
+
+pub blank-memo : (t : Task) (K : State) (v : ℕ) (memo : List ℕ) → Blank memo → Memo t K v memo
+blank-memo t K v memo B = record { long = B .long; rows = λ d c b _ e. absurd (omega (arith, e, B .none-marked d b)) }

@@ -1,0 +1,55 @@
+use borrow.Author.Needs.{needs}
+use mathlib.Core.Path.{_≡_, refl, sym, ap, _∙_}
+use Prim.Native.Nat.{ℕ, _+_, _*_, _/_, _^_, _-_, _≤_, _<_}
+use native.Mathlib.Omega.{arith}
+use lib.ListN.{length, getD, take, drop, set, replicate}
+use Rattle.passes.proofs.Putting.{Forgetting, forgetting-turn, forgetting-end}
+use Rattle.passes.proofs.forget.Statement.{statement}
+use Rattle.passes.proofs.forget.Tie as tie
+use Rattle.passes.proofs.forget.Reads as reads
+use Rattle.passes.proofs.forget.Lts as lts
+
+abbrev Inv-loop : tie.InvT-loop
+Inv-loop memo₀ k₀ memo k = Forgetting memo k
+
+abbrev μ-loop : tie.MeasureT-loop
+μ-loop memo₀ k₀ memo k = 4160 - k
+
+loop-holds : tie.Need-loop-holds Inv-loop μ-loop
+loop-holds c = record { long = c .pre; from = omega arith; done = λ x a b. absurd (omega arith) }
+
+mul-memo : tie.Need-mul-memo Inv-loop μ-loop
+mul-memo c = search needs
+
+slice-write-memo : tie.Need-slice-write-memo Inv-loop μ-loop
+slice-write-memo c = omega (arith, c .before .loop .inv .long)
+
+add-k : tie.Need-add-k Inv-loop μ-loop
+add-k c = search needs
+
+loop-less : tie.Need-loop-less Inv-loop μ-loop
+loop-less c = search needs
+
+loop-again : tie.Need-loop-again Inv-loop μ-loop
+loop-again c = forgetting-turn _ _ (c .before .loop .inv) (omega arith)
+
+same-length : tie.Need-same-length Inv-loop μ-loop
+same-length c = c .before .loop .inv .long ∙ sym (c .before .before .pre)
+
+returns : tie.Need-returns Inv-loop μ-loop
+returns c = forgetting-end _ _ (c .before .loop .inv) (omega arith)
+
+pub forget-spec : {M : Type 1} → statement M
+forget-spec =
+    tie.close
+    (tie.spec
+    Inv-loop
+    μ-loop
+    loop-holds
+    mul-memo
+    slice-write-memo
+    add-k
+    loop-less
+    loop-again
+    same-length
+    returns)

@@ -1,0 +1,245 @@
+-- The walk along one chain, the values of one layer, and the search as a whole.
+use mathlib.Core.Path.{_≡_, refl, sym, ap, _∙_, subst}
+use mathlib.Core.Logic.{_⊎_, inl, inr}
+use mathlib.Core.Bool.{Bool, true, false, not, _&&_}
+use mathlib.Core.List.{List, [], _∷_}
+use Prim.Native.Nat.{ℕ, zero, suc, _+_, _-_, _*_, _/_, _%_, _^_, _<_, _≤_}
+use native.Mathlib.Numerals.{add-one}
+use native.Mathlib.Omega.{arith}
+use native.Mathlib.Decide.{ℕ-discrete, decLt}
+use lib.Bits.{bitOr, bitXor}
+use lib.Dec.{T, eqb, ltb, lt→ltb, eqb→eq}
+use lib.ListN.{length, getD, replicate}
+use lib.Pow.{high, ones-split, ones-lt}
+use Rattle.planning.specs.Record.{Task, taskOf}
+use Rattle.planning.specs.Runs.{State, look, holds, variables, actions, count, act, black}
+use Rattle.planning.specs.Painting.{fits}
+use Rattle.planning.specs.Repair.{hop}
+use Rattle.planning.proofs.Tests.{and-l, and-r, and-i, T→true, true→T}
+use Rattle.planning.proofs.Formed.{Formed, formed-of}
+use Rattle.state.specs.Sets.{inSet, setsOf, actionOf, Listed}
+use Rattle.state.proofs.Members.{inSet-single, one-shl}
+use Rattle.state.proofs.Rows.{listed, listed-act}
+use Rattle.paths.specs.Paths.{Next, Sets, Chained, Ground, Member, lower, Found, Enters, Marks, Kept, Apart, Leads}
+use Rattle.paths.proofs.Sets.{inSet-xor, either, inSet-all}
+use Rattle.paths.proofs.Leads.{marks-turn, marks-map, hop-is, hop-fits, Layered, layered-start, layered-turn, layered-stop}
+
+-- the actions of a chain before i, besides those that were marked before
+abbrev pub Before : Task → State → ℕ → ℕ → ℕ → ℕ → ℕ → ℕ → Type 0
+Before t K v front e i c j = Enters t K v front e c j ⊎ (T (hop (act t) K v c j) × Sets t v e j × (j < i))
+
+pub record Arriving (t : Task) (K : State) (v front e rest : ℕ) (row₀ row : List ℕ) (grow i : ℕ) : Type 0 where
+  pub here : (i ≡ 65535) ⊎ ((i < actions t) × Sets t v e i)
+  pub long : length row ≡ 64
+  pub marks : Marks (actions t) rest (Before t K v front e i) row grow
+  pub kept : Kept rest row₀ row
+
+module _ (t : Task) (F : Formed t) (K : State) (v front e rest : ℕ) (apart : Apart front rest) (m : T (inSet front e)) where
+  next-here : (a x : ℕ) → Next (actions t) (Sets t v e) a x → (x ≡ 65535) ⊎ ((x < actions t) × Sets t v e x)
+  next-here a x N = elim (N .found) [ inl q ↦ inl q | inr q ↦ inr (q .1, q .2) ]
+
+  pub arriving-start : (row : List ℕ) (grow i : ℕ) → length row ≡ 64 → Marks (actions t) rest (Enters t K v front e) row grow → Next (actions t) (Sets t v e) 0 i
+      → Arriving t K v front e rest row row grow i
+  arriving-start row grow i long M N = record {
+    here = next-here 0 i N;
+    long = long;
+    marks = marks-add M;
+    kept = λ c b h. refl;
+  }
+    where
+      marks-add : Marks (actions t) rest (Enters t K v front e) row grow → Marks (actions t) rest (Before t K v front e i) row grow
+      marks-add M = record {
+        least = λ c cb r. let N′ = M .least c cb r in record {
+          least = λ j a jb l D. elim D [ inl d ↦ N′ .least j a jb l d | inr d ↦ N .least j (omega arith) jb (d .2) (d .1) ];
+          found = elim (N′ .found) [ inl q ↦ inl q | inr q ↦ inr (q .0, q .1, inl (q .2)) ];
+        };
+        inside = M .inside;
+        grown = M .grown;
+        grows = M .grows;
+      }
+
+  module _ (row₀ row : List ℕ) (grow i : ℕ) (G : Arriving t K v front e rest row₀ row grow i) where
+    pub arriving-here : i < 1024 → (i < actions t) × Sets t v e i
+    arriving-here h = elim (G .here) [ inl q ↦ absurd (omega arith) | inr q ↦ q ]
+
+    pub arriving-turn : i < 1024 → (set x : ℕ) (row′ : List ℕ) → length row′ ≡ 64
+        → ((c : ℕ) → inSet set c ≡ (inSet rest c && (holds K (act t i .pre) && fits (look (act t i .pre) v) c)))
+        → ((c : ℕ) → c < 64 → getD row′ c 0 ≡ lower (inSet set c) i (getD row c 0))
+        → Next (actions t) (Sets t v e) (i + 1) x
+        → Arriving t K v front e rest row₀ row′ (bitOr grow set) x
+    unfolding lower
+    arriving-turn h set x row′ long′ law low N =
+        let q = arriving-here h in
+        record {
+          here = next-here (i + 1) x N;
+          long = long′;
+          marks = marks-turn (actions t) rest (Before t K v front e i) (Before t K v front e x) row row′ grow set i (G .marks) (F .actions-max) (q .0) low
+              (λ c s. (in-rest c s, inr (hop-is t F K v c e i (q .0) (q .1) (λ z. apart e m (subst (λ y. T (inSet rest y)) z (in-rest c s))) (in-set c s), q .1, next-above)))
+              (λ c j cb r jb D. elim D [
+                | inl d ↦ inl (inl d)
+                | inr d ↦ split c j r jb (d .0) (d .1) (d .2) (ℕ-discrete j i)
+              ])
+              (λ c j D. elim D [ inl d ↦ inl d | inr d ↦ let b = d .2 in inr (d .0, d .1, omega (arith, next-above)) ]);
+          kept = λ c cb r. low c cb ∙ lower-not c (λ s. r (in-rest c s)) ∙ G .kept c cb r;
+        }
+      where
+        in-rest : (c : ℕ) → T (inSet set c) → T (inSet rest c)
+        in-rest c s = and-l (inSet rest c) (holds K (act t i .pre) && fits (look (act t i .pre) v) c) (rw (law c) at s)
+
+        in-set : (c : ℕ) → T (inSet set c) → T (holds K (act t i .pre) && fits (look (act t i .pre) v) c)
+        in-set c s = and-r (inSet rest c) (holds K (act t i .pre) && fits (look (act t i .pre) v) c) (rw (law c) at s)
+
+        next-above : i < x
+        next-above = elim (N .found) [ inl q ↦ omega arith | inr q ↦ let a = q .0 in omega arith ]
+
+        lower-not : (c : ℕ) → (T (inSet set c) → ⊥) → lower (inSet set c) i (getD row c 0) ≡ getD row c 0
+        lower-not c s = go (inSet set c) s
+          where
+            go : (b : Bool) → (T b → ⊥) → lower b i (getD row c 0) ≡ getD row c 0
+            go true h = absurd (h tt)
+            go false h = refl
+
+        split : (c j : ℕ) → T (inSet rest c) → j < actions t → T (hop (act t) K v c j) → Sets t v e j → j < x → Dec (j ≡ i) → Before t K v front e i c j ⊎ ((j ≡ i) × T (inSet set c))
+        split c j r jb p s l (yes z) = inr (z, rw (law c) (and-i (inSet rest c) (holds K (act t i .pre) && fits (look (act t i .pre) v) c) r (hop-fits t F K v c i (subst (λ y. T (hop (act t) K v c y)) z p))))
+        split c j r jb p s l (no z) = below (decLt j i)
+          where
+            below : Dec (j < i) → Before t K v front e i c j ⊎ ((j ≡ i) × T (inSet set c))
+            below (yes b) = inl (inr (p, s, b))
+            below (no b) = absurd (N .least j (omega arith) jb l s)
+
+    pub arriving-end : 1024 ≤ i → Marks (actions t) rest (Enters t K v front (e + 1)) row grow × Kept rest row₀ row
+    arriving-end h = (
+      marks-map (actions t) rest (Before t K v front e i) (Enters t K v front (e + 1)) row grow
+          (λ c j jb D. elim D [
+            | inl d ↦ (d .0, (d .1 .0, omega (arith, d .1 .1), d .1 .2, d .1 .3))
+            | inr d ↦ (d .0, (e, omega arith, m, d .1))
+          ])
+          (λ c j jb D. old c j jb D (ℕ-discrete (D .1 .0) e)) (G .marks),
+      G .kept,
+    )
+      where
+        last : i ≡ 65535
+        last = elim (G .here) [ inl q ↦ q | inr q ↦ absurd (omega (arith, q .0, F .actions-max)) ]
+
+        old : (c j : ℕ) → j < actions t → (D : Enters t K v front (e + 1) c j) → Dec (D .1 .0 ≡ e) → Before t K v front e i c j
+        old c j jb D (yes z) = inr (D .0, subst (λ y. Sets t v y j) z (D .1 .3), omega (arith, last, F .actions-max))
+        old c j jb D (no z) = inl (D .0, (D .1 .0, omega (arith, D .1 .1), D .1 .2, D .1 .3))
+
+-- the values of one layer: members of front before e are done
+pub record Laying (t : Task) (K : State) (v front rest : ℕ) (row₀ row : List ℕ) (grow e : ℕ) : Type 0 where
+  pub within : e ≤ 64
+  pub member : e < 64 → T (inSet front e)
+  pub long : length row ≡ 64
+  pub marks : Marks (actions t) rest (Enters t K v front e) row grow
+  pub kept : Kept rest row₀ row
+
+module _ (t : Task) (K : State) (v front rest : ℕ) where
+  -- a place further, with no member between
+  enters-skip : (row : List ℕ) (grow a e : ℕ) → Member front a e → Marks (actions t) rest (Enters t K v front a) row grow → Marks (actions t) rest (Enters t K v front e) row grow
+  enters-skip row grow a e m M = marks-map (actions t) rest (Enters t K v front a) (Enters t K v front e) row grow
+      (λ c j jb D. (D .0, (D .1 .0, omega (arith, D .1 .1, m .from), D .1 .2, D .1 .3)))
+      (λ c j jb D. (D .0, (D .1 .0, low (D .1 .0) (D .1 .1) (D .1 .2) (decLt (D .1 .0) a), D .1 .2, D .1 .3))) M
+    where
+      low : (x : ℕ) → x < e → T (inSet front x) → Dec (x < a) → x < a
+      low x l f (yes b) = b
+      low x l f (no b) = absurd (m .skipped x (omega arith) l f)
+
+  pub laying-start : (row : List ℕ) (e : ℕ) → length row ≡ 64 → Marks (actions t) rest (Enters t K v front 0) row 0 → Member front 0 e → Laying t K v front rest row row 0 e
+  laying-start row e long M m = record { within = m .within; member = m .member; long = long; marks = enters-skip row 0 0 e m M; kept = λ c b h. refl }
+
+  pub laying-turn : (row₀ row : List ℕ) (grow e : ℕ) → Laying t K v front rest row₀ row grow e → (row′ : List ℕ) (grow′ x : ℕ) → length row′ ≡ 64
+      → Marks (actions t) rest (Enters t K v front (e + 1)) row′ grow′ × Kept rest row row′ → Member front (e + 1) x → Laying t K v front rest row₀ row′ grow′ x
+  laying-turn row₀ row grow e L row′ grow′ x long M m = record {
+    within = m .within;
+    member = m .member;
+    long = long;
+    marks = enters-skip row′ grow′ (e + 1) x m (M .0);
+    kept = λ c b h. M .1 c b h ∙ L .kept c b h;
+  }
+
+  pub laying-end : (row₀ row : List ℕ) (grow e : ℕ) → Laying t K v front rest row₀ row grow e → 64 ≤ e → Marks (actions t) rest (Enters t K v front 64) row grow × Kept rest row₀ row
+  laying-end row₀ row grow e L h =
+      let q : e ≡ 64 = omega (arith, L .within) in
+      (subst (λ x. Marks (actions t) rest (Enters t K v front x) row grow) q (L .marks), L .kept)
+
+-- what stands on the ground of an accepted record
+module _ (s table head chain masks : List ℕ) (G : Ground s table head chain masks) where
+  pub ground-formed : Formed (taskOf s)
+  ground-formed = formed-of s (G .accepted)
+
+  pub ground-listed : (i : ℕ) → i < actions (taskOf s) → Listed table i
+  ground-listed i b = listed (taskOf s) table ground-formed (G .tabled) i b
+
+  pub ground-act : (i : ℕ) → i < actions (taskOf s) → actionOf table i ≡ act (taskOf s) i
+  ground-act i b = listed-act (taskOf s) table ground-formed (G .tabled) i b
+
+  module _ (K : State) (v front e rest : ℕ) (vb : v < 64) (eb : e < 64) (bl : T (black (taskOf s) v)) (m : T (inSet front e)) (apart : Apart front rest) where
+    pub arrive-start : (row : List ℕ) (grow i : ℕ) → length row ≡ 64 → Marks (actions (taskOf s)) rest (Enters (taskOf s) K v front e) row grow
+        → i ≡ getD head (64 * v + e) 0 → Arriving (taskOf s) K v front e rest row row grow i
+    arrive-start row grow i long M q = arriving-start (taskOf s) ground-formed K v front e rest apart m row grow i long M (rw q (G .chained .heads v e vb eb bl))
+
+    module _ (row₀ row : List ℕ) (grow i : ℕ) (R : Arriving (taskOf s) K v front e rest row₀ row grow i) where
+      pub arrive-listed : i < 1024 → Listed table i
+      arrive-listed h = ground-listed i (arriving-here (taskOf s) ground-formed K v front e rest apart m row₀ row grow i R h .0)
+
+      pub arrive-next : i < 1024 → Next (actions (taskOf s)) (Sets (taskOf s) v e) (i + 1) (getD chain i 0)
+      arrive-next h = let q = arriving-here (taskOf s) ground-formed K v front e rest apart m row₀ row grow i R h in G .chained .links v e i bl (q .0) (q .1)
+
+      pub arrive-above : i < 1024 → (x : ℕ) → x ≡ getD chain i 0 → i < x
+      arrive-above h x q = rw q (elim (arrive-next h .found) [ inl z ↦ omega arith | inr z ↦ let a = z .0 in omega arith ])
+
+      pub arrive-turn : i < 1024 → (set x : ℕ) (row′ : List ℕ) → length row′ ≡ 64
+          → ((c : ℕ) → inSet set c ≡ (inSet rest c && (holds K (actionOf table i .pre) && fits (look (actionOf table i .pre) v) c)))
+          → ((c : ℕ) → c < 64 → getD row′ c 0 ≡ lower (inSet set c) i (getD row c 0))
+          → x ≡ getD chain i 0
+          → Arriving (taskOf s) K v front e rest row₀ row′ (bitOr grow set) x
+      arrive-turn h set x row′ long law low q =
+          let b = arriving-here (taskOf s) ground-formed K v front e rest apart m row₀ row grow i R h .0 in
+          arriving-turn (taskOf s) ground-formed K v front e rest apart m row₀ row grow i R h set x row′ long
+          (λ c. rw (ground-act i b) at (law c)) low (rw q (arrive-next h))
+
+      pub arrive-end : 1024 ≤ i → Marks (actions (taskOf s)) rest (Enters (taskOf s) K v front (e + 1)) row grow × Kept rest row₀ row
+      arrive-end h = arriving-end (taskOf s) ground-formed K v front e rest apart m row₀ row grow i R h
+
+-- the search as a whole
+all-ones : (n : ℕ) → n ≤ 64 → 18446744073709551615 / 2 ^ (64 - n) ≡ 2 ^ n - 1
+all-ones n h =
+    let e : n + (64 - n) ≡ 64 = omega arith in
+    let o : 2 ^ (n + (64 - n)) - 1 ≡ 18446744073709551615 = rw e refl in
+    rw (← o, ones-split n (64 - n)) (high (2 ^ n - 1) (64 - n) (ones-lt (64 - n)))
+
+rest-bit : (a b : Bool) → (T b → T a) → either a b ≡ (a && not b)
+unfolding either
+rest-bit true true h = refl
+rest-bit true false h = refl
+rest-bit false true h = absurd (h tt)
+rest-bit false false h = refl
+
+getD-replicate : (k x c : ℕ) → c < k → getD (replicate k x) c 0 ≡ x
+getD-replicate zero x c h = absurd (omega arith)
+getD-replicate (suc k) x zero h = refl
+getD-replicate (suc k) x (suc c) h = getD-replicate k x c (omega arith)
+
+pub searching-start : (t : Task) (F : Formed t) (K : State) (v d n front rest : ℕ) (row₀ row : List ℕ) → n ≡ count t v → n ≤ 64 → d < n → length row₀ ≡ 64 → row ≡ replicate (length row₀) 65535
+    → front ≡ 1 * 2 ^ d % 2 ^ 64 → rest ≡ bitXor (18446744073709551615 / 2 ^ (64 - n)) front → Layered t K v d 0 front rest row
+searching-start t F K v d n front rest row₀ row en n64 db long er ef ers =
+    layered-start t F K v d front rest row (omega arith) (rw (er, long) (replicate-length 64))
+    (λ c b. rw (er, long) (getD-replicate 64 65535 c b))
+    fr
+    (λ c. rw (ers, inSet-xor, fr c, all-ones n n64, inSet-all n c, ← en) (rest-bit (ltb c n) (eqb c d) (λ q. lt→ltb c n (omega (arith, eqb→eq c d q)))))
+  where
+    fr : (c : ℕ) → inSet front c ≡ eqb c d
+    fr c = rw (ef, one-shl d (omega arith)) (inSet-single d c)
+
+    replicate-length : (k : ℕ) → length {A = ℕ} (replicate k 65535) ≡ k
+    replicate-length zero = refl
+    replicate-length (suc k) = ap suc (replicate-length k)
+
+-- one layer more, from what the code says of it
+module _ (t : Task) (F : Formed t) (K : State) (v d k front rest : ℕ) (row row′ : List ℕ) (grow : ℕ) (L : Layered t K v d k front rest row) (long : length row′ ≡ length row)
+    (M : Marks (actions t) rest (Enters t K v front 64) row′ grow × Kept rest row row′) where
+  pub searching-turn : k + 1 < count t v → Layered t K v d (k + 1) grow (bitXor rest grow) row′
+  searching-turn h = subst (λ x. Layered t K v d x grow (bitXor rest grow) row′) (sym (add-one k)) (layered-turn t F K v d k front rest row L row′ grow (long ∙ L .long) (M .0) (M .1) (omega arith))
+
+  pub searching-stop : d < count t v → grow ≡ 0 → Leads t K v d row′
+  searching-stop db e = layered-stop t F K v d k front rest row L row′ grow (long ∙ L .long) (M .0) (M .1) db e

@@ -1,0 +1,7 @@
+pub mod Sets
+pub mod Facts
+pub mod Marking
+pub mod Leads
+pub mod Arriving
+pub mod Walking
+pub mod Memos

@@ -1,0 +1,62 @@
+use borrow.Author.Needs.{needs}
+use mathlib.Core.Path.{_≡_, refl, sym, ap, _∙_}
+use Prim.Native.Nat.{ℕ, _+_, _*_, _/_, _^_, _-_, _≤_, _<_}
+use native.Mathlib.Omega.{arith}
+use lib.ListN.{length, getD, take, drop, set, replicate}
+use Rattle.planning.specs.Runs.{look}
+use Rattle.table.specs.Table.{factsIn}
+use Rattle.paths.proofs.Facts.{look-here, look-later, look-end}
+use Rattle.paths.proofs.asked.Statement.{statement}
+use Rattle.paths.proofs.asked.Tie as tie
+use Rattle.paths.proofs.asked.Reads as reads
+use Rattle.paths.proofs.asked.Lts as lts
+use Rattle.paths.proofs.wide.Reads as wide-reads
+
+abbrev Inv-loop : tie.InvT-loop
+Inv-loop facts from to v k₀ k = (from ≤ k) × (k ≤ to) × (look (factsIn facts from to) v ≡ look (factsIn facts k to) v)
+
+abbrev μ-loop : tie.MeasureT-loop
+μ-loop facts from to v k₀ k = to - k
+
+loop-holds : tie.Need-loop-holds Inv-loop μ-loop
+loop-holds c = (search needs, search needs, refl)
+
+mul-wide : tie.Need-mul-wide Inv-loop μ-loop
+mul-wide c = search needs
+
+shared-slice-read-wide : tie.Need-shared-slice-read-wide Inv-loop μ-loop
+shared-slice-read-wide c = search needs
+
+wide-requires : tie.Need-wide-requires Inv-loop μ-loop
+wide-requires c κs = search needs
+
+returns : tie.Need-returns Inv-loop μ-loop
+returns c = rw (c .before .before .before .before .loop .inv .2) (look-here _ _ _ (omega arith) (omega arith) _ _ (c .before .wide .ensures) (c .if1 .taken))
+
+add-k : tie.Need-add-k Inv-loop μ-loop
+add-k c = search needs
+
+loop-less : tie.Need-loop-less Inv-loop μ-loop
+loop-less c = search needs
+
+loop-again : tie.Need-loop-again Inv-loop μ-loop
+loop-again c = (search needs, search needs, c .before .before .before .before .loop .inv .2 ∙ look-later _ _ _ (omega arith) (omega arith) _ _ (c .before .wide .ensures) (c .if1 .left))
+
+returns-2 : tie.Need-returns-2 Inv-loop μ-loop
+returns-2 c = rw (c .before .loop .inv .2) (look-end _ _ _ _ (omega arith))
+
+pub asked-spec : {M : Type 1} → statement M
+asked-spec =
+    tie.close
+    (tie.spec
+    Inv-loop
+    μ-loop
+    loop-holds
+    mul-wide
+    shared-slice-read-wide
+    wide-requires
+    returns
+    add-k
+    loop-less
+    loop-again
+    returns-2)

@@ -1,0 +1,31 @@
+use borrow.Author.Needs.{needs}
+use Prim.Native.Nat.{_/_, _^_}
+use lib.Count.{trailing-le}
+use native.Mathlib.Omega.{arith}
+use Rattle.paths.proofs.Sets.{member-end, member-found, member-none}
+use Rattle.paths.proofs.next_member.Statement.{statement}
+use Rattle.paths.proofs.next_member.Tie as tie
+use Rattle.paths.proofs.next_member.Reads as reads
+use Rattle.paths.proofs.next_member.Lts as lts
+use Rattle.paths.proofs.wider.Reads as wider-reads
+
+returns : tie.Need-returns
+returns c = member-end _ _ (c .if1 .taken)
+
+shr-wider : tie.Need-shr-wider
+shr-wider c = search needs
+
+wider-requires : tie.Need-wider-requires
+wider-requires c κs = search needs
+
+add-r : tie.Need-add-r
+add-r c = omega (arith, c .wider .ensures, trailing-le 64 (c .before .before .args .set / 2 ^ (c .before .before .args .a)))
+
+returns-2 : tie.Need-returns-2
+returns-2 c = member-found _ _ _ (c .before .wider .ensures) (omega arith)
+
+returns-3 : tie.Need-returns-3
+returns-3 c = member-none _ _ _ (c .before .wider .ensures) (omega arith) (omega arith)
+
+pub next-member-spec : {M : Type 1} → statement M
+next-member-spec = tie.close (tie.spec returns shr-wider wider-requires add-r returns-2 returns-3)

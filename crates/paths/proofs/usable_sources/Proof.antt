@@ -1,0 +1,28 @@
+use borrow.Author.Needs.{needs}
+use mathlib.Core.Path.{sym, _∙_}
+use Rattle.paths.proofs.Facts.{usable-empty, usable-yes, usable-no}
+use Rattle.paths.proofs.usable_sources.Statement.{statement}
+use Rattle.paths.proofs.usable_sources.Tie as tie
+use Rattle.paths.proofs.usable_sources.Reads as reads
+use Rattle.paths.proofs.usable_sources.Lts as lts
+use Rattle.paths.proofs.sources.Reads as sources-reads
+use Rattle.state.proofs.applies.Reads as applies-reads
+
+sources-requires : tie.Need-sources-requires
+sources-requires c κs = search needs
+
+returns : tie.Need-returns
+returns c = let a = c .before .before .before .args in usable-empty (a .table .now) (a .ever .now) (a .i) (a .v) (a .rest) _ (c .before .sources .ensures) (c .if1 .taken)
+
+applies-requires : tie.Need-applies-requires
+applies-requires c κs = search needs
+
+returns-2 : tie.Need-returns-2
+returns-2 c = let a = c .before .before .before .before .before .args in usable-yes (a .table .now) (a .ever .now) (a .i) (a .v) (a .rest) _ (c .before .before .before .sources .ensures) (sym (c .before .applies .ensures) ∙ c .if2 .taken)
+
+returns-3 : tie.Need-returns-3
+returns-3 c = let a = c .before .before .before .before .before .args in usable-no (a .table .now) (a .ever .now) (a .i) (a .v) (a .rest) _ (c .before .before .before .sources .ensures) (sym (c .before .applies .ensures) ∙ c .if2 .left)
+
+pub usable-sources-spec : {M : Type 1} → statement M
+usable-sources-spec =
+    tie.close (tie.spec sources-requires returns applies-requires returns-2 returns-3)

@@ -1,0 +1,105 @@
+-- Chains of actions by the black fact that they set, and rows of leads: the first action of the path to one value, from each value.
+use mathlib.Core.Path.{_≡_}
+use mathlib.Core.Logic.{_⊎_}
+use mathlib.Core.Bool.{Bool, true, false, _&&_}
+use mathlib.Core.List.{List, [], _∷_, _++_}
+use mathlib.Core.Option.{Option, none, some}
+use Prim.Native.Nat.{ℕ, zero, suc, _+_, _*_, _<_, _≤_, min}
+use lib.Dec.{T}
+use lib.ListN.{length, getD, take}
+use Rattle.planning.specs.Basics.{first, reach}
+use Rattle.planning.specs.Record.{Action, Task, taskOf, recordCheck}
+use Rattle.planning.specs.Runs.{State, has, variables, actions, count, act, black}
+use Rattle.planning.specs.Painting.{target}
+use Rattle.planning.specs.Repair.{hop, adjacent, shortest}
+use Rattle.table.specs.Table.{Tabled}
+use Rattle.state.specs.Sets.{singles, inSet}
+use Rattle.paths.specs.declared.Written.{Written}
+use Rattle.paths.specs.declared.Written.the-variants.{Upto, Long}
+
+-- x is the least number from a on, below n, that P holds of; 65,535 if there is none
+pub record Next (n : ℕ) (P : ℕ → Type 0) (a x : ℕ) : Type 0 where
+  pub least : (j : ℕ) → a ≤ j → j < n → j < x → P j → ⊥
+  pub found : (x ≡ 65535) ⊎ ((a ≤ x) × (x < n) × P x)
+
+-- action i sets v to e
+abbrev pub Sets : Task → ℕ → ℕ → ℕ → Type 0
+Sets t v e i = T (has (act t i .eff) v e)
+
+-- for each fact of a black variable the actions that set it, rising: head has the first of them, chain the next behind each
+pub record Chained (t : Task) (head chain : List ℕ) : Type 0 where
+  pub heads : (v e : ℕ) → v < 64 → e < 64 → T (black t v) → Next (actions t) (Sets t v e) 0 (getD head (64 * v + e) 0)
+  pub links : (v e i : ℕ) → T (black t v) → i < actions t → Sets t v e i → Next (actions t) (Sets t v e) (i + 1) (getD chain i 0)
+
+-- what every search stands on: an accepted record, its table and its chains, and the single-value sets
+pub record Ground (s table head chain masks : List ℕ) : Type 0 where
+  pub accepted : recordCheck s ≡ none
+  pub tabled : Tabled (taskOf s) table
+  pub chained : Chained (taskOf s) head chain
+  pub masked : masks ≡ singles
+
+-- r is the least member of the set from a on, 64 if there is none
+pub record Member (set a r : ℕ) : Type 0 where
+  pub within : r ≤ 64
+  pub from : a ≤ r
+  pub member : r < 64 → T (inSet set r)
+  pub skipped : (x : ℕ) → a ≤ x → x < r → T (inSet set x) → ⊥
+
+-- r is the value asked, 64 for none
+abbrev pub Asked : Option ℕ → ℕ → Type 0
+Asked none r = r ≡ 64
+Asked (some d) r = (r ≡ d) × (d < 64)
+
+-- the lesser of two numbers where the test holds
+unfoldable pub lower : Bool → ℕ → ℕ → ℕ
+lower true i x = min i x
+lower false i x = x
+
+-- the first action of the shortest path from c to d
+unfoldable pub leadIn : (ℕ → Action) → ℕ → State → ℕ → ℕ → ℕ → ℕ → ℕ → Option ℕ
+leadIn act A K v n zero c d = none
+leadIn act A K v n (suc k) c d = first A (λ i. hop act K v c i && reach n (adjacent act A K v) k (target act v i) d)
+
+unfoldable pub lead : (ℕ → Action) → ℕ → State → ℕ → ℕ → ℕ → ℕ → Option ℕ
+lead act A K v n c d = elim (first n (λ k. reach n (adjacent act A K v) k c d)) [ none ↦ none | some k ↦ leadIn act A K v n k c d ]
+
+-- an action's number, 65,535 for none
+unfoldable pub numberOf : Option ℕ → ℕ
+numberOf none = 65535
+numberOf (some i) = i
+
+-- the row holds the leads to d
+abbrev pub Leads : Task → State → ℕ → ℕ → List ℕ → Type 0
+Leads t K v d row = (c : ℕ) → c < count t v → getD row c 0 ≡ numberOf (lead (act t) (actions t) K v (count t v) c d)
+
+-- action j sets v to a member of the set front that is below e
+abbrev pub Found : Task → ℕ → ℕ → ℕ → ℕ → Type 0
+Found t v front e j = (x : ℕ) × (x < e) × T (inSet front x) × Sets t v x j
+
+-- action j leads from c to such a member
+abbrev pub Enters : Task → State → ℕ → ℕ → ℕ → ℕ → ℕ → Type 0
+Enters t K v front e c j = T (hop (act t) K v c j) × Found t v front e j
+
+-- in the row the least action with D for each value of the set rest; those values that have one are the set grow
+pub record Marks (A rest : ℕ) (D : ℕ → ℕ → Type 0) (row : List ℕ) (grow : ℕ) : Type 0 where
+  pub least : (c : ℕ) → c < 64 → T (inSet rest c) → Next A (D c) 0 (getD row c 0)
+  pub inside : (c : ℕ) → T (inSet grow c) → T (inSet rest c)
+  pub grown : (c : ℕ) → c < 64 → T (inSet grow c) → getD row c 0 < A
+  pub grows : (c : ℕ) → c < 64 → T (inSet rest c) → getD row c 0 < A → T (inSet grow c)
+
+abbrev pub Kept : ℕ → List ℕ → List ℕ → Type 0
+Kept rest row₀ row = (c : ℕ) → c < 64 → (T (inSet rest c) → ⊥) → getD row c 0 ≡ getD row₀ c 0
+
+-- two sets with no value in common
+abbrev pub Apart : ℕ → ℕ → Type 0
+Apart front rest = (c : ℕ) → T (inSet front c) → T (inSet rest c) → ⊥
+
+-- rows of leads for the values d of v that are marked by 1 behind the rows
+pub record Memo (t : Task) (K : State) (v : ℕ) (memo : List ℕ) : Type 0 where
+  pub long : length memo ≡ 4160
+  pub rows : (d c : ℕ) → d < 64 → c < count t v → getD memo (4096 + d) 0 ≡ 1 → getD memo (64 * d + c) 0 ≡ numberOf (lead (act t) (actions t) K v (count t v) c d)
+
+-- the list l was written into d₀ from place a on, and d is left; or it does not fit
+abbrev pub Put : List ℕ → List ℕ → ℕ → List ℕ → Written → Type 0
+Put d₀ d a l (Upto e) = (e ≡ a + length l) × (e ≤ length d₀) × (take e d ≡ take a d₀ ++ l)
+Put d₀ d a l Long = length d₀ < a + length l

@@ -1,0 +1,10 @@
+-- The paper's number, place and values for each case of the planner's answer.
+use Prim.Native.Nat.{ℕ}
+use Rattle.planning.specs.Basics.{Answer, refused, done}
+use Rattle.planning.specs.Calls.{Planned as Result}
+use Rattle.planner.specs.declared.Planned.{Planned}
+use Rattle.planner.specs.declared.Planned.the-variants.{Plan, Refused}
+
+abbrev pub answerOf : Planned → Answer Result
+answerOf (Plan s c n v) = done (record { steps = s; cost = c; real′ = v; runs = n })
+answerOf (Refused f) = refused (f .number) (f .place)

@@ -1,0 +1,7 @@
+pub mod Values
+pub mod Below
+pub mod Serving
+pub mod Filling
+pub mod Arranging
+pub mod Repairing
+pub mod Ending

@@ -1,0 +1,103 @@
+use borrow.Author.Needs.{needs}
+use mathlib.Core.Path.{_≡_, refl, sym, ap, _∙_, subst}
+use Prim.Native.Nat.{ℕ, _+_, _*_, _/_, _%_, _^_, _-_, _≤_, _<_}
+use native.Mathlib.Omega.{arith}
+use lib.ListN.{length, getD, take, drop, set, replicate}
+use Rattle.planning.specs.Record.{taskOf}
+use Rattle.state.specs.Sets.{setsOf, modeOf}
+use Rattle.repair.proofs.Below.{steps-long, steps-put, steps-bounds, part-entries, steps-ran}
+use Rattle.repair.proofs.advance.Statement.{statement}
+use Rattle.repair.proofs.advance.Tie as tie
+use Rattle.repair.proofs.advance.Reads as reads
+use Rattle.repair.proofs.advance.Lts as lts
+use Rattle.repair.proofs.arrange.Reads as arrange-reads
+use Rattle.repair.proofs.run_list.Reads as run-list-reads
+
+arrange-requires : tie.Need-arrange-requires
+arrange-requires c κs = let p = c .before .before .before .before .before .before .before .before .before .before .before .pre in (p .0, p .1, p .2, p .3, p .4)
+
+enum-known-w : tie.Need-enum-known-w
+enum-known-w c = search needs
+
+enum-told : tie.Need-enum-told
+enum-told c = search needs
+
+same-length : tie.Need-same-length
+same-length c = c .before .before .before .before .before .before .before .memo .given
+
+same-length-2 : tie.Need-same-length-2
+same-length-2 c = c .before .before .before .before .before .plan .given
+
+same-length-3 : tie.Need-same-length-3
+same-length-3 c = c .before .before .before .work .given
+
+returns : tie.Need-returns
+returns c = let a = c .before .before .before .before .before .before .before .before .before .before .before .before .before .before .before .before .before .before .before .before .args in let p = c .before .before .before .before .before .before .before .before .before .before .before .before .before .before .before .before .before .before .before .before .pre in (steps-long (taskOf (a .bytes .now)) (setsOf (a .ever .now)) (setsOf (a .sets .now)) (a .i) (p .1) (a .plan .now) (c .before .before .before .before .before .before .before .before .arrange .last .1 .1 .1 .1 .1 .1 .1 .1 .1 .1 .1 .0) (a .at) (c .before .before .before .before .before .before .before .before .arrange .result) (p .4) (c .before .before .before .before .before .plan .given) (c .before .before .before .before .before .before .before .before .arrange .ensures) (c .enum-told .given .1), tt, p .5, p .6)
+
+mul-run-list : tie.Need-mul-run-list
+mul-run-list c = let a = c .before .before .before .before .before .before .before .before .before .before .before .before .before .before .before .before .before .before .before .before .before .before .args in let p = c .before .before .before .before .before .before .before .before .before .before .before .before .before .before .before .before .before .before .before .before .before .before .pre in omega (arith, p .4, c .before .before .before .before .before .before .before .before .before .before .before .before .before .before .before .before .before .before .before .before .before .before .good)
+
+sub-run-list : tie.Need-sub-run-list
+sub-run-list c = let a = c .before .before .before .before .before .before .before .before .before .before .before .before .before .before .before .before .before .before .before .before .before .before .args in let p = c .before .before .before .before .before .before .before .before .before .before .before .before .before .before .before .before .before .before .before .before .before .before .pre in let z = steps-bounds (taskOf (a .bytes .now)) (setsOf (a .ever .now)) (setsOf (a .sets .now)) (a .i) (p .1) (a .plan .now) (c .before .before .before .before .before .before .before .before .before .before .arrange .last .1 .1 .1 .1 .1 .1 .1 .1 .1 .1 .1 .0) (a .at) (c .before .before .before .before .before .before .before .before .before .before .arrange .result) (p .4) (c .before .before .before .before .before .before .before .plan .given) (c .before .before .before .before .before .before .before .before .before .before .arrange .ensures) (c .before .before .w .given .0 .0) (c .before .before .w .given .1) in omega (arith, z)
+
+part-run-list-start : tie.Need-part-run-list-start
+part-run-list-start c = let a = c .before .before .before .before .before .before .before .before .before .before .before .before .before .before .before .before .before .before .before .before .before .before .before .args in let p = c .before .before .before .before .before .before .before .before .before .before .before .before .before .before .before .before .before .before .before .before .before .before .before .pre in let z = steps-bounds (taskOf (a .bytes .now)) (setsOf (a .ever .now)) (setsOf (a .sets .now)) (a .i) (p .1) (a .plan .now) (c .before .before .before .before .before .before .before .before .before .before .before .arrange .last .1 .1 .1 .1 .1 .1 .1 .1 .1 .1 .1 .0) (a .at) (c .before .before .before .before .before .before .before .before .before .before .before .arrange .result) (p .4) (c .before .before .before .before .before .before .before .before .plan .given) (c .before .before .before .before .before .before .before .before .before .before .before .arrange .ensures) (c .before .before .before .w .given .0 .0) (c .before .before .before .w .given .1) in omega (arith, z)
+
+part-run-list-end : tie.Need-part-run-list-end
+part-run-list-end c = let a = c .before .before .before .before .before .before .before .before .before .before .before .before .before .before .before .before .before .before .before .before .before .before .before .args in let p = c .before .before .before .before .before .before .before .before .before .before .before .before .before .before .before .before .before .before .before .before .before .before .before .pre in let z = steps-bounds (taskOf (a .bytes .now)) (setsOf (a .ever .now)) (setsOf (a .sets .now)) (a .i) (p .1) (a .plan .now) (c .before .before .before .before .before .before .before .before .before .before .before .arrange .last .1 .1 .1 .1 .1 .1 .1 .1 .1 .1 .1 .0) (a .at) (c .before .before .before .before .before .before .before .before .before .before .before .arrange .result) (p .4) (c .before .before .before .before .before .before .before .before .plan .given) (c .before .before .before .before .before .before .before .before .before .before .before .arrange .ensures) (c .before .before .before .w .given .0 .0) (c .before .before .before .w .given .1) in omega (arith, z)
+
+run-list-requires : tie.Need-run-list-requires
+run-list-requires c κs = let a = c .before .before .before .before .before .before .before .before .before .before .before .before .before .before .before .before .before .before .before .before .before .before .before .before .args in let p = c .before .before .before .before .before .before .before .before .before .before .before .before .before .before .before .before .before .before .before .before .before .before .before .before .pre in (p .0 .ground .accepted, p .0 .ground .tabled, part-entries (taskOf (a .bytes .now)) (setsOf (a .ever .now)) (setsOf (a .sets .now)) (a .i) (p .1) (a .plan .now) (c .before .before .before .before .before .before .before .before .before .before .before .before .arrange .last .1 .1 .1 .1 .1 .1 .1 .1 .1 .1 .1 .0) (a .at) (c .before .before .before .before .before .before .before .before .before .before .before .before .arrange .result) (p .4) (c .before .before .before .before .before .before .before .before .before .plan .given) (c .before .before .before .before .before .before .before .before .before .before .before .before .arrange .ensures) (c .before .before .before .before .w .given .0 .0) (c .before .before .before .before .w .given .1), p .5)
+
+mul-run-list-2 : tie.Need-mul-run-list-2
+mul-run-list-2 c = let a = c .before .before .before .before .before .before .before .before .before .before .before .before .before .before .before .before .before .before .before .before .before .before .before .before .before .before .args in let p = c .before .before .before .before .before .before .before .before .before .before .before .before .before .before .before .before .before .before .before .before .before .before .before .before .before .before .pre in omega (arith, p .4, c .before .before .before .before .before .before .before .before .before .before .before .before .before .before .before .before .before .before .before .before .before .before .before .before .before .before .good)
+
+sub-run-list-2 : tie.Need-sub-run-list-2
+sub-run-list-2 c = let a = c .before .before .before .before .before .before .before .before .before .before .before .before .before .before .before .before .before .before .before .before .before .before .before .before .before .before .args in let p = c .before .before .before .before .before .before .before .before .before .before .before .before .before .before .before .before .before .before .before .before .before .before .before .before .before .before .pre in let z = steps-bounds (taskOf (a .bytes .now)) (setsOf (a .ever .now)) (setsOf (a .sets .now)) (a .i) (p .1) (a .plan .now) (c .before .before .before .before .before .before .before .before .before .before .before .before .before .before .arrange .last .1 .1 .1 .1 .1 .1 .1 .1 .1 .1 .1 .0) (a .at) (c .before .before .before .before .before .before .before .before .before .before .before .before .before .before .arrange .result) (p .4) (c .before .before .before .before .before .before .before .before .before .before .before .plan .given) (c .before .before .before .before .before .before .before .before .before .before .before .before .before .before .arrange .ensures) (c .before .before .before .before .before .before .w .given .0 .0) (c .before .before .before .before .before .before .w .given .1) in omega (arith, z)
+
+part-run-list-start-2 : tie.Need-part-run-list-start-2
+part-run-list-start-2 c = let a = c .before .before .before .before .before .before .before .before .before .before .before .before .before .before .before .before .before .before .before .before .before .before .before .before .before .before .before .args in let p = c .before .before .before .before .before .before .before .before .before .before .before .before .before .before .before .before .before .before .before .before .before .before .before .before .before .before .before .pre in let z = steps-bounds (taskOf (a .bytes .now)) (setsOf (a .ever .now)) (setsOf (a .sets .now)) (a .i) (p .1) (a .plan .now) (c .before .before .before .before .before .before .before .before .before .before .before .before .before .before .before .arrange .last .1 .1 .1 .1 .1 .1 .1 .1 .1 .1 .1 .0) (a .at) (c .before .before .before .before .before .before .before .before .before .before .before .before .before .before .before .arrange .result) (p .4) (c .before .before .before .before .before .before .before .before .before .before .before .before .plan .given) (c .before .before .before .before .before .before .before .before .before .before .before .before .before .before .before .arrange .ensures) (c .before .before .before .before .before .before .before .w .given .0 .0) (c .before .before .before .before .before .before .before .w .given .1) in omega (arith, z)
+
+part-run-list-end-2 : tie.Need-part-run-list-end-2
+part-run-list-end-2 c = let a = c .before .before .before .before .before .before .before .before .before .before .before .before .before .before .before .before .before .before .before .before .before .before .before .before .before .before .before .args in let p = c .before .before .before .before .before .before .before .before .before .before .before .before .before .before .before .before .before .before .before .before .before .before .before .before .before .before .before .pre in let z = steps-bounds (taskOf (a .bytes .now)) (setsOf (a .ever .now)) (setsOf (a .sets .now)) (a .i) (p .1) (a .plan .now) (c .before .before .before .before .before .before .before .before .before .before .before .before .before .before .before .arrange .last .1 .1 .1 .1 .1 .1 .1 .1 .1 .1 .1 .0) (a .at) (c .before .before .before .before .before .before .before .before .before .before .before .before .before .before .before .arrange .result) (p .4) (c .before .before .before .before .before .before .before .before .before .before .before .before .plan .given) (c .before .before .before .before .before .before .before .before .before .before .before .before .before .before .before .arrange .ensures) (c .before .before .before .before .before .before .before .w .given .0 .0) (c .before .before .before .before .before .before .before .w .given .1) in omega (arith, z)
+
+run-list-requires-2 : tie.Need-run-list-requires-2
+run-list-requires-2 c κs = let a = c .before .before .before .before .before .before .before .before .before .before .before .before .before .before .before .before .before .before .before .before .before .before .before .before .before .before .before .before .args in let p = c .before .before .before .before .before .before .before .before .before .before .before .before .before .before .before .before .before .before .before .before .before .before .before .before .before .before .before .before .pre in (p .0 .ground .accepted, p .0 .ground .tabled, part-entries (taskOf (a .bytes .now)) (setsOf (a .ever .now)) (setsOf (a .sets .now)) (a .i) (p .1) (a .plan .now) (c .before .before .before .before .before .before .before .before .before .before .before .before .before .before .before .before .arrange .last .1 .1 .1 .1 .1 .1 .1 .1 .1 .1 .1 .0) (a .at) (c .before .before .before .before .before .before .before .before .before .before .before .before .before .before .before .before .arrange .result) (p .4) (c .before .before .before .before .before .before .before .before .before .before .before .before .before .plan .given) (c .before .before .before .before .before .before .before .before .before .before .before .before .before .before .before .before .arrange .ensures) (c .before .before .before .before .before .before .before .before .w .given .0 .0) (c .before .before .before .before .before .before .before .before .w .given .1), p .6)
+
+same-length-4 : tie.Need-same-length-4
+same-length-4 c = c .before .before .before .before .before .before .before .before .before .before .before .before .before .before .before .before .memo .given
+
+same-length-5 : tie.Need-same-length-5
+same-length-5 c = c .before .before .before .before .before .before .before .before .before .before .before .before .before .before .plan .given
+
+same-length-6 : tie.Need-same-length-6
+same-length-6 c = c .before .before .before .before .before .before .before .before .before .before .before .before .work .given
+
+returns-2 : tie.Need-returns-2
+returns-2 c = let a = c .before .before .before .before .before .before .before .before .before .before .before .before .before .before .before .before .before .before .before .before .before .before .before .before .before .before .before .before .before .args in let p = c .before .before .before .before .before .before .before .before .before .before .before .before .before .before .before .before .before .before .before .before .before .before .before .before .before .before .before .before .before .pre in (steps-put (taskOf (a .bytes .now)) (setsOf (a .ever .now)) (setsOf (a .sets .now)) (a .i) (p .1) (a .plan .now) (c .before .before .before .before .before .before .before .before .before .before .before .before .before .before .before .before .before .arrange .last .1 .1 .1 .1 .1 .1 .1 .1 .1 .1 .1 .0) (a .at) (c .before .before .before .before .before .before .before .before .before .before .before .before .before .before .before .before .before .arrange .result) (p .4) (c .before .before .before .before .before .before .before .before .before .before .before .before .before .before .plan .given) (c .before .before .before .before .before .before .before .before .before .before .before .before .before .before .before .before .before .arrange .ensures) (c .before .before .before .before .before .before .before .before .before .w .given .0 .0) (c .before .before .before .before .before .before .before .before .before .w .given .1), steps-ran (taskOf (a .bytes .now)) (setsOf (a .ever .now)) (setsOf (a .sets .now)) (a .i) (p .1) (a .plan .now) (c .before .before .before .before .before .before .before .before .before .before .before .before .before .before .before .before .before .arrange .last .1 .1 .1 .1 .1 .1 .1 .1 .1 .1 .1 .0) (a .at) (c .before .before .before .before .before .before .before .before .before .before .before .before .before .before .before .before .before .arrange .result) (p .4) (c .before .before .before .before .before .before .before .before .before .before .before .before .before .before .plan .given) (c .before .before .before .before .before .before .before .before .before .before .before .before .before .before .before .before .before .arrange .ensures) (c .before .before .before .before .before .before .before .before .before .w .given .0 .0) (c .before .before .before .before .before .before .before .before .before .w .given .1) _ _ (modeOf (a .paint)) (p .0 .colours) (c .before .before .before .before .run-list .ensures .0) (c .run-list2 .ensures .0), c .before .before .before .before .run-list .ensures .1, c .run-list2 .ensures .1)
+
+pub advance-spec : {M : Type 1} → statement M
+advance-spec =
+    tie.close
+    (tie.spec
+    arrange-requires
+    enum-known-w
+    enum-told
+    same-length
+    same-length-2
+    same-length-3
+    returns
+    mul-run-list
+    sub-run-list
+    part-run-list-start
+    part-run-list-end
+    run-list-requires
+    mul-run-list-2
+    sub-run-list-2
+    part-run-list-start-2
+    part-run-list-end-2
+    run-list-requires-2
+    same-length-4
+    same-length-5
+    same-length-6
+    returns-2)

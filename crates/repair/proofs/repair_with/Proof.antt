@@ -1,0 +1,72 @@
+use borrow.Author.Needs.{needs}
+use mathlib.Core.Path.{_≡_, refl, sym, ap, _∙_, subst}
+use Prim.Native.Nat.{ℕ, _+_, _*_, _/_, _%_, _^_, _-_, _≤_, _<_}
+use native.Mathlib.Omega.{arith}
+use lib.ListN.{length, getD, take, drop, set, replicate}
+use lib.Seq.{length-take-le}
+use Rattle.planning.specs.Record.{taskOf}
+use Rattle.state.specs.Sets.{setsOf}
+use Rattle.paths.proofs.Arriving.{ground-formed}
+use Rattle.repair.proofs.Ending.{goals-are, goals-wanted}
+use Rattle.repair.proofs.repair_with.Statement.{statement}
+use Rattle.repair.proofs.repair_with.Tie as tie
+use Rattle.repair.proofs.repair_with.Reads as reads
+use Rattle.repair.proofs.repair_with.Lts as lts
+use Rattle.repair.proofs.repair_from.Reads as repair-from-reads
+use Rattle.repair.proofs.sets_of.Reads as sets-of-reads
+use Rattle.repair.proofs.facts_of.Reads as facts-of-reads
+use Rattle.state.proofs.State.initial.Reads as initial-reads
+use Rattle.state.proofs.Goals.load.Reads as load-reads
+
+initial-requires : tie.Need-initial-requires
+initial-requires c κs = c .before .before .before .before .before .before .pre .0 .ground .accepted
+
+sets-of-requires : tie.Need-sets-of-requires
+sets-of-requires c κs = search needs
+
+sets-of-requires-2 : tie.Need-sets-of-requires-2
+sets-of-requires-2 c κs = search needs
+
+load-requires : tie.Need-load-requires
+load-requires c κs = c .before .before .before .before .before .before .before .before .before .pre .0 .ground .accepted
+
+facts-of-requires : tie.Need-facts-of-requires
+facts-of-requires c κs = search needs
+
+slice-aggregate-repair-from : tie.Need-slice-aggregate-repair-from
+slice-aggregate-repair-from c = search needs
+
+array-share-prefix-facts : tie.Need-array-share-prefix-facts
+array-share-prefix-facts c = omega (arith, c .before .before .before .before .load .ensures .few, c .before .before .before .facts-of .ensures .1)
+
+slice-aggregate-repair-from-2 : tie.Need-slice-aggregate-repair-from-2
+slice-aggregate-repair-from-2 c = sym (length-take-le _ _ (omega (arith, c .before .before .before .before .before .load .ensures .few, c .before .before .before .before .facts-of .ensures .1)))
+
+repair-from-requires : tie.Need-repair-from-requires
+repair-from-requires c κs = let a = c .before .before .before .before .before .before .before .before .before .before .before .before .before .before .before .before .before .args in let p = c .before .before .before .before .before .before .before .before .before .before .before .before .before .before .before .before .before .pre in ((p .0, goals-wanted (taskOf (a .bytes .now)) (ground-formed (a .bytes .now) (a .table .now) (a .head .now) (a .chain .now) (a .masks .now) (p .0 .ground)) (c .before .before .before .before .before .before .facts-of .result) (c .before .before .before .before .before .before .before .load .result .count) (omega (arith, c .before .before .before .before .before .before .before .load .ensures .few, c .before .before .before .before .before .before .facts-of .ensures .1)) (λ k h. rw (c .before .before .before .before .before .before .facts-of .ensures .0) (c .before .before .before .before .before .before .before .load .ensures .small k h)) (rw (c .before .before .before .before .before .before .facts-of .ensures .0) (c .before .before .before .before .before .before .before .load .ensures .are)), goals-are (taskOf (a .bytes .now)) (ground-formed (a .bytes .now) (a .table .now) (a .head .now) (a .chain .now) (a .masks .now) (p .0 .ground)) (c .before .before .before .before .before .before .facts-of .result) (c .before .before .before .before .before .before .before .load .result .count) (omega (arith, c .before .before .before .before .before .before .before .load .ensures .few, c .before .before .before .before .before .before .facts-of .ensures .1)) (λ k h. rw (c .before .before .before .before .before .before .facts-of .ensures .0) (c .before .before .before .before .before .before .before .load .ensures .small k h)) (rw (c .before .before .before .before .before .before .facts-of .ensures .0) (c .before .before .before .before .before .before .before .load .ensures .are)), p .1, refl, p .2), (c .before .before .before .before .before .before .before .before .before .sets-of .ensures .1, c .before .before .before .before .before .before .before .before .sets-of2 .ensures .1, ap setsOf (c .before .before .before .before .before .before .before .before .before .sets-of .ensures .0) ∙ c .before .before .before .before .before .before .before .before .before .before .initial .ensures, ap setsOf (c .before .before .before .before .before .before .before .before .sets-of2 .ensures .0) ∙ c .before .before .before .before .before .before .before .before .before .before .initial .ensures))
+
+same-length : tie.Need-same-length
+same-length c = c .before .before .before .plan .given
+
+same-length-2 : tie.Need-same-length-2
+same-length-2 c = c .before .work .given
+
+returns : tie.Need-returns
+returns c = c .before .before .before .before .before .repair-from .ensures
+
+pub repair-with-spec : {M : Type 1} → statement M
+repair-with-spec =
+    tie.close
+    (tie.spec
+    initial-requires
+    sets-of-requires
+    sets-of-requires-2
+    load-requires
+    facts-of-requires
+    slice-aggregate-repair-from
+    array-share-prefix-facts
+    slice-aggregate-repair-from-2
+    repair-from-requires
+    same-length
+    same-length-2
+    returns)

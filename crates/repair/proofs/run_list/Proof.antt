@@ -1,0 +1,63 @@
+use borrow.Author.Needs.{needs}
+use mathlib.Core.Path.{_≡_, refl, sym, ap, _∙_}
+use Prim.Native.Nat.{ℕ, _+_, _*_, _/_, _^_, _-_, _≤_, _<_}
+use native.Mathlib.Omega.{arith}
+use lib.ListN.{length, getD, take, drop, set, replicate}
+use Rattle.planning.specs.Record.{taskOf}
+use Rattle.state.specs.Sets.{modeOf}
+use Rattle.repair.proofs.Values.{Running, running-listed, running-turn, running-end}
+use Rattle.repair.proofs.run_list.Statement.{statement}
+use Rattle.repair.proofs.run_list.Tie as tie
+use Rattle.repair.proofs.run_list.Reads as reads
+use Rattle.repair.proofs.run_list.Lts as lts
+use Rattle.repair.proofs.apply.Reads as apply-reads
+use Rattle.repair.proofs.wide.Reads as wide-reads
+
+abbrev Inv-loop : tie.InvT-loop
+Inv-loop bytes table sets₀ list mode k₀ sets k = Running (taskOf bytes) (modeOf mode) list sets₀ sets k
+
+abbrev μ-loop : tie.MeasureT-loop
+μ-loop bytes table sets₀ list mode k₀ sets k = length list - k
+
+loop-holds : tie.Need-loop-holds Inv-loop μ-loop
+loop-holds c = record { within = omega arith; long = c .before .before .before .pre .3; so-far = refl }
+
+mul-wide : tie.Need-mul-wide Inv-loop μ-loop
+mul-wide c = search needs
+
+shared-slice-read-wide : tie.Need-shared-slice-read-wide Inv-loop μ-loop
+shared-slice-read-wide c = search needs
+
+wide-requires : tie.Need-wide-requires Inv-loop μ-loop
+wide-requires c κs = search needs
+
+apply-requires : tie.Need-apply-requires Inv-loop μ-loop
+apply-requires c κs = let a = c .before .before .before .before .before .before .before .before .args in let p = c .before .before .before .before .before .before .before .before .pre in (running-listed (a .bytes .now) (a .table .now) (p .0) (p .1) (a .list .now) (p .2) (c .before .before .before .before .loop .k) (omega arith) _ (c .wide .ensures), c .before .before .before .before .loop .inv .long)
+
+add-k : tie.Need-add-k Inv-loop μ-loop
+add-k c = search needs
+
+loop-less : tie.Need-loop-less Inv-loop μ-loop
+loop-less c = search needs
+
+loop-again : tie.Need-loop-again Inv-loop μ-loop
+loop-again c = let a = c .before .before .before .before .before .before .before .before .before .args in let p = c .before .before .before .before .before .before .before .before .before .pre in running-turn (a .bytes .now) (a .table .now) (p .0) (p .1) (modeOf (a .mode)) (a .list .now) _ _ _ (c .before .before .before .before .before .loop .inv) (p .2) (omega arith) _ (c .before .wide .ensures) _ (c .apply .ensures)
+
+returns : tie.Need-returns Inv-loop μ-loop
+returns c = running-end _ _ _ _ _ _ (c .before .loop .inv) (omega arith)
+
+pub run-list-spec : {M : Type 1} → statement M
+run-list-spec =
+    tie.close
+    (tie.spec
+    Inv-loop
+    μ-loop
+    loop-holds
+    mul-wide
+    shared-slice-read-wide
+    wide-requires
+    apply-requires
+    add-k
+    loop-less
+    loop-again
+    returns)
