@@ -288,22 +288,26 @@ module _ (s : List ℕ) (p pre : ℕ) (ep : pre ≡ preconditionsIn s p) where
   unfolding actionFactsChecks actionEnd effectsFrom
   eff-answer eff mid a ee e h = rw (← ep, ← ee, e .1) (skip-stage (factsChecks s (p + 24) 0 pre) (factsChecks s mid 0 eff) a (mid + 12 * eff) (e .0) h)
 
--- an action whose head is there and whose facts pass
-module _ (s : List ℕ) (p h : ℕ) (e : h ≡ bitsAt s p 24) where
-  pub head-pre : h / 16 % 16 ≡ bitsAt s (p + 16) 4
-  head-pre = omega (arith, bitsAt-add s p 20 4, bitsAt-add s p 16 4, bitsAt-lt s (p + 16) 4, bitsAt-lt s (p + 20) 4)
+-- an action whose head is there and whose facts pass: its two counts in one
+module _ (s : List ℕ) (p b : ℕ) (e : b ≡ bitsAt s (p + 16) 8) where
+  both : bitsAt s (p + 16) 8 ≡ bitsAt s (p + 16) 4 * 16 + bitsAt s (p + 20) 4
+  both = let f : p + 16 + 4 ≡ p + 20 = omega arith in rw f at (bitsAt-add s (p + 16) 4 4)
 
-  pub head-eff : h % 16 ≡ bitsAt s (p + 20) 4
-  head-eff = omega (arith, bitsAt-add s p 20 4, bitsAt-lt s (p + 20) 4)
+  pre-count : b / 16 ≡ bitsAt s (p + 16) 4
+  pre-count = omega (arith, both, bitsAt-lt s (p + 20) 4)
 
-  pub action-sound : p + 24 ≤ 8 * length s → inOrder (factsChecks s (p + 24) 0 (h / 16 % 16)) ≡ none → inOrder (factsChecks s (p + 24 + 12 * (h / 16 % 16)) 0 (h % 16)) ≡ none
-      → (inOrder (actionChecks s p) ≡ none) × (p + 24 + 12 * (h / 16 % 16 + h % 16) ≡ actionEnd s p)
+  eff-count : b % 16 ≡ bitsAt s (p + 20) 4
+  eff-count = omega (arith, both, bitsAt-lt s (p + 20) 4)
+
+  pub action-sound :
+      p + 24 ≤ 8 * length s → inOrder (factsChecks s (p + 24) 0 (b / 16)) ≡ none → inOrder (factsChecks s (p + 24 + 12 * (b / 16)) 0 (b % 16)) ≡ none
+      → (inOrder (actionChecks s p) ≡ none) × (p + 24 + 12 * (b / 16 + b % 16) ≡ actionEnd s p)
   unfolding actionChecks actionEnd effectsFrom preconditionsIn effectsIn inOrder andThen
-  action-sound l a b =
-      let ep = head-pre in
-      let ee = head-eff in (
+  action-sound l f g =
+      let ep = pre-count in
+      let ee = eff-count in (
         rw (field-there s p 16 (omega arith), field-there s (p + 16) 4 (omega arith), field-there s (p + 20) 4 (omega arith), ← ep, ← ee)
-            (stage-passes (factsChecks s (p + 24) 0 (h / 16 % 16)) (factsChecks s (p + 24 + 12 * (h / 16 % 16)) 0 (h % 16)) a ∙ b),
+            (stage-passes (factsChecks s (p + 24) 0 (b / 16)) (factsChecks s (p + 24 + 12 * (b / 16)) 0 (b % 16)) f ∙ g),
         omega arith,
       )
 

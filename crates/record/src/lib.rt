@@ -1,5 +1,5 @@
-// The check of a record: 1 to 6, in bit order, at each field 1 before the rest. A whole variable, the head of an action and four
-// facts at a time are read in one load and tested quickly; these tests only say that all is sound. Where they do not, the fields
+// The check of a record: 1 to 6, in bit order, at each field 1 before the rest. A whole variable, the two counts of an action and
+// four facts at a time are read in one load and tested quickly; these tests only say that all is sound. Where they do not, the fields
 // are gone through one by one: a function for each field or kind of field takes the answer of the one below apart and hands on
 // the refusal with its place.
 use bits::Read;
@@ -227,9 +227,9 @@ fn sound_action(bytes: &[u8], at: usize, counts: &[u8; 64]) -> usize
     if bytes.len() < (at + 31) / 8 {
         return 0;
     }
-    let head = bits::window_at(bytes, at) >> 40;
-    let pre = (head / 16 % 16) as usize;
-    let eff = (head % 16) as usize;
+    let both = bits::window_at(bytes, at + 16) >> 56;
+    let pre = (both / 16) as usize;
+    let eff = (both % 16) as usize;
     if !sound_facts(bytes, at + 24, pre, counts) {
         return 0;
     }

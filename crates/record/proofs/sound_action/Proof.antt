@@ -1,4 +1,4 @@
--- The head's counts are the last 8 of its 24 bits; fields that are there and two lists that pass make the action pass.
+-- The two counts are the 8 bits behind the cost; fields that are there and two lists that pass make the action pass.
 use Rattle.record.proofs.Laws.{action-sound}
 use native.Mathlib.Omega.{arith}
 use borrow.Author.Tests.{not-false}
@@ -18,6 +18,9 @@ add-if2 c = search needs
 
 returns-2 : tie.Need-returns-2
 returns-2 c = λ h. absurd (omega arith)
+
+add-window-at : tie.Need-add-window-at
+add-window-at c = search needs
 
 window-at-requires : tie.Need-window-at-requires
 window-at-requires c κs = search needs
@@ -59,7 +62,7 @@ add-result-3 : tie.Need-add-result-3
 add-result-3 c = search needs
 
 returns-5 : tie.Need-returns-5
-returns-5 c = λ _. action-sound _ _ _ (c .before .before .before .before .window-at .ensures 24 (omega arith) (omega arith)) (omega arith) (c .before .before .before .sound-facts .ensures (not-false _ (c .before .before .if3 .left))) (c .before .sound-facts2 .ensures (not-false _ (c .if4 .left)))
+returns-5 c = λ _. action-sound _ _ _ (c .before .before .before .before .window-at .ensures 8 (omega arith) (omega arith)) (omega arith) (c .before .before .before .sound-facts .ensures (not-false _ (c .before .before .if3 .left))) (c .before .sound-facts2 .ensures (not-false _ (c .if4 .left)))
 
 pub sound-action-spec : {M : Type 1} → statement M
 sound-action-spec =
@@ -68,6 +71,7 @@ sound-action-spec =
     returns
     add-if2
     returns-2
+    add-window-at
     window-at-requires
     add-sound-facts
     sound-facts-requires
