@@ -46,7 +46,13 @@ fn cost(bytes: &[u8], table: &[u16], list: &[u16]) -> u64
 pub fn runnable<'a>(answer: Planned, plan: &'a [u16]) -> &'a [u16]
     ensures { λ r. ⌜ now r ≡ runnable (answerOf answer) (now (plan .entry)) ⌝ }
 {
-    let Planned::Plan { steps: _, cost: _, runs, real: _ } = answer else {
+    let Planned::Plan {
+        steps: _,
+        cost: _,
+        runs,
+        real: _,
+    } = answer
+    else {
         return &plan[..0];
     };
     let n = runs as usize;

@@ -279,10 +279,10 @@ fn read_each(bytes: &[u8], from: usize, steps: usize, list: &mut [u16])
 
 // Four steps behind the first five bits of byte j, written from i on.
 fn read_four(bytes: &[u8], j: usize, list: &mut [u16], i: usize)
-    requires { ⌜ (j + 8 ≤ length (now bytes)) × (i + 4 ≤ length (now list)) ⌝ }
+    requires { ⌜ (j + 6 ≤ length (now bytes)) × (8 ≤ length (now bytes)) × (j ≤ 50000) × (i + 4 ≤ length (now list)) ⌝ }
     ensures { λ _. ⌜ now (list .exit) ≡ take i (now (list .entry)) ++ stepsAt (now (bytes .entry)) (j * 8 + 5) 4 ++ drop (i + 4) (now (list .entry)) ⌝ }
 {
-    let word = bits::long_word(bytes, j) / 65536;
+    let word = bits::window_at(bytes, j * 8) / 65536;
     list[i] = ((word >> 33) % 1024) as u16;
     list[i + 1] = ((word >> 23) % 1024) as u16;
     list[i + 2] = ((word >> 13) % 1024) as u16;
@@ -296,7 +296,7 @@ fn read_steps(bytes: &[u8], steps: usize, list: &mut [u16])
 {
     let mut i: usize = 0;
     let mut j: usize = 6;
-    while i + 4 <= steps && j + 8 <= bytes.len() {
+    while i + 4 <= steps {
         read_four(bytes, j, list, i);
         i += 4;
         j += 5;

@@ -2,13 +2,15 @@
 use native.Mathlib.Omega.{arith}
 use borrow.Author.Needs.{needs}
 use lib.ListN.{length-set}
-use Rattle.bits.proofs.Window.{bitsAt-front}
 use Rattle.sheet.proofs.Copying.{four-stored}
 use Rattle.sheet.proofs.read_four.Statement.{statement}
 use Rattle.sheet.proofs.read_four.Tie as tie
 
-long-word-requires : tie.Need-long-word-requires
-long-word-requires c κs = search needs
+mul-window-at : tie.Need-mul-window-at
+mul-window-at c = search needs
+
+window-at-requires : tie.Need-window-at-requires
+window-at-requires c κs = search needs
 
 cast-list : tie.Need-cast-list
 cast-list c = search needs
@@ -59,13 +61,14 @@ same-length : tie.Need-same-length
 same-length c = search needs
 
 returns : tie.Need-returns
-returns c = let a = c .before .before .before .args in four-stored (a .bytes .now) (a .list .now) (a .j) (a .i) _ (bitsAt-front _ _ _ (c .long-word .ensures)) (omega arith)
+returns c = let a = c .before .before .before .args in four-stored (a .bytes .now) (a .list .now) (a .j) (a .i) _ (c .window-at .ensures 48 (omega arith) (omega arith)) (omega arith)
 
 pub read-four-spec : {M : Type 1} → statement M
 read-four-spec =
     tie.close
     (tie.spec
-    long-word-requires
+    mul-window-at
+    window-at-requires
     cast-list
     mul-list
     slice-write-list

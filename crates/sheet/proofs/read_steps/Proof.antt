@@ -1,12 +1,10 @@
--- Four steps a turn while eight bytes are left; `read_each` has the rest.
-use Rattle.sheet.proofs.Copying.{Copying, copying-none, copying-four}
-use Rattle.planning.specs.Sheet.{stepsAt}
-use borrow.Author.Needs.{needs}
-use borrow.Author.Tests.{leb-true}
-use mathlib.Core.Path.{_≡_, refl, sym, ap, _∙_}
-use Prim.Native.Nat.{ℕ, _+_, _*_, _/_, _^_, _-_, _≤_, _<_}
+-- Four steps a turn; `read_each` has the rest.
+use mathlib.Core.Path.{_≡_, sym, _∙_}
+use Prim.Native.Nat.{_+_, _*_, _-_}
 use native.Mathlib.Omega.{arith}
-use lib.ListN.{length, getD, take, drop, set, replicate}
+use borrow.Author.Needs.{needs}
+use Rattle.planning.specs.Sheet.{stepsAt}
+use Rattle.sheet.proofs.Copying.{Copying, copying-none, copying-four}
 use Rattle.sheet.proofs.read_steps.Statement.{statement}
 use Rattle.sheet.proofs.read_steps.Tie as tie
 
@@ -22,11 +20,8 @@ loop-holds c = (omega arith, copying-none _ _ _ (omega arith))
 add-loop : tie.Need-add-loop Inv-loop μ-loop
 add-loop c = search needs
 
-add-if1 : tie.Need-add-if1 Inv-loop μ-loop
-add-if1 c = search needs
-
 read-four-requires : tie.Need-read-four-requires Inv-loop μ-loop
-read-four-requires c κs = (leb-true _ _ (c .before .if1 .taken), omega (arith, c .before .before .before .loop .inv))
+read-four-requires c κs = (omega (arith, c .before .before .loop .inv), omega (arith, c .before .before .loop .inv), omega (arith, c .before .before .loop .inv), omega (arith, c .before .before .loop .inv))
 
 add-i : tie.Need-add-i Inv-loop μ-loop
 add-i c = search needs
@@ -38,10 +33,10 @@ loop-less : tie.Need-loop-less Inv-loop μ-loop
 loop-less c = search needs
 
 loop-again : tie.Need-loop-again Inv-loop μ-loop
-loop-again c = (omega arith, copying-four _ _ _ _ _ _ (c .before .before .before .before .before .before .loop .inv .1) _ _ (omega arith) (c .before .before .before .before .before .before .loop .inv .0) (search needs) (c .before .before .read-four .ensures))
+loop-again c = (omega arith, copying-four _ _ _ _ _ _ (c .before .before .before .before .before .loop .inv .1) _ _ (omega arith) (c .before .before .before .before .before .loop .inv .0) (search needs) (c .before .before .read-four .ensures))
 
 read-each-requires : tie.Need-read-each-requires Inv-loop μ-loop
-read-each-requires c κs = (c .before .before .loop .inv .1 .within, search needs, omega (arith, c .before .before .loop .inv), search needs)
+read-each-requires c κs = search needs
 
 same-length : tie.Need-same-length Inv-loop μ-loop
 same-length c = search needs
@@ -57,7 +52,6 @@ read-steps-spec =
     μ-loop
     loop-holds
     add-loop
-    add-if1
     read-four-requires
     add-i
     add-j
