@@ -19,7 +19,7 @@ use Rattle.planning.proofs.Tests.{and-l, and-r, and-i, T→true, true→T}
 use Rattle.planning.proofs.Formed.{Formed, formed-of}
 use Rattle.state.specs.Sets.{inSet, setsOf, actionOf, Listed}
 use Rattle.state.proofs.Members.{inSet-single, one-shl}
-use Rattle.state.proofs.Rows.{listed, listed-act}
+use Rattle.state.proofs.Tabled.{tabled-listed, tabled-action}
 use Rattle.paths.specs.Paths.{Next, Sets, Chained, Ground, Member, lower, Found, Enters, Marks, Kept, Apart, Leads}
 use Rattle.paths.proofs.Sets.{inSet-xor, either, inSet-all}
 use Rattle.paths.proofs.Leads.{marks-turn, marks-map, hop-is, hop-fits, Layered, layered-start, layered-turn, layered-stop}
@@ -168,10 +168,10 @@ module _ (s table head chain masks : List ℕ) (G : Ground s table head chain ma
   ground-formed = formed-of s (G .accepted)
 
   pub ground-listed : (i : ℕ) → i < actions (taskOf s) → Listed table i
-  ground-listed i b = listed (taskOf s) table ground-formed (G .tabled) i b
+  ground-listed i b = tabled-listed (taskOf s) table ground-formed (G .tabled) i b
 
   pub ground-act : (i : ℕ) → i < actions (taskOf s) → actionOf table i ≡ act (taskOf s) i
-  ground-act i b = listed-act (taskOf s) table ground-formed (G .tabled) i b
+  ground-act i b = tabled-action (taskOf s) table i (G .tabled i b)
 
   module _ (K : State) (v front e rest : ℕ) (vb : v < 64) (eb : e < 64) (bl : T (black (taskOf s) v)) (m : T (inSet front e)) (apart : Apart front rest) where
     pub arrive-start : (row : List ℕ) (grow i : ℕ) → length row ≡ 64 → Marks (actions (taskOf s)) rest (Enters (taskOf s) K v front e) row grow

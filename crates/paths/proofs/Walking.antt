@@ -21,7 +21,7 @@ use Rattle.planning.proofs.Below.{First, First?, first-is}
 use Rattle.planning.proofs.Graph.{reach-move}
 use Rattle.planning.proofs.Formed.{Formed, formed-of}
 use Rattle.table.specs.Table.{Tabled}
-use Rattle.state.proofs.Rows.{listed, listed-act}
+use Rattle.state.proofs.Tabled.{tabled-listed, tabled-action}
 use Rattle.state.specs.Sets.{actionOf, Listed}
 use Rattle.paths.specs.Paths.{Asked, leadIn, lead, numberOf, Leads, Sets, Put}
 use Rattle.paths.specs.declared.Written.the-variants.{Upto, Long}
@@ -164,10 +164,10 @@ module _ (s table : List ℕ) (acc : recordCheck s ≡ none) (tab : Tabled (task
   below = walking-move (taskOf s) F K v d c at row d₀ dd x e i W ne .below
 
   pub walk-listed : Listed table j
-  walk-listed = rw same (listed (taskOf s) table F tab i below)
+  walk-listed = rw same (tabled-listed (taskOf s) table F tab i below)
 
   walk-asked : (y : ℕ) → Asked (look (actionOf table j .eff) v) y → Asked (look (act (taskOf s) i .eff) v) y
-  walk-asked y q = rw (same, listed-act (taskOf s) table F tab i below) at q
+  walk-asked y q = rw (same, tabled-action (taskOf s) table i (tab i below)) at q
 
   pub walk-inside : (y : ℕ) → Asked (look (actionOf table j .eff) v) y → y < count (taskOf s) v
   walk-inside y q = target-is (taskOf s) F K v d x i y (walking-move (taskOf s) F K v d c at row d₀ dd x e i W ne) (walk-asked y q) .1

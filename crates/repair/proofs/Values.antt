@@ -21,7 +21,7 @@ use Rattle.planning.proofs.Below.{First, First?, first-is}
 use Rattle.planning.proofs.Formed.{formed-of}
 use Rattle.table.specs.Table.{factOf, factsIn, Tabled}
 use Rattle.state.specs.Sets.{inSet, setsOf, modeOf, actionOf, Listed}
-use Rattle.state.proofs.Rows.{listed, listed-act}
+use Rattle.state.proofs.Tabled.{tabled-listed, tabled-action}
 use Rattle.paths.specs.Paths.{Member}
 use Rattle.paths.proofs.Sets.{member-found, member-none}
 use Rattle.passes.specs.Passes.{Entries}
@@ -108,11 +108,11 @@ unfolding run
 running-turn s table acc tab m l sets₀ sets k R en h i ei sets′ e = record {
   within = omega arith;
   long = e .1;
-  so-far = R .so-far ∙ rw (drop-cons l k 0 h, ← add-one k, e .0, ei, listed-act (taskOf s) table (formed-of s acc) tab (getD l k 0) (en k h)) refl;
+  so-far = R .so-far ∙ rw (drop-cons l k 0 h, ← add-one k, e .0, ei, tabled-action (taskOf s) table (getD l k 0) (tab (getD l k 0) (en k h))) refl;
 }
 
 pub running-listed : (s table : List ℕ) → recordCheck s ≡ none → Tabled (taskOf s) table → (l : List ℕ) → Entries (taskOf s) l → (k : ℕ) → k < length l → (i : ℕ) → i ≡ getD l k 0 → Listed table i
-running-listed s table acc tab l en k h i ei = rw ei (listed (taskOf s) table (formed-of s acc) tab (getD l k 0) (en k h))
+running-listed s table acc tab l en k h i ei = rw ei (tabled-listed (taskOf s) table (formed-of s acc) tab (getD l k 0) (en k h))
 
 pub running-end : (t : Task) (m : Mode) (l sets₀ sets : List ℕ) (k : ℕ) → Running t m l sets₀ sets k → length l ≤ k → (setsOf sets ≡ run (act t) m l (setsOf sets₀)) × (length sets ≡ 64)
 unfolding run
