@@ -10,13 +10,7 @@ use Rattle.bits.specs.declared.Read.{Read}
 use Rattle.bits.specs.declared.Read.the-variants.{Value, Refused}
 use Rattle.bits.specs.Answers.{readOf, refusalOf}
 use Rattle.planning.specs.Basics.{Check, refuse, check, andThen, inOrder, Answer, answer, refused, done}
-
--- the checks of two stages
-pub inOrder-append : (xs ys : List Check) → inOrder (xs ++ ys) ≡ andThen (inOrder xs) (inOrder ys)
-unfolding inOrder andThen
-inOrder-append [] ys = refl
-inOrder-append (none ∷ xs) ys = inOrder-append xs ys
-inOrder-append (some r ∷ xs) ys = refl
+use Rattle.planning.proofs.Checks.{inOrder-++}
 
 -- what the answer says of the checks
 pub answer-refused : {A : Type 0} (c : Check) (a : A) (n p : ℕ) → answer c a ≡ refused n p → c ≡ refuse n p
@@ -32,7 +26,7 @@ answer-done (some r) a b e = let z : _≡_ {A = ℕ} 0 1 = cc in absurd (omega a
 -- a stage that passes leaves the rest
 pub stage-passes : (xs ys : List Check) → inOrder xs ≡ none → inOrder (xs ++ ys) ≡ inOrder ys
 unfolding andThen
-stage-passes xs ys e = rw (inOrder-append xs ys, e) refl
+stage-passes xs ys e = rw (inOrder-++ xs ys, e) refl
 
 -- what a layer below answered, taken apart: it passed with a value, or its refusal is handed on
 pub passed : (r : Read) (v : ℕ) (c : Check) (b : ℕ) → r ≡ Value v → readOf r ≡ answer c b → (c ≡ none) × (b ≡ v)
@@ -61,7 +55,7 @@ hit c xs n p b e = rw e refl
 
 pub stops-stage : (r : Read) (f : Refusal) (xs ys : List Check) (b d : ℕ) → r ≡ Refused f → readOf r ≡ answer (inOrder xs) b → readOf r ≡ answer (inOrder (xs ++ ys)) d
 unfolding andThen answer
-stops-stage r f xs ys b d e h = rw (e, inOrder-append xs ys, answer-refused (inOrder xs) b (f .number) (f .place) (sym h ∙ ap readOf e)) refl
+stops-stage r f xs ys b d e h = rw (e, inOrder-++ xs ys, answer-refused (inOrder xs) b (f .number) (f .place) (sym h ∙ ap readOf e)) refl
 
 -- no check is left
 pub pass-end : {A : Type 0} (b : A) → done b ≡ answer (inOrder []) b

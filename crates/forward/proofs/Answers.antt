@@ -14,8 +14,8 @@ use lib.Seq.{take-suc, drop-cons, take-length, set-at, length-take-le, take-at}
 use Rattle.planning.specs.Basics.{Refusal, Check, check, refuse, andThen, inOrder, Answer, refused, done, answer}
 use Rattle.planning.specs.Record.{Task, taskOf, recordCheck}
 use Rattle.planning.specs.Runs.{State, Mode, act, relaxed, run, initial, step, factsIn, size}
-use Rattle.planning.specs.Relaxed.{forwardRun, forwardEnd, solvable, factsReached}
-use Rattle.planning.specs.Calls.{lent, capacity, roomCheck, solvableCheck, Forward, forwardCall, forwardList}
+use Rattle.planning.specs.Relaxed.{forwardRun, forwardEnd, reachesGoals, factsReached}
+use Rattle.planning.specs.Calls.{lent, capacity, roomCheck, goalsCheck, Forward, forwardCall, forwardList}
 use Rattle.planning.proofs.Formed.{Formed}
 use Rattle.forward.specs.Answers.{laidList}
 use Rattle.table.specs.Size.{tableSize}
@@ -26,29 +26,29 @@ use Rattle.state.proofs.Count.{size-facts, within-initial, within-step}
 -- the checks of a call, in their order
 module _ {A : Type 0} (s : List ℕ) (n room : ℕ) (a : A) where
   abbrev pub called : Answer A
-  called = answer (inOrder (recordCheck s ∷ solvableCheck (taskOf s) ∷ roomCheck n room ∷ [])) a
+  called = answer (inOrder (recordCheck s ∷ goalsCheck (taskOf s) ∷ roomCheck n room ∷ [])) a
 
   pub called-refused : (r : Refusal) → recordCheck s ≡ some r → called ≡ refused (r .number) (r .place)
   unfolding answer inOrder andThen
   called-refused r e = rw e refl
 
-  pub called-unsolved : recordCheck s ≡ none → solvable (taskOf s) ≡ false → called ≡ refused 10 (factsReached (taskOf s))
-  unfolding answer inOrder andThen solvableCheck check
+  pub called-unsolved : recordCheck s ≡ none → reachesGoals (taskOf s) ≡ false → called ≡ refused 10 (factsReached (taskOf s))
+  unfolding answer inOrder andThen goalsCheck check
   called-unsolved e h = rw (e, h) refl
 
-  pub called-room : recordCheck s ≡ none → solvable (taskOf s) ≡ true → called ≡ answer (roomCheck n room) a
-  unfolding inOrder andThen solvableCheck check
+  pub called-room : recordCheck s ≡ none → reachesGoals (taskOf s) ≡ true → called ≡ answer (roomCheck n room) a
+  unfolding inOrder andThen goalsCheck check
   called-room e h = rw (e, h) (ap (λ c. answer c a) (last (roomCheck n room)))
     where
       last : (c : Check) → andThen c none ≡ c
       last none = refl
       last (some r) = refl
 
-  pub called-whole : recordCheck s ≡ none → solvable (taskOf s) ≡ true → none ≡ roomCheck n room → done a ≡ called
+  pub called-whole : recordCheck s ≡ none → reachesGoals (taskOf s) ≡ true → none ≡ roomCheck n room → done a ≡ called
   unfolding answer
   called-whole e h q = sym (called-room e h ∙ rw (← q) refl)
 
-  pub called-short : recordCheck s ≡ none → solvable (taskOf s) ≡ true → (p q : ℕ) → refuse p q ≡ roomCheck n room → refused p q ≡ called
+  pub called-short : recordCheck s ≡ none → reachesGoals (taskOf s) ≡ true → (p q : ℕ) → refuse p q ≡ roomCheck n room → refused p q ≡ called
   unfolding answer
   called-short e h p q z = sym (called-room e h ∙ rw (← z) refl)
 
@@ -58,7 +58,7 @@ unfolding lent answer
 lent-same none a b n l = refl
 lent-same (some r) a b n l = refl
 
-pub called-list : {A : Type 0} (s l : List ℕ) (m : ℕ) (a : A) → recordCheck s ≡ none → solvable (taskOf s) ≡ true → laidList m l ≡ lent (called s (length l) (capacity m) a) m l
+pub called-list : {A : Type 0} (s l : List ℕ) (m : ℕ) (a : A) → recordCheck s ≡ none → reachesGoals (taskOf s) ≡ true → laidList m l ≡ lent (called s (length l) (capacity m) a) m l
 unfolding laidList
 called-list s l m a e h = lent-same {A = ℕ} (roomCheck (length l) (capacity m)) 0 a m l ∙ ap (λ x. lent x m l) (sym (called-room s (length l) (capacity m) a e h))
 
@@ -126,7 +126,7 @@ module _ (s : List ℕ) (m : ℕ) where
       let z = called-refused s (length (forwardRun (taskOf s))) (capacity m) x (record { number = p; place = q }) (sym e) in
       (sym z, lent-refused (forwardCall s m) p q m (forwardRun (taskOf s)) z)
 
-  module _ (e : recordCheck s ≡ none) (b : Bool) (eb : b ≡ solvable (taskOf s)) (f : ℕ) (ef : f ≡ factsReached (taskOf s)) where
+  module _ (e : recordCheck s ≡ none) (b : Bool) (eb : b ≡ reachesGoals (taskOf s)) (f : ℕ) (ef : f ≡ factsReached (taskOf s)) where
     pub forward-unsolved : not b ≡ true → (refused 10 f ≡ forwardCall s m) × (replicate m 65535 ≡ forwardList s m)
     unfolding forwardCall forwardList
     forward-unsolved h =
@@ -135,7 +135,7 @@ module _ (s : List ℕ) (m : ℕ) where
         (rw ef (sym z), lent-refused (forwardCall s m) 10 (factsReached (taskOf s)) m (forwardRun (taskOf s)) z)
 
     module _ (h : not b ≡ false) (l : List ℕ) (el : l ≡ forwardRun (taskOf s)) where
-      solved : solvable (taskOf s) ≡ true
+      solved : reachesGoals (taskOf s) ≡ true
       solved = sym eb ∙ not-false b h
 
       pub forward-whole : (n : ℕ) → n ≡ length (forwardRun (taskOf s)) → none ≡ roomCheck (length l) (capacity m) → done (record { steps = n; reached = f }) ≡ forwardCall s m

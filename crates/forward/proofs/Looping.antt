@@ -12,7 +12,7 @@ use lib.ListN.{length, getD, set, replicate}
 use Rattle.planning.specs.Basics.{first, tally}
 use Rattle.planning.specs.Record.{Action, Task, taskOf, recordCheck}
 use Rattle.planning.specs.Runs.{State, Mode, has, holds, step, relaxed, actions, act, initial, goals}
-use Rattle.planning.specs.Relaxed.{adds, forwardRun, forwardEnd, solvable}
+use Rattle.planning.specs.Relaxed.{adds, forwardRun, forwardEnd, reachesGoals}
 use Rattle.planning.proofs.Tests.{and-l, and-r}
 use Rattle.planning.proofs.Below.{tally-le, tally-sub}
 use Rattle.planning.proofs.Facts.{_⊆_, holds→sub, sub→holds}
@@ -91,7 +91,7 @@ module _ (bytes table masks : List ℕ) (A : ℕ) (g : Goals) (fst plan sets hea
 
     -- every goal is reached
     pub looping-solved : r ≡ g .count → (a : Ran) → a .steps ≡ n → a .solved ≡ true → a .state .sets ≡ sets → RanOf t plan fst a
-    unfolding solvable
+    unfolding reachesGoals
     looping-solved e a en eb es =
         let h = goals-met t formed (g .facts) plan fst s n k (L .going) (g .count) r (L .room) (L .goals-are .are) U e in
         let z = ended-met t formed (g .facts) plan fst s n k (L .going) h in
@@ -112,7 +112,7 @@ module _ (bytes table masks : List ℕ) (A : ℕ) (g : Goals) (fst plan sets hea
 
       -- no action adds a fact
       pub looping-none : 1024 ≤ i → (a : Ran) → a .steps ≡ n → a .solved ≡ false → a .state .sets ≡ sets → RanOf t plan fst a
-      unfolding solvable
+      unfolding reachesGoals
       looping-none b a en eb es =
           let e : i ≡ 1024 = omega (arith, W .few) in
           let f = first-table ∙ sites-none (actionOf table) A s (has []) head next ready (L .sites) free (subst (Lowest ready) e W) in

@@ -14,7 +14,7 @@ use lib.Seq.{take-suc-set, length-take-le}
 use Rattle.planning.specs.Basics.{first, total, tally}
 use Rattle.planning.specs.Record.{Fact, Action, Task}
 use Rattle.planning.specs.Runs.{State, has, holds, step, relaxed, run, variables, actions, act, count, variable, initial, goals, size}
-use Rattle.planning.specs.Relaxed.{adds, forward, addable, forwardRun, forwardEnd, solvable, firstBy}
+use Rattle.planning.specs.Relaxed.{adds, forward, addable, forwardRun, forwardEnd, reachesGoals, firstAchiever}
 use Rattle.planning.proofs.Tests.{T→true, F→false, and-l, and-r}
 use Rattle.planning.proofs.Below.{total-le, total-pred, total-one, tally-pos}
 use Rattle.planning.proofs.Facts.{_⊆_, holds→sub, sub→holds}
@@ -71,35 +71,35 @@ newly : (ℕ → Action) → ℕ → State → ℕ → ℕ → Option ℕ
 newly act i s v d = elim (has (act i .eff) v d && not (s v d)) [ true ↦ some i | false ↦ none ]
 
 module _ (act : ℕ → Action) (i : ℕ) (v d : ℕ) where
-  firstBy-snoc : (l : List ℕ) (s : State) → firstBy act (l ++ (i ∷ [])) s v d ≡ orElse (firstBy act l s v d) (newly act i (run act relaxed l s) v d)
-  unfolding firstBy run orElse newly
-  firstBy-snoc [] s = refl
-  firstBy-snoc (j ∷ l) s = go (has (act j .eff) v d && not (s v d)) (firstBy-snoc l (step relaxed (act j) s))
+  firstAchiever-snoc : (l : List ℕ) (s : State) → firstAchiever act (l ++ (i ∷ [])) s v d ≡ orElse (firstAchiever act l s v d) (newly act i (run act relaxed l s) v d)
+  unfolding firstAchiever run orElse newly
+  firstAchiever-snoc [] s = refl
+  firstAchiever-snoc (j ∷ l) s = go (has (act j .eff) v d && not (s v d)) (firstAchiever-snoc l (step relaxed (act j) s))
     where
-      go : (b : Bool) → firstBy act (l ++ (i ∷ [])) (step relaxed (act j) s) v d ≡ orElse (firstBy act l (step relaxed (act j) s) v d) (newly act i (run act relaxed l (step relaxed (act j) s)) v d)
-          → elim b as (λ _. Option ℕ) [ true ↦ some j | false ↦ firstBy act (l ++ (i ∷ [])) (step relaxed (act j) s) v d ]
-          ≡ orElse (elim b as (λ _. Option ℕ) [ true ↦ some j | false ↦ firstBy act l (step relaxed (act j) s) v d ]) (newly act i (run act relaxed l (step relaxed (act j) s)) v d)
+      go : (b : Bool) → firstAchiever act (l ++ (i ∷ [])) (step relaxed (act j) s) v d ≡ orElse (firstAchiever act l (step relaxed (act j) s) v d) (newly act i (run act relaxed l (step relaxed (act j) s)) v d)
+          → elim b as (λ _. Option ℕ) [ true ↦ some j | false ↦ firstAchiever act (l ++ (i ∷ [])) (step relaxed (act j) s) v d ]
+          ≡ orElse (elim b as (λ _. Option ℕ) [ true ↦ some j | false ↦ firstAchiever act l (step relaxed (act j) s) v d ]) (newly act i (run act relaxed l (step relaxed (act j) s)) v d)
       go true e = refl
       go false e = e
 
   -- what is not reached has no first achiever
-  firstBy-open : (l : List ℕ) (s : State) → run act relaxed l s v d ≡ false → firstBy act l s v d ≡ none
-  unfolding firstBy run
-  firstBy-open [] s e = refl
-  firstBy-open (j ∷ l) s e = go (has (act j .eff) v d && not (s v d)) refl (firstBy-open l (step relaxed (act j) s) e)
+  firstAchiever-open : (l : List ℕ) (s : State) → run act relaxed l s v d ≡ false → firstAchiever act l s v d ≡ none
+  unfolding firstAchiever run
+  firstAchiever-open [] s e = refl
+  firstAchiever-open (j ∷ l) s e = go (has (act j .eff) v d && not (s v d)) refl (firstAchiever-open l (step relaxed (act j) s) e)
     where
-      go : (b : Bool) → (has (act j .eff) v d && not (s v d)) ≡ b → firstBy act l (step relaxed (act j) s) v d ≡ none
-          → _≡_ {A = Option ℕ} (elim b [ true ↦ some j | false ↦ firstBy act l (step relaxed (act j) s) v d ]) none
+      go : (b : Bool) → (has (act j .eff) v d && not (s v d)) ≡ b → firstAchiever act l (step relaxed (act j) s) v d ≡ none
+          → _≡_ {A = Option ℕ} (elim b [ true ↦ some j | false ↦ firstAchiever act l (step relaxed (act j) s) v d ]) none
       go true q f = absurd (subst T e (run-grows act l (step relaxed (act j) s) v d (step-eff relaxed (act j) s v d (and-l (has (act j .eff) v d) (not (s v d)) (rw q tt)))))
       go false q f = f
 
-  firstBy-new : (l : List ℕ) (s : State) → T (has (act i .eff) v d) → run act relaxed l s v d ≡ false → firstBy act (l ++ (i ∷ [])) s v d ≡ some i
+  firstAchiever-new : (l : List ℕ) (s : State) → T (has (act i .eff) v d) → run act relaxed l s v d ≡ false → firstAchiever act (l ++ (i ∷ [])) s v d ≡ some i
   unfolding orElse newly
-  firstBy-new l s h e = firstBy-snoc l s ∙ rw (firstBy-open l s e, T→true (has (act i .eff) v d) h, e, newly) refl
+  firstAchiever-new l s h e = firstAchiever-snoc l s ∙ rw (firstAchiever-open l s e, T→true (has (act i .eff) v d) h, e, newly) refl
 
-  firstBy-old : (l : List ℕ) (s : State) → (has (act i .eff) v d && not (run act relaxed l s v d)) ≡ false → firstBy act (l ++ (i ∷ [])) s v d ≡ firstBy act l s v d
+  firstAchiever-old : (l : List ℕ) (s : State) → (has (act i .eff) v d && not (run act relaxed l s v d)) ≡ false → firstAchiever act (l ++ (i ∷ [])) s v d ≡ firstAchiever act l s v d
   unfolding newly orElse
-  firstBy-old l s e = firstBy-snoc l s ∙ rw (e, newly) (same (firstBy act l s v d))
+  firstAchiever-old l s e = firstAchiever-snoc l s ∙ rw (e, newly) (same (firstAchiever act l s v d))
     where
       same : (o : Option ℕ) → orElse o none ≡ o
       same none = refl
@@ -119,10 +119,10 @@ module _ (t : Task) (l : List ℕ) (i : ℕ) (s : State) (e : s ≡ run (act t) 
       now : run (act t) relaxed l (initial t) v d ≡ s v d
       now = ap (λ (x : State). x v d) (sym e)
 
-      go : (p : Bool) → has (act t i .eff) v d ≡ p → (q : Bool) → s v d ≡ q → getD fst′ f 0 ≡ achiever (firstBy (act t) (l ++ (i ∷ [])) (initial t) v d)
-      go true x false y = N .noted f b (rw x tt) y ∙ ap achiever (sym (firstBy-new (act t) i v d l (initial t) (rw x tt) (now ∙ y)))
-      go true x true y = N .kept f b (λ _. rw y tt) ∙ H f b ∙ ap achiever (sym (firstBy-old (act t) i v d l (initial t) (rw (x, now, y) refl)))
-      go false x q y = N .kept f b (λ h. absurd (rw x at h)) ∙ H f b ∙ ap achiever (sym (firstBy-old (act t) i v d l (initial t) (rw x refl)))
+      go : (p : Bool) → has (act t i .eff) v d ≡ p → (q : Bool) → s v d ≡ q → getD fst′ f 0 ≡ achiever (firstAchiever (act t) (l ++ (i ∷ [])) (initial t) v d)
+      go true x false y = N .noted f b (rw x tt) y ∙ ap achiever (sym (firstAchiever-new (act t) i v d l (initial t) (rw x tt) (now ∙ y)))
+      go true x true y = N .kept f b (λ _. rw y tt) ∙ H f b ∙ ap achiever (sym (firstAchiever-old (act t) i v d l (initial t) (rw (x, now, y) refl)))
+      go false x q y = N .kept f b (λ h. absurd (rw x at h)) ∙ H f b ∙ ap achiever (sym (firstAchiever-old (act t) i v d l (initial t) (rw x refl)))
 
   achieved-same : T (holds s (act t i .eff)) → Achieved t l fst′
   unfolding Achieved reaches
@@ -137,7 +137,7 @@ module _ (t : Task) (F : Formed t) (facts : List ℕ) where
   eff-ranged i v e b h = let I = sorted-has (variables t) (count t) 0 (act t i .eff) (F .eff-sorted i) v e h in (I .var-below, I .val-below)
 
   pub going-start : (plan fst : List ℕ) (s : State) → length plan ≡ 1024 → fst ≡ replicate 4096 65535 → s ≡ initial t → Going t facts plan fst s 0 0
-  unfolding forwardRun run Achieved firstBy achiever
+  unfolding forwardRun run Achieved firstAchiever achiever
   going-start plan fst s n e q = record {
     k = addable t;
     fuel = rw q (forwardRun-fuel t F);

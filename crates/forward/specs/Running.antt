@@ -9,7 +9,7 @@ use lib.ListN.{length, getD, take}
 use Rattle.planning.specs.Basics.{total}
 use Rattle.planning.specs.Record.{Task, taskOf, recordCheck}
 use Rattle.planning.specs.Runs.{State, has, actions, act, variables, count, initial, goals, relaxed, run, size}
-use Rattle.planning.specs.Relaxed.{forward, forwardRun, forwardEnd, solvable, firstBy}
+use Rattle.planning.specs.Relaxed.{forward, forwardRun, forwardEnd, reachesGoals, firstAchiever}
 use Rattle.table.specs.Table.{Tabled}
 use Rattle.state.specs.declared.Goals.{Goals}
 use Rattle.state.specs.Sets.{singles, setsOf, actionOf, GoalsOf}
@@ -23,7 +23,7 @@ achiever (some i) = i
 
 -- the first achievers of the 4,096 facts by the list l
 unfoldable pub Achieved : Task → List ℕ → List ℕ → Type 0
-Achieved t l first = (f : ℕ) → f < 4096 → getD first f 0 ≡ achiever (firstBy (act t) l (initial t) (f / 64) (f % 64))
+Achieved t l first = (f : ℕ) → f < 4096 → getD first f 0 ≡ achiever (firstAchiever (act t) l (initial t) (f / 64) (f % 64))
 
 -- the run in the front of the list, the first achievers, and what is said of both
 pub record RanOf (t : Task) (plan first : List ℕ) (r : Ran) : Type 0 where
@@ -31,7 +31,7 @@ pub record RanOf (t : Task) (plan first : List ℕ) (r : Ran) : Type 0 where
   pub steps : r .steps ≡ length (forwardRun t)
   pub few : r .steps ≤ 1024
   pub long : length plan ≡ 1024
-  pub solved : r .solved ≡ solvable t
+  pub solved : r .solved ≡ reachesGoals t
   pub state : setsOf (r .state .sets) ≡ forwardEnd t
   pub achieved : Achieved t (forwardRun t) first
 

@@ -14,7 +14,7 @@ use lib.Pow.{high, ones-split, ones-lt}
 use Rattle.planning.specs.Record.{Task, taskOf}
 use Rattle.planning.specs.Runs.{State, look, holds, variables, actions, count, act, black}
 use Rattle.planning.specs.Painting.{fits}
-use Rattle.planning.specs.Repair.{hop}
+use Rattle.planning.specs.Repair.{usableArc}
 use Rattle.planning.proofs.Tests.{and-l, and-r, and-i, T→true, true→T}
 use Rattle.planning.proofs.Formed.{Formed, formed-of}
 use Rattle.state.specs.Sets.{inSet, setsOf, actionOf, Listed}
@@ -22,11 +22,11 @@ use Rattle.state.proofs.Members.{inSet-single, one-shl}
 use Rattle.state.proofs.Tabled.{tabled-listed, tabled-action}
 use Rattle.paths.specs.Paths.{Next, Sets, Chained, Ground, Member, lower, Found, Enters, Marks, Kept, Apart, Leads}
 use Rattle.paths.proofs.Sets.{inSet-xor, either, inSet-all}
-use Rattle.paths.proofs.Leads.{marks-turn, marks-map, hop-is, hop-fits, Layered, layered-start, layered-turn, layered-stop}
+use Rattle.paths.proofs.Leads.{marks-turn, marks-map, usableArc-is, usableArc-fits, Layered, layered-start, layered-turn, layered-stop}
 
 -- the actions of a chain before i, besides those that were marked before
 abbrev pub Before : Task → State → ℕ → ℕ → ℕ → ℕ → ℕ → ℕ → Type 0
-Before t K v front e i c j = Enters t K v front e c j ⊎ (T (hop (act t) K v c j) × Sets t v e j × (j < i))
+Before t K v front e i c j = Enters t K v front e c j ⊎ (T (usableArc (act t) K v c j) × Sets t v e j × (j < i))
 
 pub record Arriving (t : Task) (K : State) (v front e rest : ℕ) (row₀ row : List ℕ) (grow i : ℕ) : Type 0 where
   pub here : (i ≡ 65535) ⊎ ((i < actions t) × Sets t v e i)
@@ -74,7 +74,7 @@ module _ (t : Task) (F : Formed t) (K : State) (v front e rest : ℕ) (apart : A
           here = next-here (i + 1) x N;
           long = long′;
           marks = marks-turn (actions t) rest (Before t K v front e i) (Before t K v front e x) row row′ grow set i (G .marks) (F .actions-max) (q .0) low
-              (λ c s. (in-rest c s, inr (hop-is t F K v c e i (q .0) (q .1) (λ z. apart e m (subst (λ y. T (inSet rest y)) z (in-rest c s))) (in-set c s), q .1, next-above)))
+              (λ c s. (in-rest c s, inr (usableArc-is t F K v c e i (q .0) (q .1) (λ z. apart e m (subst (λ y. T (inSet rest y)) z (in-rest c s))) (in-set c s), q .1, next-above)))
               (λ c j cb r jb D. elim D [
                 | inl d ↦ inl (inl d)
                 | inr d ↦ split c j r jb (d .0) (d .1) (d .2) (ℕ-discrete j i)
@@ -99,8 +99,8 @@ module _ (t : Task) (F : Formed t) (K : State) (v front e rest : ℕ) (apart : A
             go true h = absurd (h tt)
             go false h = refl
 
-        split : (c j : ℕ) → T (inSet rest c) → j < actions t → T (hop (act t) K v c j) → Sets t v e j → j < x → Dec (j ≡ i) → Before t K v front e i c j ⊎ ((j ≡ i) × T (inSet set c))
-        split c j r jb p s l (yes z) = inr (z, rw (law c) (and-i (inSet rest c) (holds K (act t i .pre) && fits (look (act t i .pre) v) c) r (hop-fits t F K v c i (subst (λ y. T (hop (act t) K v c y)) z p))))
+        split : (c j : ℕ) → T (inSet rest c) → j < actions t → T (usableArc (act t) K v c j) → Sets t v e j → j < x → Dec (j ≡ i) → Before t K v front e i c j ⊎ ((j ≡ i) × T (inSet set c))
+        split c j r jb p s l (yes z) = inr (z, rw (law c) (and-i (inSet rest c) (holds K (act t i .pre) && fits (look (act t i .pre) v) c) r (usableArc-fits t F K v c i (subst (λ y. T (usableArc (act t) K v c y)) z p))))
         split c j r jb p s l (no z) = below (decLt j i)
           where
             below : Dec (j < i) → Before t K v front e i c j ⊎ ((j ≡ i) × T (inSet set c))

@@ -17,13 +17,13 @@ use Rattle.planning.specs.Basics.{first, reach}
 use Rattle.planning.specs.Record.{Task}
 use Rattle.planning.specs.Runs.{State, has, look, holds, variables, actions, count, act}
 use Rattle.planning.specs.Painting.{target, fits, leaves, arcFrom}
-use Rattle.planning.specs.Repair.{hop, adjacent, pathIn, shortest}
+use Rattle.planning.specs.Repair.{usableArc, adjacent, pathIn, shortest}
 use Rattle.planning.proofs.Tests.{T→true, true→T, or-l, or-r, or-cases, and-l, and-r, and-i, T-cases}
 use Rattle.planning.proofs.Below.{First, First?, first-is}
 use Rattle.planning.proofs.Graph.{reach-here, reach-move, reach-cases, reach-zero, reach-suc, reach-stable}
 use Rattle.planning.proofs.Facts.{Func, look-is}
 use Rattle.planning.proofs.Formed.{Formed, sorted-has, sorted-func}
-use Rattle.planning.proofs.Short.{hop-elim, adjacent-elim, hop→adjacent}
+use Rattle.planning.proofs.Short.{usableArc-elim, adjacent-elim, usableArc→adjacent}
 use Rattle.state.specs.Sets.{inSet}
 use Rattle.state.proofs.Members.{inSet-empty, inSet-or, inSet-single}
 use Rattle.paths.specs.Paths.{Next, Sets, Member, lower, leadIn, lead, numberOf, Leads, Found, Enters, Marks, Kept, Apart}
@@ -130,7 +130,7 @@ pub record Layered (t : Task) (K : State) (v d k front rest : ℕ) (row : List �
   pub rests : (c : ℕ) → T (inSet rest c) → (c < count t v) × (Reaches t K v d k c → ⊥)
   pub rest-of : (c : ℕ) → c < count t v → (Reaches t K v d k c → ⊥) → T (inSet rest c)
   pub fronts : (e : ℕ) → T (inSet front e) → Reaches t K v d k e
-  pub cover : (c i : ℕ) → i < actions t → T (hop (act t) K v c i) → (Reaches t K v d k c → ⊥) → Reaches t K v d k (target (act t) v i) → T (inSet front (target (act t) v i))
+  pub cover : (c i : ℕ) → i < actions t → T (usableArc (act t) K v c i) → (Reaches t K v d k c → ⊥) → Reaches t K v d k (target (act t) v i) → T (inSet front (target (act t) v i))
   pub leads : (c : ℕ) → c < count t v → Reaches t K v d k c → getD row c 0 ≡ numberOf (lead (act t) (actions t) K v (count t v) c d)
   pub blanks : (c : ℕ) → c < count t v → (Reaches t K v d k c → ⊥) → getD row c 0 ≡ 65535
 
@@ -153,27 +153,27 @@ module _ (t : Task) (F : Formed t) (K : State) (v : ℕ) where
   pub range : (i e : ℕ) → i < A → T (has (act t i .eff) v e) → e < n
   range i e b h = sorted-has (variables t) (count t) 0 (act t i .eff) (F .eff-sorted i) v e h .val-below
 
-  pub hop-sets : (c i : ℕ) → i < A → T (hop (act t) K v c i) → Sets t v (target (act t) v i) i
-  hop-sets c i b h = hop-elim (act t) A K v n pres effs range c i b h .1 .into
+  pub usableArc-sets : (c i : ℕ) → i < A → T (usableArc (act t) K v c i) → Sets t v (target (act t) v i) i
+  usableArc-sets c i b h = usableArc-elim (act t) A K v n pres effs range c i b h .1 .into
 
-  hop-target : (c i e : ℕ) → i < A → T (hop (act t) K v c i) → Sets t v e i → target (act t) v i ≡ e
-  hop-target c i e b h s = effs i b v (target (act t) v i) e (hop-sets c i b h) s
+  usableArc-target : (c i e : ℕ) → i < A → T (usableArc (act t) K v c i) → Sets t v e i → target (act t) v i ≡ e
+  usableArc-target c i e b h s = effs i b v (target (act t) v i) e (usableArc-sets c i b h) s
 
-  pub hop-adj : (c i : ℕ) → i < A → T (hop (act t) K v c i) → T (adj c (target (act t) v i))
-  hop-adj c i b h = hop→adjacent (act t) A K v n pres effs range c i b h
+  pub usableArc-adj : (c i : ℕ) → i < A → T (usableArc (act t) K v c i) → T (adj c (target (act t) v i))
+  usableArc-adj c i b h = usableArc→adjacent (act t) A K v n pres effs range c i b h
 
   -- an action that sets v to e, at a value other than e
-  pub hop-is : (c e i : ℕ) → i < A → Sets t v e i → (c ≡ e → ⊥) → T (holds K (act t i .pre) && fits (look (act t i .pre) v) c) → T (hop (act t) K v c i)
-  unfolding hop arcFrom leaves
-  hop-is c e i b s ne h =
+  pub usableArc-is : (c e i : ℕ) → i < A → Sets t v e i → (c ≡ e → ⊥) → T (holds K (act t i .pre) && fits (look (act t i .pre) v) c) → T (usableArc (act t) K v c i)
+  unfolding usableArc arcFrom leaves
+  usableArc-is c e i b s ne h =
       let q = look-is (act t i .eff) v e (effs i b) s (look (act t i .eff) v) refl in
       let l : T (leaves (look (act t i .eff) v) c) = rw q (not-T (eqb c e) (λ x. ne (eqb→eq c e x))) in
       let f : T (fits (look (act t i .pre) v) c) = search and-r in
       and-i (holds K (act t i .pre)) (fits (look (act t i .pre) v) c && leaves (look (act t i .eff) v) c) (search and-l) (and-i (fits (look (act t i .pre) v) c) (leaves (look (act t i .eff) v) c) f l)
 
-  pub hop-fits : (c i : ℕ) → T (hop (act t) K v c i) → T (holds K (act t i .pre) && fits (look (act t i .pre) v) c)
-  unfolding hop arcFrom
-  hop-fits c i h =
+  pub usableArc-fits : (c i : ℕ) → T (usableArc (act t) K v c i) → T (holds K (act t i .pre) && fits (look (act t i .pre) v) c)
+  unfolding usableArc arcFrom
+  usableArc-fits c i h =
       let a : T (fits (look (act t i .pre) v) c && leaves (look (act t i .eff) v) c) = search and-r in
       and-i (holds K (act t i .pre)) (fits (look (act t i .pre) v) c) (search and-l) (search and-l)
 
@@ -244,16 +244,16 @@ module _ (t : Task) (F : Formed t) (K : State) (v : ℕ) where
         small c b = omega (arith, F .count-max v)
 
         -- an action into the layers is one into the last
-        enters-of : (c i : ℕ) → i < A → (T (R k c) → ⊥) → T (hop (act t) K v c i) → T (R k (target (act t) v i)) → Enters t K v front 64 c i
+        enters-of : (c i : ℕ) → i < A → (T (R k c) → ⊥) → T (usableArc (act t) K v c i) → T (R k (target (act t) v i)) → Enters t K v front 64 c i
         enters-of c i b x h r =
-            let s = hop-sets c i b h in
+            let s = usableArc-sets c i b h in
             (h, (target (act t) v i, small (target (act t) v i) (range i (target (act t) v i) b s), L .cover c i b h x r, s))
 
         enters-reach : (c i : ℕ) → i < A → Enters t K v front 64 c i → T (R k (target (act t) v i))
-        enters-reach c i b D = subst (λ x. T (R k x)) (sym (hop-target c i (D .1 .0) b (D .0) (D .1 .3))) (L .fronts (D .1 .0) (D .1 .2))
+        enters-reach c i b D = subst (λ x. T (R k x)) (sym (usableArc-target c i (D .1 .0) b (D .0) (D .1 .3))) (L .fronts (D .1 .0) (D .1 .2))
 
-        reach-next : (c i : ℕ) → i < A → T (hop (act t) K v c i) → T (R k (target (act t) v i)) → T (R (suc k) c)
-        reach-next c i b h r = reach-move n adj k c (target (act t) v i) d (range i (target (act t) v i) b (hop-sets c i b h)) (hop-adj c i b h) r
+        reach-next : (c i : ℕ) → i < A → T (usableArc (act t) K v c i) → T (R k (target (act t) v i)) → T (R (suc k) c)
+        reach-next c i b h r = reach-move n adj k c (target (act t) v i) d (range i (target (act t) v i) b (usableArc-sets c i b h)) (usableArc-adj c i b h) r
 
         marked-reach : (c : ℕ) → T (inSet grow c) → T (R (suc k) c)
         marked-reach c g =
@@ -291,10 +291,10 @@ module _ (t : Task) (F : Formed t) (K : State) (v : ℕ) where
         lead-new : (c : ℕ) → c < n → suc k < n → (T (R k c) → ⊥) → T (R (suc k) c) → getD row′ c 0 ≡ numberOf (lead (act t) A K v n c d)
         unfolding leadIn
         lead-new c b kb x r =
-            next-first A (λ i. hop (act t) K v c i && reach n adj k (target (act t) v i) d) (getD row′ c 0) (F .actions-max)
-            (next-map A (Enters t K v front 64 c) (λ i. T (hop (act t) K v c i && reach n adj k (target (act t) v i) d)) (getD row′ c 0)
-            (λ j jb D. and-i (hop (act t) K v c j) (reach n adj k (target (act t) v j) d) (D .0) (enters-reach c j jb D))
-            (λ j jb h. enters-of c j jb x (and-l (hop (act t) K v c j) (reach n adj k (target (act t) v j) d) h) (and-r (hop (act t) K v c j) (reach n adj k (target (act t) v j) d) h))
+            next-first A (λ i. usableArc (act t) K v c i && reach n adj k (target (act t) v i) d) (getD row′ c 0) (F .actions-max)
+            (next-map A (Enters t K v front 64 c) (λ i. T (usableArc (act t) K v c i && reach n adj k (target (act t) v i) d)) (getD row′ c 0)
+            (λ j jb D. and-i (usableArc (act t) K v c j) (reach n adj k (target (act t) v j) d) (D .0) (enters-reach c j jb D))
+            (λ j jb h. enters-of c j jb x (and-l (usableArc (act t) K v c j) (reach n adj k (target (act t) v j) d) h) (and-r (usableArc (act t) K v c j) (reach n adj k (target (act t) v j) d) h))
             (M .least c (small c b) (L .rest-of c b x)))
             ∙ sym (ap numberOf (lead-at (suc k) c kb r (λ j l h. x (reach-le j k c (omega arith) h))))
 
@@ -326,7 +326,7 @@ module _ (t : Task) (F : Formed t) (K : State) (v : ℕ) where
           fronts = marked-reach;
           cover = λ c i b h x r. elim (T-cases (R k (target (act t) v i))) [
             | inl y ↦ absurd (x (reach-next c i b h y))
-            | inr y ↦ reach-marked (target (act t) v i) (range i (target (act t) v i) b (hop-sets c i b h)) (T-not (R k (target (act t) v i)) y) r
+            | inr y ↦ reach-marked (target (act t) v i) (range i (target (act t) v i) b (usableArc-sets c i b h)) (T-not (R k (target (act t) v i)) y) r
           ];
           leads = λ c b r. elim (T-cases (R k c)) [ inl y ↦ kept c b y | inr y ↦ lead-new c b kb (T-not (R k c) y) r ];
           blanks = λ c b x. unmarked c b (λ r. x (reach-suc n adj k c d r)) (λ g. x (marked-reach c g));

@@ -14,7 +14,7 @@ use Rattle.planning.specs.Basics.{first, reach}
 use Rattle.planning.specs.Record.{Task, taskOf, recordCheck}
 use Rattle.planning.specs.Runs.{State, look, variables, actions, count, act}
 use Rattle.planning.specs.Painting.{target, orZero}
-use Rattle.planning.specs.Repair.{hop, adjacent, pathIn, shortest}
+use Rattle.planning.specs.Repair.{usableArc, adjacent, pathIn, shortest}
 use Rattle.planning.proofs.Tests.{and-l, and-r}
 use Rattle.planning.proofs.Facts.{look-is}
 use Rattle.planning.proofs.Below.{First, First?, first-is}
@@ -25,7 +25,7 @@ use Rattle.state.proofs.Tabled.{tabled-listed, tabled-action}
 use Rattle.state.specs.Sets.{actionOf, Listed}
 use Rattle.paths.specs.Paths.{Asked, leadIn, lead, numberOf, Leads, Sets, Put}
 use Rattle.paths.specs.declared.Written.the-variants.{Upto, Long}
-use Rattle.paths.proofs.Leads.{first-at, range, hop-sets, hop-adj, effs}
+use Rattle.paths.proofs.Leads.{first-at, range, usableArc-sets, usableArc-adj, effs}
 
 -- the path of the definition
 abbrev pub PathTo : Task → State → ℕ → ℕ → ℕ → List ℕ
@@ -55,7 +55,7 @@ module _ (t : Task) (F : Formed t) (K : State) (v d : ℕ) where
   Path′ c = shortest (act t) A K v n c d
 
   abbrev goes : ℕ → ℕ → ℕ → Bool
-  goes k c i = hop (act t) K v c i && R k (target (act t) v i)
+  goes k c i = usableArc (act t) K v c i && R k (target (act t) v i)
 
   shortest-at : (k c : ℕ) → k < n → T (R k c) → ((j : ℕ) → j < k → T (R j c) → ⊥) → Path′ c ≡ pathIn (act t) A K v n k c d
   unfolding shortest
@@ -77,7 +77,7 @@ module _ (t : Task) (F : Formed t) (K : State) (v d : ℕ) where
   -- a lead is an action below A, and the path goes on from its target
   pub record Move (c x : ℕ) : Type 0 where
     pub below : x < A
-    pub hops : T (hop (act t) K v c x)
+    pub hops : T (usableArc (act t) K v c x)
     pub rest : Path′ c ≡ x ∷ Path′ (target (act t) v x)
 
   pub walk-move : (c x : ℕ) → x ≡ numberOf (lead (act t) A K v n c d) → (x ≡ 65535 → ⊥) → Move c x
@@ -92,11 +92,11 @@ module _ (t : Task) (F : Formed t) (K : State) (v d : ℕ) where
           inner : (o : Option ℕ) → First? A (goes k c) o → first A (goes k c) ≡ o → x ≡ numberOf o → Move c x
           inner none g q2 e = absurd (ne e)
           inner (some i) g q2 e =
-              let h : T (hop (act t) K v c i) = and-l (hop (act t) K v c i) (R k (target (act t) v i)) (g .passes) in
-              let r : T (R k (target (act t) v i)) = and-r (hop (act t) K v c i) (R k (target (act t) v i)) (g .passes) in
+              let h : T (usableArc (act t) K v c i) = and-l (usableArc (act t) K v c i) (R k (target (act t) v i)) (g .passes) in
+              let r : T (R k (target (act t) v i)) = and-r (usableArc (act t) K v c i) (R k (target (act t) v i)) (g .passes) in
               let b : suc k < n = f .below in
               let s : Path′ (target (act t) v i) ≡ pathIn (act t) A K v n k (target (act t) v i) d = shortest-at k (target (act t) v i) (omega arith) r
-              (λ j l z. f .least (suc j) (omega arith) (reach-move n (adjacent (act t) A K v) j c (target (act t) v i) d (range t F K v i (target (act t) v i) (g .below) (hop-sets t F K v c i (g .below) h)) (hop-adj t F K v c i (g .below) h) z)) in
+              (λ j l z. f .least (suc j) (omega arith) (reach-move n (adjacent (act t) A K v) j c (target (act t) v i) d (range t F K v i (target (act t) v i) (g .below) (usableArc-sets t F K v c i (g .below) h)) (usableArc-adj t F K v c i (g .below) h) z)) in
               rw e (record {
                 below = g .below;
                 hops = h;
@@ -107,7 +107,7 @@ module _ (t : Task) (F : Formed t) (K : State) (v d : ℕ) where
   pub target-is : (c x y : ℕ) → Move c x → Asked (look (act t x .eff) v) y → (y ≡ target (act t) v x) × (y < n)
   unfolding target orZero
   target-is c x y M q =
-      let s = hop-sets t F K v c x (M .below) (M .hops) in
+      let s = usableArc-sets t F K v c x (M .below) (M .hops) in
       let l = look-is (act t x .eff) v (target (act t) v x) (effs t F K v x (M .below)) s (look (act t x .eff) v) refl in
       let z : y ≡ target (act t) v x = (rw l at q) .0 in
       (z, rw z (range t F K v x (target (act t) v x) (M .below) s))

@@ -11,7 +11,7 @@ use Rattle.planning.specs.Basics.{first, reach}
 use Rattle.planning.specs.Record.{Action, Task, taskOf, recordCheck}
 use Rattle.planning.specs.Runs.{State, has, variables, actions, count, act, black}
 use Rattle.planning.specs.Painting.{target}
-use Rattle.planning.specs.Repair.{hop, adjacent, shortest}
+use Rattle.planning.specs.Repair.{usableArc, adjacent, shortest}
 use Rattle.table.specs.Table.{Tabled}
 use Rattle.state.specs.Sets.{singles, inSet}
 use Rattle.paths.specs.declared.Written.{Written}
@@ -58,7 +58,7 @@ lower false i x = x
 -- the first action of the shortest path from c to d
 unfoldable pub leadIn : (ℕ → Action) → ℕ → State → ℕ → ℕ → ℕ → ℕ → ℕ → Option ℕ
 leadIn act A K v n zero c d = none
-leadIn act A K v n (suc k) c d = first A (λ i. hop act K v c i && reach n (adjacent act A K v) k (target act v i) d)
+leadIn act A K v n (suc k) c d = first A (λ i. usableArc act K v c i && reach n (adjacent act A K v) k (target act v i) d)
 
 unfoldable pub lead : (ℕ → Action) → ℕ → State → ℕ → ℕ → ℕ → ℕ → Option ℕ
 lead act A K v n c d = elim (first n (λ k. reach n (adjacent act A K v) k c d)) [ none ↦ none | some k ↦ leadIn act A K v n k c d ]
@@ -78,7 +78,7 @@ Found t v front e j = (x : ℕ) × (x < e) × T (inSet front x) × Sets t v x j
 
 -- action j leads from c to such a member
 abbrev pub Enters : Task → State → ℕ → ℕ → ℕ → ℕ → ℕ → Type 0
-Enters t K v front e c j = T (hop (act t) K v c j) × Found t v front e j
+Enters t K v front e c j = T (usableArc (act t) K v c j) × Found t v front e j
 
 -- in the row the least action with D for each value of the set rest; those values that have one are the set grow
 pub record Marks (A rest : ℕ) (D : ℕ → ℕ → Type 0) (row : List ℕ) (grow : ℕ) : Type 0 where

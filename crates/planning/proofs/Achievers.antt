@@ -12,7 +12,7 @@ use lib.ListN.{length}
 use native.Mathlib.Omega.{arith}
 use Rattle.planning.specs.Record.{Fact, Action, Task}
 use Rattle.planning.specs.Runs.{State, has, holds, step, actions, act, relaxed, initial, goals, run, runs, isPlan}
-use Rattle.planning.specs.Relaxed.{addable, forwardRun, forwardEnd, solvable, firstBy, is, reachedNeeded, Kept, keep, relaxedPlan}
+use Rattle.planning.specs.Relaxed.{addable, forwardRun, forwardEnd, reachesGoals, firstAchiever, is, reachedNeeded, Kept, keep, relaxedPlan}
 use Rattle.planning.proofs.Tests.{T→true, F→false, or-l, or-r, and-l, and-r, and-i, T-cases}
 use Rattle.planning.proofs.Facts.{_⊆_, has-nil, has-cases, holds→sub, sub→holds}
 use Rattle.planning.proofs.Steps.{step-eff, step-keep, step-cases, All}
@@ -27,13 +27,13 @@ module _ (act : ℕ → Action) where
   Reaches by (i ∷ l) s = ((v d : ℕ) → T (has (act i .eff) v d) → is i (by v d) ≡ not (s v d)) × Reaches by l (step relaxed (act i) s)
 
   -- a fact that is held has no first achiever from there on
-  firstBy-held : (l : List ℕ) (s : State) (v d : ℕ) → T (s v d) → firstBy act l s v d ≡ none
-  unfolding firstBy
-  firstBy-held [] s v d h = refl
-  firstBy-held (i ∷ l) s v d h =
+  firstAchiever-held : (l : List ℕ) (s : State) (v d : ℕ) → T (s v d) → firstAchiever act l s v d ≡ none
+  unfolding firstAchiever
+  firstAchiever-held [] s v d h = refl
+  firstAchiever-held (i ∷ l) s v d h =
       let z = F→false (has (act i .eff) v d && not (s v d)) (λ t. T-not (s v d) (search and-r) h) in
-      ap (λ b. elim b as (λ _. Option ℕ) [ true ↦ some i | false ↦ firstBy act l (step relaxed (act i) s) v d ]) z
-      ∙ firstBy-held l (step relaxed (act i) s) v d (step-keep relaxed (act i) s v d h (λ x _. x))
+      ap (λ b. elim b as (λ _. Option ℕ) [ true ↦ some i | false ↦ firstAchiever act l (step relaxed (act i) s) v d ]) z
+      ∙ firstAchiever-held l (step relaxed (act i) s) v d (step-keep relaxed (act i) s v d h (λ x _. x))
 
   -- an entry i that is not in the list may be put into the table for facts that are held
   reaches-shadow : (i : ℕ) (by by′ : ℕ → ℕ → Option ℕ) (l : List ℕ) (s : State) → All (λ j. i ≢ j) l → ((v d : ℕ) → (by′ v d ≡ by v d) ⊎ ((by′ v d ≡ some i) × T (s v d)))
@@ -49,24 +49,24 @@ module _ (act : ℕ → Action) where
       go v d (inl e) r = rw e r
       go v d (inr k) r = rw (k .0, T→true (s v d) (k .1)) (F→false (eqb j i) (λ t. n .0 (sym (eqb→eq j i t))))
 
-  firstBy-own : (i : ℕ) (l : List ℕ) (s : State) (v d : ℕ) → T (has (act i .eff) v d) → is i (firstBy act (i ∷ l) s v d) ≡ not (s v d)
-  unfolding firstBy is
-  firstBy-own i l s v d t = go (s v d) refl
+  firstAchiever-own : (i : ℕ) (l : List ℕ) (s : State) (v d : ℕ) → T (has (act i .eff) v d) → is i (firstAchiever act (i ∷ l) s v d) ≡ not (s v d)
+  unfolding firstAchiever is
+  firstAchiever-own i l s v d t = go (s v d) refl
     where
       pick : Bool → Option ℕ
-      pick b = elim b [ true ↦ some i | false ↦ firstBy act l (step relaxed (act i) s) v d ]
+      pick b = elim b [ true ↦ some i | false ↦ firstAchiever act l (step relaxed (act i) s) v d ]
 
       go : (b : Bool) → s v d ≡ b → is i (pick (has (act i .eff) v d && not b)) ≡ not b
-      go true e = rw (and-false (has (act i .eff) v d), firstBy-held l (step relaxed (act i) s) v d (step-keep relaxed (act i) s v d (rw e tt) (λ x _. x))) refl
+      go true e = rw (and-false (has (act i .eff) v d), firstAchiever-held l (step relaxed (act i) s) v d (step-keep relaxed (act i) s v d (rw e tt) (λ x _. x))) refl
       go false e = rw (T→true (has (act i .eff) v d) t) (T→true (eqb i i) (eqb-refl i))
 
-  firstBy-later : (i : ℕ) (l : List ℕ) (s : State) (v d : ℕ)
-      → (firstBy act (i ∷ l) s v d ≡ firstBy act l (step relaxed (act i) s) v d) ⊎ ((firstBy act (i ∷ l) s v d ≡ some i) × T (step relaxed (act i) s v d))
-  unfolding firstBy
-  firstBy-later i l s v d = go (has (act i .eff) v d && not (s v d)) refl
+  firstAchiever-later : (i : ℕ) (l : List ℕ) (s : State) (v d : ℕ)
+      → (firstAchiever act (i ∷ l) s v d ≡ firstAchiever act l (step relaxed (act i) s) v d) ⊎ ((firstAchiever act (i ∷ l) s v d ≡ some i) × T (step relaxed (act i) s v d))
+  unfolding firstAchiever
+  firstAchiever-later i l s v d = go (has (act i .eff) v d && not (s v d)) refl
     where
       rest : Option ℕ
-      rest = firstBy act l (step relaxed (act i) s) v d
+      rest = firstAchiever act l (step relaxed (act i) s) v d
 
       pick : Bool → Option ℕ
       pick b = elim b [ true ↦ some i | false ↦ rest ]
@@ -75,11 +75,11 @@ module _ (act : ℕ → Action) where
       go true e = inr (refl, step-eff relaxed (act i) s v d (and-l (has (act i .eff) v d) (not (s v d)) (rw e tt)))
       go false e = inl refl
 
-  pub firstBy-reaches : (l : List ℕ) (s : State) → Once l → Reaches (firstBy act l s) l s
-  firstBy-reaches [] s o = tt
-  firstBy-reaches (i ∷ l) s o = (
-    firstBy-own i l s,
-    reaches-shadow i (firstBy act l (step relaxed (act i) s)) (firstBy act (i ∷ l) s) l (step relaxed (act i) s) (o .0) (firstBy-later i l s) (firstBy-reaches l (step relaxed (act i) s) (o .1)),
+  pub firstAchiever-reaches : (l : List ℕ) (s : State) → Once l → Reaches (firstAchiever act l s) l s
+  firstAchiever-reaches [] s o = tt
+  firstAchiever-reaches (i ∷ l) s o = (
+    firstAchiever-own i l s,
+    reaches-shadow i (firstAchiever act l (step relaxed (act i) s)) (firstAchiever act (i ∷ l) s) l (step relaxed (act i) s) (o .0) (firstAchiever-later i l s) (firstAchiever-reaches l (step relaxed (act i) s) (o .1)),
   )
 
 -- an effect that the table names and that is needed has its entry kept
@@ -169,20 +169,20 @@ module _ (act : ℕ → Action) (by : ℕ → ℕ → Option ℕ) (goal : List F
 
 -- the relaxed plan of a task
 module _ (t : Task) (F : Formed t) where
-  pub relaxedPlan-is-plan : solvable t ≡ true → isPlan t relaxed (relaxedPlan t) ≡ true
-  unfolding relaxedPlan solvable forwardEnd
+  pub relaxedPlan-is-plan : reachesGoals t ≡ true → isPlan t relaxed (relaxedPlan t) ≡ true
+  unfolding relaxedPlan reachesGoals forwardEnd
   relaxedPlan-is-plan e =
-      let by : ℕ → ℕ → Option ℕ = firstBy (act t) (forwardRun t) (initial t) in
+      let by : ℕ → ℕ → Option ℕ = firstAchiever (act t) (forwardRun t) (initial t) in
       let R = forwardRun-ran t F in
-      let K = keep-replayed (act t) by (goals t) (forwardRun t) (initial t) (firstBy-reaches (act t) (forwardRun t) (initial t) (forwardRun-once t F)) (R .runs′)
+      let K = keep-replayed (act t) by (goals t) (forwardRun t) (initial t) (firstAchiever-reaches (act t) (forwardRun t) (initial t) (forwardRun-once t F)) (R .runs′)
       (holds→sub (run (act t) relaxed (forwardRun t) (initial t)) (goals t) (rw e tt)) (initial t) (λ v d _ h. h) in
       isPlan-intro t relaxed (keep (act t) by (goals t) (forwardRun t) .actions′)
       (record { below = keep-all (act t) by (goals t) (λ i. i < actions t) (forwardRun t) (R .below); runs′ = K .runs′; meets = K .meets })
 
   pub relaxedPlan-length : length (relaxedPlan t) ≤ addable t
   unfolding relaxedPlan
-  relaxedPlan-length = omega (arith, forwardRun-length t F, keep-length (act t) (firstBy (act t) (forwardRun t) (initial t)) (goals t) (forwardRun t))
+  relaxedPlan-length = omega (arith, forwardRun-length t F, keep-length (act t) (firstAchiever (act t) (forwardRun t) (initial t)) (goals t) (forwardRun t))
 
   -- with unsolvable-none: the forward run stops short of the goals exactly if no list is a relaxed plan
-  pub unsolvable-of : ((l : List ℕ) → isPlan t relaxed l ≡ true → ⊥) → solvable t ≡ false
-  unsolvable-of h = F→false (solvable t) (λ e. h (relaxedPlan t) (relaxedPlan-is-plan (T→true (solvable t) e)))
+  pub unsolvable-of : ((l : List ℕ) → isPlan t relaxed l ≡ true → ⊥) → reachesGoals t ≡ false
+  unsolvable-of h = F→false (reachesGoals t) (λ e. h (relaxedPlan t) (relaxedPlan-is-plan (T→true (reachesGoals t) e)))

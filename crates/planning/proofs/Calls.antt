@@ -9,14 +9,14 @@ use lib.Dec.{T, leb, ltb, leb→le}
 use lib.ListN.{length}
 use native.Mathlib.Omega.{arith}
 use native.Mathlib.Nat.{mul-le-mul-right}
-use Rattle.planning.specs.Basics.{check, refuseAt, refused, done}
+use Rattle.planning.specs.Basics.{check, refuseAt, Answer, refused, done}
 use Rattle.planning.specs.Record.{Task, taskOf, recordCheck}
 use Rattle.planning.specs.Runs.{State, holds, step, actions, act, relaxed, initial, goals, run, runs, allBelow, isPlan}
-use Rattle.planning.specs.Relaxed.{solvable, factsReached, relaxedPlan}
+use Rattle.planning.specs.Relaxed.{reachesGoals, factsReached, relaxedPlan}
 use Rattle.planning.specs.Painting.{cyclic, unreturned, acyclicCheck, returnCheck}
 use Rattle.planning.specs.Repair.{repaired}
-use Rattle.planning.specs.Calls.{capacityOf, roomCheck, solvableCheck, relaxedFault, relaxedCheck, Planned, planned, repairCall, planOf, planCall}
-use Rattle.planning.specs.Existence.{blackProduct, stepBound, RedBlackPlan}
+use Rattle.planning.specs.Calls.{capacityOf, roomCheck, goalsCheck, relaxedFault, relaxedCheck, Planned, planned, repairCall, planOf, planCall}
+use Rattle.planning.specs.Existence.{blackProduct, stepBound, RedBlackPlan, Bounded}
 use Rattle.planning.proofs.Tests.{T→true, true→T, and-l, and-r, and-i}
 use Rattle.planning.proofs.Checks.{check-none, refuseAt-none, answer-done, answer-refused, answer-passed, here, later}
 use Rattle.planning.proofs.Formed.{Formed, formed-of}
@@ -102,8 +102,15 @@ repairCall-returned s l n w p e =
       fits′ = roomCheck-none (length (repaired t l)) (capacityOf n w) (Q .1 .1 .1 .1 .1 .0);
     }
 
+pub repairCall-bounded : (s k : List ℕ) (n w : ℕ) → Bounded s k (repairCall s k n w) (repaired (taskOf s) k)
+repairCall-bounded s k n w = go (repairCall s k n w) refl
+  where
+    go : (r : Answer Planned) → repairCall s k n w ≡ r → Bounded s k r (repaired (taskOf s) k)
+    go (refused _ _) e = λ z. absurd z
+    go (done p) e = λ _. let R = repairCall-returned s k n w p e in (R .is-plan, R .short)
+
 -- the planner's own relaxed plan, repaired
-module _ (t : Task) (F : Formed t) (acy : cyclic t ≡ none) (ret : unreturned t ≡ none) (sol : solvable t ≡ true) where
+module _ (t : Task) (F : Formed t) (acy : cyclic t ≡ none) (ret : unreturned t ≡ none) (sol : reachesGoals t ≡ true) where
   pub planOf-is-plan : RedBlackPlan t (planOf t)
   unfolding planOf
   planOf-is-plan = repaired-is-plan t F acy ret (relaxedPlan t) (relaxedPlan-is-plan t F sol)
@@ -113,7 +120,7 @@ module _ (t : Task) (F : Formed t) (acy : cyclic t ≡ none) (ret : unreturned t
   planOf-length = omega (arith, repaired-length t F acy ret (relaxedPlan t) (relaxedPlan-is-plan t F sol), mul-le-mul-right (blackProduct t) (relaxedPlan-length t F))
 
 pub planCall-returned : (s : List ℕ) (n w : ℕ) (p : Planned) → planCall s n w ≡ done p → Returned (taskOf s) (planOf (taskOf s)) (stepBound (taskOf s)) n w p
-unfolding planCall acyclicCheck returnCheck solvableCheck
+unfolding planCall acyclicCheck returnCheck goalsCheck
 planCall-returned s n w p e =
     let t : Task = taskOf s in
     let P = answer-passed _ (planned t (planOf t)) p e in
@@ -121,7 +128,7 @@ planCall-returned s n w p e =
     let F = formed-of s (Q .0) in
     let acy = refuseAt-none 7 (cyclic t) (Q .1 .0) in
     let ret = refuseAt-none 8 (unreturned t) (Q .1 .1 .0) in
-    let sol = T→true (solvable t) (check-none (solvable t) 10 (factsReached t) (Q .1 .1 .1 .0)) in
+    let sol = T→true (reachesGoals t) (check-none (reachesGoals t) 10 (factsReached t) (Q .1 .1 .1 .0)) in
     record {
       result = sym (P .1);
       is-plan = planOf-is-plan t F acy ret sol;
@@ -131,16 +138,16 @@ planCall-returned s n w p e =
 
 -- with the record accepted and the painting passed, the planner answers in one of three ways
 module _ (s : List ℕ) (n w : ℕ) (rec : recordCheck s ≡ none) (acy : cyclic (taskOf s) ≡ none) (ret : unreturned (taskOf s) ≡ none) where
-  pub planCall-none : solvable (taskOf s) ≡ false → planCall s n w ≡ refused 10 (factsReached (taskOf s))
-  unfolding planCall acyclicCheck returnCheck solvableCheck refuseAt check
+  pub planCall-none : reachesGoals (taskOf s) ≡ false → planCall s n w ≡ refused 10 (factsReached (taskOf s))
+  unfolding planCall acyclicCheck returnCheck goalsCheck refuseAt check
   planCall-none e = answer-refused _ (planned (taskOf s) (planOf (taskOf s))) (record { number = 10; place = factsReached (taskOf s) })
       (later rec (later (rw acy refl) (later (rw ret refl) (here (rw e refl)))))
 
-  pub planCall-long : solvable (taskOf s) ≡ true → leb (length (planOf (taskOf s))) (capacityOf n w) ≡ false → planCall s n w ≡ refused 11 (capacityOf n w)
-  unfolding planCall acyclicCheck returnCheck solvableCheck roomCheck refuseAt check
+  pub planCall-long : reachesGoals (taskOf s) ≡ true → leb (length (planOf (taskOf s))) (capacityOf n w) ≡ false → planCall s n w ≡ refused 11 (capacityOf n w)
+  unfolding planCall acyclicCheck returnCheck goalsCheck roomCheck refuseAt check
   planCall-long e f = answer-refused _ (planned (taskOf s) (planOf (taskOf s))) (record { number = 11; place = capacityOf n w })
       (later rec (later (rw acy refl) (later (rw ret refl) (later (rw e refl) (here (rw f refl))))))
 
-  pub planCall-done : solvable (taskOf s) ≡ true → leb (length (planOf (taskOf s))) (capacityOf n w) ≡ true → planCall s n w ≡ done (planned (taskOf s) (planOf (taskOf s)))
-  unfolding planCall acyclicCheck returnCheck solvableCheck roomCheck refuseAt check
+  pub planCall-done : reachesGoals (taskOf s) ≡ true → leb (length (planOf (taskOf s))) (capacityOf n w) ≡ true → planCall s n w ≡ done (planned (taskOf s) (planOf (taskOf s)))
+  unfolding planCall acyclicCheck returnCheck goalsCheck roomCheck refuseAt check
   planCall-done e f = answer-done _ (planned (taskOf s) (planOf (taskOf s))) (rec, (rw acy refl, (rw ret refl, (rw e refl, (rw f refl, tt)))))

@@ -10,7 +10,7 @@ use lib.ListN.{length}
 use native.Mathlib.Omega.{arith}
 use Rattle.planning.specs.Record.{Task, taskOf}
 use Rattle.planning.specs.Runs.{black}
-use Rattle.planning.specs.Relaxed.{solvable}
+use Rattle.planning.specs.Relaxed.{reachesGoals}
 use Rattle.planning.specs.Calls.{capacityOf, planOf, planCall}
 use Rattle.planning.specs.Existence.{RedBlackPlan, Complete, Demand3}
 use Rattle.planning.proofs.Formed.{Formed, formed-of}
@@ -18,7 +18,7 @@ use Rattle.planning.proofs.Forward.{unsolvable-none}
 use Rattle.planning.proofs.Calls.{planOf-is-plan, planOf-length, planCall-none, planCall-long, planCall-done}
 
 pub demand3 : (s : List ℕ) (n w : ℕ) → Demand3 s n w (planCall s n w) (planOf (taskOf s))
-demand3 s n w rec acy ret = go (solvable t) refl (leb (length l) (capacityOf n w)) refl
+demand3 s n w rec acy ret = go (reachesGoals t) refl (leb (length l) (capacityOf n w)) refl
   where
     t : Task
     t = taskOf s
@@ -29,10 +29,10 @@ demand3 s n w rec acy ret = go (solvable t) refl (leb (length l) (capacityOf n w
     F : Formed t
     F = formed-of s rec
 
-    no-list : solvable t ≡ false → (k : List ℕ) → RedBlackPlan t k → ⊥
+    no-list : reachesGoals t ≡ false → (k : List ℕ) → RedBlackPlan t k → ⊥
     no-list e k p = unsolvable-none t F e (black t) k p
 
-    go : (b : Bool) → solvable t ≡ b → (c : Bool) → leb (length l) (capacityOf n w) ≡ c → Complete t n w (planCall s n w) l
+    go : (b : Bool) → reachesGoals t ≡ b → (c : Bool) → leb (length l) (capacityOf n w) ≡ c → Complete t n w (planCall s n w) l
     go false e c f = rw (planCall-none s n w rec acy ret e) (record {
       no-plan = λ _. no-list e;
       says-so = λ _. refl;

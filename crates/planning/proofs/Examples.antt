@@ -8,11 +8,11 @@ use lib.ListN.{length}
 use Rattle.planning.specs.Basics.{Answer, refused, done, times, check, andThen, inOrder, answer, bitAt, bitsAt, holdsField, someBelow, oneIf, tally, first, total, refuseAt, reach}
 use Rattle.planning.specs.Record.{variablesIn, actionsIn, goalOf, variableAt, variablesAt, factsAt, preconditionsIn, effectsIn, effectsFrom, actionEnd, actionAt, actionsAt, actionsEnd, taskOf, fieldCheck, headerChecks, goalFits, variableChecks, variablesChecks, countIn, factChecks, factsChecks, actionChecks, actionsChecks, endsAt, recordEnd, recordChecks, recordCheck}
 use Rattle.planning.specs.Runs.{has, touches, look, holds, step, variable, act, count, black, initial, goalsFrom, goals, run, runs, stepsRun, allBelow, isPlan, size, factsIn, costOf}
-use Rattle.planning.specs.Relaxed.{adds, forward, addable, forwardRun, forwardEnd, solvable, factsReached, firstBy, is, reachedNeeded, keep, relaxedPlan}
+use Rattle.planning.specs.Relaxed.{adds, forward, addable, forwardRun, forwardEnd, reachesGoals, factsReached, firstAchiever, is, reachedNeeded, keep, relaxedPlan}
 use Rattle.planning.specs.Painting.{causalArc, blackArc, onCycle, cyclic, fits, leaves, orZero, target, arcFrom, outside, returnBy, lacksReturn, unreturned, acyclicCheck, returnCheck}
-use Rattle.planning.specs.Repair.{known, also, everAfter, hop, adjacent, pathIn, shortest, toward, after, pass, fill, ready, clientsFirst, order, value, blackMet, moves, repairFrom, repaired}
+use Rattle.planning.specs.Repair.{known, union, everAfter, usableArc, adjacent, pathIn, shortest, toward, after, pass, fill, ready, clientsFirst, order, value, blackMet, moves, repairFrom, repaired}
 use Rattle.planning.specs.Existence.{share, blackProduct}
-use Rattle.planning.specs.Calls.{Planned, lent, capacity, capacityOf, roomCheck, solvableCheck, planned, planOf, planCall, planList}
+use Rattle.planning.specs.Calls.{Planned, lent, capacity, capacityOf, roomCheck, goalsCheck, planned, planOf, planCall, planList}
 
 -- Two shelves: a black carriage and a red box.
 unfoldable pub twoShelves : List ℕ
@@ -78,5 +78,5 @@ pub starred :
     ∷ record { number = 0; place = 0; list = 65535 ∷ 65535 ∷ []; cost = 0; real = true; runs = 0 }
     ∷ record { number = 0; place = 0; list = 0 ∷ 1 ∷ []; cost = 2; real = false; runs = 1 } ∷ []))
     × (recordEnd twoShelves ≡ 278) × (length twoShelves ≡ 35) × (addable (taskOf twoShelves) ≡ 3) × (blackProduct (taskOf twoShelves) ≡ 2)
-unfolding called outcome times share blackProduct check andThen inOrder answer bitAt bitsAt holdsField someBelow oneIf tally first total refuseAt reach variablesIn actionsIn goalOf variableAt variablesAt factsAt preconditionsIn effectsIn effectsFrom actionEnd actionAt actionsAt actionsEnd taskOf fieldCheck headerChecks goalFits variableChecks variablesChecks countIn factChecks factsChecks actionChecks actionsChecks endsAt recordEnd recordChecks recordCheck has touches look holds step variable act count black initial goalsFrom goals run runs stepsRun allBelow isPlan size factsIn costOf adds forward addable forwardRun forwardEnd solvable factsReached firstBy is reachedNeeded keep relaxedPlan causalArc blackArc onCycle cyclic fits leaves orZero target arcFrom outside returnBy lacksReturn unreturned acyclicCheck returnCheck known also everAfter hop adjacent pathIn shortest toward after pass fill ready clientsFirst order value blackMet moves repairFrom repaired lent capacity capacityOf roomCheck solvableCheck planned planOf planCall planList twoShelves withoutOne withoutTwo lampOne lampTwo bothBlack goalMet tray
+unfolding called outcome times share blackProduct check andThen inOrder answer bitAt bitsAt holdsField someBelow oneIf tally first total refuseAt reach variablesIn actionsIn goalOf variableAt variablesAt factsAt preconditionsIn effectsIn effectsFrom actionEnd actionAt actionsAt actionsEnd taskOf fieldCheck headerChecks goalFits variableChecks variablesChecks countIn factChecks factsChecks actionChecks actionsChecks endsAt recordEnd recordChecks recordCheck has touches look holds step variable act count black initial goalsFrom goals run runs stepsRun allBelow isPlan size factsIn costOf adds forward addable forwardRun forwardEnd reachesGoals factsReached firstAchiever is reachedNeeded keep relaxedPlan causalArc blackArc onCycle cyclic fits leaves orZero target arcFrom outside returnBy lacksReturn unreturned acyclicCheck returnCheck known union everAfter usableArc adjacent pathIn shortest toward after pass fill ready clientsFirst order value blackMet moves repairFrom repaired lent capacity capacityOf roomCheck goalsCheck planned planOf planCall planList twoShelves withoutOne withoutTwo lampOne lampTwo bothBlack goalMet tray
 starred = (refl, refl, refl, refl, refl)

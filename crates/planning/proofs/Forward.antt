@@ -13,7 +13,7 @@ use native.Mathlib.Omega.{arith}
 use Rattle.planning.specs.Basics.{tally, first, total}
 use Rattle.planning.specs.Record.{Fact, Action, Task}
 use Rattle.planning.specs.Runs.{State, has, holds, Mode, step, variables, actions, variable, act, count, relaxed, initial, goals, run, runs, isPlan, size}
-use Rattle.planning.specs.Relaxed.{adds, forward, addable, forwardRun, forwardEnd, solvable}
+use Rattle.planning.specs.Relaxed.{adds, forward, addable, forwardRun, forwardEnd, reachesGoals}
 use Rattle.planning.proofs.Tests.{and-l, and-r, and-i, T-cases}
 use Rattle.planning.proofs.Below.{First?, first-is, tally-le, tally-cases, tally-pos, tally-sub, total-le, total-lt, total-pred, total-one}
 use Rattle.planning.proofs.Facts.{_⊆_, holds→sub, sub→holds, holds-missing}
@@ -198,8 +198,8 @@ module _ (t : Task) (F : Formed t) where
   forwardRun-once = forward-once (act t) (actions t) (goals t) (addable t) (initial t)
 
   -- no plan under any semantics
-  pub unsolvable-none : solvable t ≡ false → (m : Mode) (l : List ℕ) → isPlan t m l ≡ true → ⊥
-  unfolding solvable forwardEnd
+  pub unsolvable-none : reachesGoals t ≡ false → (m : Mode) (l : List ℕ) → isPlan t m l ≡ true → ⊥
+  unfolding reachesGoals forwardEnd
   unsolvable-none e m l p = go (forwardRun-ran .ends)
     where
       S : State

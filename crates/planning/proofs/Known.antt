@@ -7,7 +7,7 @@ use mathlib.Core.List.{List, [], _∷_}
 use lib.Dec.{T, T-not, not-T}
 use Rattle.planning.specs.Record.{Action}
 use Rattle.planning.specs.Runs.{State, Mode, step, relaxed, run}
-use Rattle.planning.specs.Repair.{known, also, everAfter}
+use Rattle.planning.specs.Repair.{known, union, everAfter}
 use Rattle.planning.proofs.Tests.{or-l, or-r, or-cases, and-l, and-r, and-i, T-cases}
 use Rattle.planning.proofs.Facts.{_⊆_}
 use Rattle.planning.proofs.Steps.{step-eff, step-keep, step-cases, run-mono}
@@ -40,33 +40,33 @@ module _ (m : Mode) (now ever : State) (v d : ℕ) where
   known-both : T (now v d) → T (ever v d) → T (known m now ever v d)
   known-both h g = elim (T-cases (m v)) [ inl b ↦ known-ever b g | inr r ↦ known-now (T-not (m v) r) h ]
 
-also-old : (ever now : State) → ever ⊆ also ever now
-unfolding also
-also-old ever now v d h = or-l (ever v d) (now v d) h
+union-old : (ever now : State) → ever ⊆ union ever now
+unfolding union
+union-old ever now v d h = or-l (ever v d) (now v d) h
 
-also-new : (ever now : State) → now ⊆ also ever now
-unfolding also
-also-new ever now v d h = or-r (ever v d) (now v d) h
+union-new : (ever now : State) → now ⊆ union ever now
+unfolding union
+union-new ever now v d h = or-r (ever v d) (now v d) h
 
-also-cases : (ever now : State) (v d : ℕ) → T (also ever now v d) → T (ever v d) ⊎ T (now v d)
-unfolding also
-also-cases ever now v d h = or-cases (ever v d) (now v d) h
+union-cases : (ever now : State) (v d : ℕ) → T (union ever now v d) → T (ever v d) ⊎ T (now v d)
+unfolding union
+union-cases ever now v d h = or-cases (ever v d) (now v d) h
 
 pub known-start : (m : Mode) (s : State) → s ≈ known m s s
 known-start m s = (λ v d h. known-both m s s v d h h, λ v d h. elim (known-cases m s s v d h) [ inl a ↦ a .1 | inr a ↦ a .1 ])
 
-known-step : (m : Mode) (a : Action) (s ever : State) → s ⊆ ever → step relaxed a (known m s ever) ≈ known m (step m a s) (also ever (step m a s))
+known-step : (m : Mode) (a : Action) (s ever : State) → s ⊆ ever → step relaxed a (known m s ever) ≈ known m (step m a s) (union ever (step m a s))
 known-step m a s ever w = (to, from)
   where
     s′ : State
     s′ = step m a s
 
-    to : step relaxed a (known m s ever) ⊆ known m s′ (also ever s′)
+    to : step relaxed a (known m s ever) ⊆ known m s′ (union ever s′)
     to v d h = elim (step-cases relaxed a (known m s ever) v d h) [
-      | inl e ↦ let n = step-eff m a s v d e in known-both m s′ (also ever s′) v d n (also-new ever s′ v d n)
+      | inl e ↦ let n = step-eff m a s v d e in known-both m s′ (union ever s′) v d n (union-new ever s′ v d n)
       | inr k ↦ elim (known-cases m s ever v d (k .0)) [
-        | inl r ↦ known-now m s′ (also ever s′) v d (r .0) (step-keep m a s v d (r .1) (λ b _. r .0 b))
-        | inr b ↦ known-ever m s′ (also ever s′) v d (b .0) (also-old ever s′ v d (b .1))
+        | inl r ↦ known-now m s′ (union ever s′) v d (r .0) (step-keep m a s v d (r .1) (λ b _. r .0 b))
+        | inr b ↦ known-ever m s′ (union ever s′) v d (b .0) (union-old ever s′ v d (b .1))
       ]
     ]
 
@@ -76,17 +76,17 @@ known-step m a s ever w = (to, from)
     new : (v d : ℕ) → T (s′ v d) → T (step relaxed a (known m s ever) v d)
     new v d h = elim (step-cases m a s v d h) [ inl e ↦ step-eff relaxed a (known m s ever) v d e | inr k ↦ old v d (known-both m s ever v d (k .0) (w v d (k .0))) ]
 
-    from : known m s′ (also ever s′) ⊆ step relaxed a (known m s ever)
-    from v d h = elim (known-cases m s′ (also ever s′) v d h) [
+    from : known m s′ (union ever s′) ⊆ step relaxed a (known m s ever)
+    from v d h = elim (known-cases m s′ (union ever s′) v d h) [
       | inl r ↦ new v d (r .1)
-      | inr b ↦ elim (also-cases ever s′ v d (b .1)) [ inl e ↦ old v d (known-ever m s ever v d (b .0) e) | inr n ↦ new v d n ]
+      | inr b ↦ elim (union-cases ever s′ v d (b .1)) [ inl e ↦ old v d (known-ever m s ever v d (b .0) e) | inr n ↦ new v d n ]
     ]
 
 module _ (act : ℕ → Action) (m : Mode) where
   pub everAfter-now : (l : List ℕ) (s ever : State) → s ⊆ ever → run act m l s ⊆ everAfter act m l s ever
   unfolding run everAfter
   everAfter-now [] s ever w = w
-  everAfter-now (i ∷ l) s ever w = everAfter-now l (step m (act i) s) (also ever (step m (act i) s)) (also-new ever (step m (act i) s))
+  everAfter-now (i ∷ l) s ever w = everAfter-now l (step m (act i) s) (union ever (step m (act i) s)) (union-new ever (step m (act i) s))
 
   pub known-run : (l : List ℕ) (s ever : State) → s ⊆ ever → run act relaxed l (known m s ever) ≈ known m (run act m l s) (everAfter act m l s ever)
   unfolding run everAfter
@@ -95,10 +95,10 @@ module _ (act : ℕ → Action) (m : Mode) where
       let s′ : State = step m (act i) s in
       let k = known-step m (act i) s ever w in
       let a : State = step relaxed (act i) (known m s ever) in
-      let b : State = known m s′ (also ever s′) in
-      ≈-trans (run act relaxed l a) (run act relaxed l b) (known m (run act m l s′) (everAfter act m l s′ (also ever s′)))
+      let b : State = known m s′ (union ever s′) in
+      ≈-trans (run act relaxed l a) (run act relaxed l b) (known m (run act m l s′) (everAfter act m l s′ (union ever s′)))
       (run-mono act relaxed relaxed (λ v t. t) l a b (k .0), run-mono act relaxed relaxed (λ v t. t) l b a (k .1))
-      (known-run l s′ (also ever s′) (also-new ever s′))
+      (known-run l s′ (union ever s′) (union-new ever s′))
 
   -- along a run from its first state
   pub known-relaxed : (l : List ℕ) (s : State) → run act relaxed l s ≈ known m (run act m l s) (everAfter act m l s s)

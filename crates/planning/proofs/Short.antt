@@ -16,7 +16,7 @@ use Rattle.planning.specs.Basics.{first, reach}
 use Rattle.planning.specs.Record.{Action}
 use Rattle.planning.specs.Runs.{State, has, holds}
 use Rattle.planning.specs.Painting.{target, arcFrom}
-use Rattle.planning.specs.Repair.{hop, adjacent, pathIn, shortest}
+use Rattle.planning.specs.Repair.{usableArc, adjacent, pathIn, shortest}
 use Rattle.planning.proofs.Tests.{and-l, and-r, and-i}
 use Rattle.planning.proofs.Below.{some-intro, some-elim, First, First?, first-is}
 use Rattle.planning.proofs.Graph.{reach-here, reach-move, reach-cases, reach-zero, reach-suc, reach-bound}
@@ -39,28 +39,28 @@ module _ (act : ℕ → Action) (A : ℕ) (W : State) (v n : ℕ) (pres : (i : �
   abbrev Way : ℕ → List ℕ → ℕ → Type 0
   Way c p d = Walk act (Usable act A W v) v c p d
 
-  -- a hop is a move of a walk, and a move that leaves its value is a hop
-  pub hop-elim : (c i : ℕ) → i < A → T (hop act W v c i) → Usable act A W v i × Arc act v i c (target act v i)
-  unfolding hop
-  hop-elim c i b t =
+  -- a usableArc is a move of a walk, and a move that leaves its value is a usableArc
+  pub usableArc-elim : (c i : ℕ) → i < A → T (usableArc act W v c i) → Usable act A W v i × Arc act v i c (target act v i)
+  unfolding usableArc
+  usableArc-elim c i b t =
       let a = arcFrom-elim act v c i (pres i b) (search and-r) in
       (record { below = b; met = holds→sub W (act i .pre) (search and-l); sets = has→touches (act i .eff) v (target act v i) (a .into) }, a)
 
-  hop-intro : (c d i : ℕ) → Usable act A W v i → Arc act v i c d → T (hop act W v c i) × (target act v i ≡ d)
-  unfolding hop
-  hop-intro c d i u a =
+  usableArc-intro : (c d i : ℕ) → Usable act A W v i → Arc act v i c d → T (usableArc act W v c i) × (target act v i ≡ d)
+  unfolding usableArc
+  usableArc-intro c d i u a =
       let r = arcFrom-intro act v c d i (effs i (u .below)) a in
       (and-i (holds W (act i .pre)) (arcFrom act v c i) (sub→holds W (act i .pre) (u .met)) (r .0), r .1)
 
-  pub adjacent-elim : (c e : ℕ) → T (adjacent act A W v c e) → (i : ℕ) × (i < A) × T (hop act W v c i) × (target act v i ≡ e)
+  pub adjacent-elim : (c e : ℕ) → T (adjacent act A W v c e) → (i : ℕ) × (i < A) × T (usableArc act W v c i) × (target act v i ≡ e)
   unfolding adjacent
   adjacent-elim c e t =
-      let r = some-elim A (λ i. hop act W v c i && eqb (target act v i) e) t in
-      (r .0, r .1, and-l (hop act W v c (r .0)) (eqb (target act v (r .0)) e) (r .2), eqb→eq (target act v (r .0)) e (and-r (hop act W v c (r .0)) (eqb (target act v (r .0)) e) (r .2)))
+      let r = some-elim A (λ i. usableArc act W v c i && eqb (target act v i) e) t in
+      (r .0, r .1, and-l (usableArc act W v c (r .0)) (eqb (target act v (r .0)) e) (r .2), eqb→eq (target act v (r .0)) e (and-r (usableArc act W v c (r .0)) (eqb (target act v (r .0)) e) (r .2)))
 
-  pub hop→adjacent : (c i : ℕ) → i < A → T (hop act W v c i) → T (adjacent act A W v c (target act v i))
+  pub usableArc→adjacent : (c i : ℕ) → i < A → T (usableArc act W v c i) → T (adjacent act A W v c (target act v i))
   unfolding adjacent
-  hop→adjacent c i b t = some-intro A (λ j. hop act W v c j && eqb (target act v j) (target act v i)) i b (and-i (hop act W v c i) (eqb (target act v i) (target act v i)) t (eqb-refl (target act v i)))
+  usableArc→adjacent c i b t = some-intro A (λ j. usableArc act W v c j && eqb (target act v j) (target act v i)) i b (and-i (usableArc act W v c i) (eqb (target act v i) (target act v i)) t (eqb-refl (target act v i)))
 
   -- a walk is a way in the graph; moves that stay where they are can be left out
   pub walk→reach : {c d : ℕ} {p : List ℕ} → Way c p d → T (reach n adj (length p) c d)
@@ -70,8 +70,8 @@ module _ (act : ℕ → Action) (A : ℕ) (W : State) (v n : ℕ) (pres : (i : �
       go : Dec (c ≡ d) → T (reach n adj (length l) d e) → T (reach n adj (suc (length l)) c e)
       go (yes q) r = rw q (reach-suc n adj (length l) d e r)
       go (no q) r =
-          let p = hop-intro c d i u (record { from = f; into = h; leaves′ = q }) in
-          reach-move n adj (length l) c d e (range i d (u .below) h) (rw (p .1) at (hop→adjacent c i (u .below) (p .0))) r
+          let p = usableArc-intro c d i u (record { from = f; into = h; leaves′ = q }) in
+          reach-move n adj (length l) c d e (range i d (u .below) h) (rw (p .1) at (usableArc→adjacent c i (u .below) (p .0))) r
 
   -- k moves, and no fewer
   pub Exactly : ℕ → ℕ → ℕ → Type 0
@@ -79,14 +79,14 @@ module _ (act : ℕ → Action) (A : ℕ) (W : State) (v n : ℕ) (pres : (i : �
 
   -- action i is the first of a way in suc k moves
   goes : ℕ → ℕ → ℕ → ℕ → Bool
-  goes k c d i = hop act W v c i && reach n adj k (target act v i) d
+  goes k c d i = usableArc act W v c i && reach n adj k (target act v i) d
 
   exact-next : (k c d i : ℕ) → i < A → T (goes k c d i) → Exactly (suc k) c d → Exactly k (target act v i) d
   unfolding goes Exactly
   exact-next k c d i b t h =
-      let p = and-l (hop act W v c i) (reach n adj k (target act v i) d) t in (
-        and-r (hop act W v c i) (reach n adj k (target act v i) d) t,
-        λ j l r. h .1 (suc j) (omega arith) (reach-move n adj j c (target act v i) d (range i (target act v i) b (hop-elim c i b p .1 .into)) (hop→adjacent c i b p) r),
+      let p = and-l (usableArc act W v c i) (reach n adj k (target act v i) d) t in (
+        and-r (usableArc act W v c i) (reach n adj k (target act v i) d) t,
+        λ j l r. h .1 (suc j) (omega arith) (reach-move n adj j c (target act v i) d (range i (target act v i) b (usableArc-elim c i b p .1 .into)) (usableArc→adjacent c i b p) r),
       )
 
   pathIn-walk : (k c d : ℕ) → Exactly k c d → Way c (pathIn act A W v n k c d) d
@@ -98,16 +98,16 @@ module _ (act : ℕ → Action) (A : ℕ) (W : State) (v n : ℕ) (pres : (i : �
           → Way c (elim o [ none ↦ [] | some i ↦ i ∷ pathIn act A W v n k (target act v i) d ]) d
       go none f g = elim (reach-cases n adj k c d (h .0)) [
         | inl e ↦ absurd (h .1 k (omega arith) (rw e (reach-here n adj k d)))
-        | inr r ↦ let a = adjacent-elim c (r .0) (r .2) in absurd (f (a .0) (a .1) (and-i (hop act W v c (a .0)) (reach n adj k (target act v (a .0)) d) (a .2) (rw (a .3) (r .3))))
+        | inr r ↦ let a = adjacent-elim c (r .0) (r .2) in absurd (f (a .0) (a .1) (and-i (usableArc act W v c (a .0)) (reach n adj k (target act v (a .0)) d) (a .2) (rw (a .3) (r .3))))
       ]
       go (some i) f g =
-          let H = hop-elim c i (f .below) (and-l (hop act W v c i) (reach n adj k (target act v i) d) (f .passes)) in
+          let H = usableArc-elim c i (f .below) (and-l (usableArc act W v c i) (reach n adj k (target act v i) d) (f .passes)) in
           move (H .0) (H .1 .from) (H .1 .into) (g (target act v i) d (exact-next k c d i (f .below) (f .passes) h))
 
   pathIn-short : (k c d : ℕ) → length (pathIn act A W v n k c d) ≤ k
   unfolding pathIn
   pathIn-short zero c d = omega arith
-  pathIn-short (suc k) c d = go (first A (λ i. hop act W v c i && reach n adj k (target act v i) d)) (pathIn-short k)
+  pathIn-short (suc k) c d = go (first A (λ i. usableArc act W v c i && reach n adj k (target act v i) d)) (pathIn-short k)
     where
       go : (o : Option ℕ) → ((c d : ℕ) → length (pathIn act A W v n k c d) ≤ k) → length {A = ℕ} (elim o [ none ↦ [] | some i ↦ i ∷ pathIn act A W v n k (target act v i) d ]) ≤ suc k
       go none f = omega arith
@@ -156,11 +156,11 @@ module _ (act : ℕ → Action) (A : ℕ) (W : State) (v n : ℕ) (pres : (i : �
       ne : c ≢ x
       ne q = h .1 k (omega arith) (rw q r)
 
-      m : T (hop act W v c j) × (target act v j ≡ x)
-      m = hop-intro c x j u (record { from = fr; into = ef; leaves′ = ne })
+      m : T (usableArc act W v c j) × (target act v j ≡ x)
+      m = usableArc-intro c x j u (record { from = fr; into = ef; leaves′ = ne })
 
       t : T (goes k c d j)
-      t = and-i (hop act W v c j) (reach n adj k (target act v j) d) (m .0) (rw (m .1) r)
+      t = and-i (usableArc act W v c j) (reach n adj k (target act v j) d) (m .0) (rw (m .1) r)
 
       least : ¬ (j < i)
       least b = F .least j b t

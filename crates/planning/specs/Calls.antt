@@ -9,7 +9,7 @@ use lib.ListN.{length, take, replicate}
 use Rattle.planning.specs.Basics.{Check, check, inOrder, Answer, answer, refused, done, code, refuseAt}
 use Rattle.planning.specs.Record.{Task, taskOf, recordCheck}
 use Rattle.planning.specs.Runs.{State, holds, step, relaxed, real, actions, act, initial, goals, stepsRun, isPlan, costOf, Judgement, judgement}
-use Rattle.planning.specs.Relaxed.{forwardRun, solvable, factsReached, relaxedPlan}
+use Rattle.planning.specs.Relaxed.{forwardRun, reachesGoals, factsReached, relaxedPlan}
 use Rattle.planning.specs.Painting.{acyclicCheck, returnCheck}
 use Rattle.planning.specs.Repair.{repaired}
 use Rattle.planning.specs.Sheet.{Sheet, sheetBytes, sheetSize, sheetOf, sheetCheck, stepsIn}
@@ -37,8 +37,8 @@ unfoldable pub roomCheck : ℕ → ℕ → Check
 roomCheck wanted room = check (leb wanted room) 11 room
 
 -- "10, facts reached: no plan"
-unfoldable pub solvableCheck : Task → Check
-solvableCheck t = check (solvable t) 10 (factsReached t)
+unfoldable pub goalsCheck : Task → Check
+goalsCheck t = check (reachesGoals t) 10 (factsReached t)
 
 -- "13, 32,768: list over 32,768"
 unfoldable pub lengthCheck : List ℕ → Check
@@ -82,7 +82,7 @@ pub record Forward : Type 0 where
 
 unfoldable pub forwardCall : List ℕ → ℕ → Answer Forward
 forwardCall s n =
-    answer (inOrder (recordCheck s ∷ solvableCheck (taskOf s) ∷ roomCheck (length (forwardRun (taskOf s))) (capacity n) ∷ []))
+    answer (inOrder (recordCheck s ∷ goalsCheck (taskOf s) ∷ roomCheck (length (forwardRun (taskOf s))) (capacity n) ∷ []))
     (record { steps = length (forwardRun (taskOf s)); reached = factsReached (taskOf s) })
 
 unfoldable pub forwardList : List ℕ → ℕ → List ℕ
@@ -91,7 +91,7 @@ forwardList s n = lent (forwardCall s n) n (forwardRun (taskOf s))
 -- The relaxed plan, in a plan list of n entries: its steps.
 unfoldable pub relaxCall : List ℕ → ℕ → Answer ℕ
 relaxCall s n =
-    answer (inOrder (recordCheck s ∷ solvableCheck (taskOf s) ∷ roomCheck (length (relaxedPlan (taskOf s))) (capacity n) ∷ []))
+    answer (inOrder (recordCheck s ∷ goalsCheck (taskOf s) ∷ roomCheck (length (relaxedPlan (taskOf s))) (capacity n) ∷ []))
     (length (relaxedPlan (taskOf s)))
 
 unfoldable pub relaxList : List ℕ → ℕ → List ℕ
@@ -128,7 +128,7 @@ unfoldable pub planCall : List ℕ → ℕ → ℕ → Answer Planned
 planCall s n w =
     answer
     (inOrder
-    (recordCheck s ∷ acyclicCheck (taskOf s) ∷ returnCheck (taskOf s) ∷ solvableCheck (taskOf s)
+    (recordCheck s ∷ acyclicCheck (taskOf s) ∷ returnCheck (taskOf s) ∷ goalsCheck (taskOf s)
     ∷ roomCheck (length (planOf (taskOf s))) (capacityOf n w) ∷ []))
     (planned (taskOf s) (planOf (taskOf s)))
 
@@ -138,6 +138,11 @@ planList s n w = lent (planCall s n w) n (planOf (taskOf s))
 -- "The work list ends as 65,535 throughout, always."
 unfoldable pub workList : ℕ → List ℕ
 workList w = replicate w 65535
+
+-- the plan that an answer returns, in the front of the plan list l
+unfoldable pub planIn : Answer Planned → List ℕ → List ℕ
+planIn (refused _ _) l = []
+planIn (done p) l = take (p .steps) l
 
 -- "The steps that run for real come back as the front part of the caller's own plan list [..]. After a refusal it is empty."
 unfoldable pub runnable : Answer Planned → List ℕ → List ℕ

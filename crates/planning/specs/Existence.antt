@@ -51,3 +51,7 @@ pub record Complete (t : Task) (n w : ℕ) (r : Answer Planned) (l : List ℕ) :
 
 abbrev pub Demand3 : List ℕ → ℕ → ℕ → Answer Planned → List ℕ → Type 0
 Demand3 s n w r l = recordCheck s ≡ none → cyclic (taskOf s) ≡ none → unreturned (taskOf s) ≡ none → Complete (taskOf s) n w r l
+
+-- "With n relaxed actions the plan has at most n × P steps." of the repair of a caller's list k: its answer r and the plan l
+abbrev pub Bounded : List ℕ → List ℕ → Answer Planned → List ℕ → Type 0
+Bounded s k r l = ReturnsPlan r → RedBlackPlan (taskOf s) l × (length l ≤ length k * blackProduct (taskOf s))

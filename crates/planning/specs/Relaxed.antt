@@ -30,16 +30,16 @@ unfoldable pub forwardEnd : Task → State
 forwardEnd t = run (act t) relaxed (forwardRun t) (initial t)
 
 -- "If none does, there is no plan."
-unfoldable pub solvable : Task → Bool
-solvable t = holds (forwardEnd t) (goals t)
+unfoldable pub reachesGoals : Task → Bool
+reachesGoals t = holds (forwardEnd t) (goals t)
 
 unfoldable pub factsReached : Task → ℕ
 factsReached t = factsIn t (forwardEnd t)
 
 -- "for each of the 4,096 possible facts keep the action that first reached it": by the list l from the state s
-unfoldable pub firstBy : (ℕ → Action) → List ℕ → State → ℕ → ℕ → Option ℕ
-firstBy act [] s v d = none
-firstBy act (i ∷ l) s v d = elim (has (act i .eff) v d && not (s v d)) [ true ↦ some i | false ↦ firstBy act l (step relaxed (act i) s) v d ]
+unfoldable pub firstAchiever : (ℕ → Action) → List ℕ → State → ℕ → ℕ → Option ℕ
+firstAchiever act [] s v d = none
+firstAchiever act (i ∷ l) s v d = elim (has (act i .eff) v d && not (s v d)) [ true ↦ some i | false ↦ firstAchiever act l (step relaxed (act i) s) v d ]
 
 unfoldable pub is : ℕ → Option ℕ → Bool
 is i none = false
@@ -67,4 +67,4 @@ keep act by goal (i ∷ l) =
 
 -- "The kept ones, in their old order, are the relaxed plan."
 unfoldable pub relaxedPlan : Task → List ℕ
-relaxedPlan t = keep (act t) (firstBy (act t) (forwardRun t) (initial t)) (goals t) (forwardRun t) .actions′
+relaxedPlan t = keep (act t) (firstAchiever (act t) (forwardRun t) (initial t)) (goals t) (forwardRun t) .actions′

@@ -15,28 +15,28 @@ unfoldable pub known : Mode → State → State → State
 known m now ever v d = (not (m v) && now v d) || (m v && ever v d)
 
 -- the facts held at any time so far, with those of the state now
-unfoldable pub also : State → State → State
-also ever now v d = ever v d || now v d
+unfoldable pub union : State → State → State
+union ever now v d = ever v d || now v d
 
 -- ever, after a list that is run from the state s
 unfoldable pub everAfter : (ℕ → Action) → Mode → List ℕ → State → State → State
 everAfter act m [] s ever = ever
-everAfter act m (i ∷ l) s ever = everAfter act m l (step m (act i) s) (also ever (step m (act i) s))
+everAfter act m (i ∷ l) s ever = everAfter act m l (step m (act i) s) (union ever (step m (act i) s))
 
 -- "Usable are actions whose preconditions all lie in R and B." Action i gives a usable arc of v from c; some action gives one
 -- from c to e; K are the facts of R and B
-unfoldable pub hop : (ℕ → Action) → State → ℕ → ℕ → ℕ → Bool
-hop act K v c i = holds K (act i .pre) && arcFrom act v c i
+unfoldable pub usableArc : (ℕ → Action) → State → ℕ → ℕ → ℕ → Bool
+usableArc act K v c i = holds K (act i .pre) && arcFrom act v c i
 
 unfoldable pub adjacent : (ℕ → Action) → ℕ → State → ℕ → ℕ → ℕ → Bool
-adjacent act A K v c e = someBelow A (λ i. hop act K v c i && eqb (target act v i) e)
+adjacent act A K v c e = someBelow A (λ i. usableArc act K v c i && eqb (target act v i) e)
 
 -- "the shortest path from its present value along usable arcs; among equals, the one whose action numbers are smallest,
 -- compared first to last": from c to d in k moves, where no fewer do, by the smallest action that leaves k − 1 moves to go
 unfoldable pub pathIn : (ℕ → Action) → ℕ → State → ℕ → ℕ → ℕ → ℕ → ℕ → List ℕ
 pathIn act A K v n zero c d = []
 pathIn act A K v n (suc k) c d =
-    elim (first A (λ i. hop act K v c i && reach n (adjacent act A K v) k (target act v i) d)) [ none ↦ [] | some i ↦ i ∷ pathIn act A K v n k (target act v i) d ]
+    elim (first A (λ i. usableArc act K v c i && reach n (adjacent act A K v) k (target act v i) d)) [ none ↦ [] | some i ↦ i ∷ pathIn act A K v n k (target act v i) d ]
 
 -- v has n values, so that a shortest path has fewer than n moves. (Where there is none, the empty list; in a repair that an accepted
 -- painting allows there is always one.)

@@ -11,7 +11,7 @@ use lib.Seq.{take-at}
 use Rattle.planning.specs.Basics.{Check, refuse, Answer, refused, done}
 use Rattle.planning.specs.Record.{Task, taskOf, recordCheck}
 use Rattle.planning.specs.Runs.{State, has}
-use Rattle.planning.specs.Relaxed.{solvable, factsReached, relaxedPlan}
+use Rattle.planning.specs.Relaxed.{reachesGoals, factsReached, relaxedPlan}
 use Rattle.planning.specs.Calls.{capacity, roomCheck, relaxCall, relaxList}
 use Rattle.state.specs.Sets.{setsOf}
 use Rattle.state.proofs.Members.{inSet-empty}
@@ -26,13 +26,13 @@ module _ (s : List ℕ) (m : ℕ) where
       let z = called-refused s (length (relaxedPlan (taskOf s))) (capacity m) (length (relaxedPlan (taskOf s))) (record { number = p; place = q }) (sym e) in
       (sym z, lent-refused (relaxCall s m) p q m (relaxedPlan (taskOf s)) z)
 
-  pub relax-unsolved : recordCheck s ≡ none → solvable (taskOf s) ≡ false → (p q : ℕ) → p ≡ 10 → q ≡ factsReached (taskOf s) → (refused p q ≡ relaxCall s m) × (replicate m 65535 ≡ relaxList s m)
+  pub relax-unsolved : recordCheck s ≡ none → reachesGoals (taskOf s) ≡ false → (p q : ℕ) → p ≡ 10 → q ≡ factsReached (taskOf s) → (refused p q ≡ relaxCall s m) × (replicate m 65535 ≡ relaxList s m)
   unfolding relaxCall relaxList
   relax-unsolved e h p q ep eq =
       let z = called-unsolved s (length (relaxedPlan (taskOf s))) (capacity m) (length (relaxedPlan (taskOf s))) e h in
       (rw (ep, eq) (sym z), lent-refused (relaxCall s m) 10 (factsReached (taskOf s)) m (relaxedPlan (taskOf s)) z)
 
-  module _ (e : recordCheck s ≡ none) (h : solvable (taskOf s) ≡ true) (l : List ℕ) (el : l ≡ relaxedPlan (taskOf s)) where
+  module _ (e : recordCheck s ≡ none) (h : reachesGoals (taskOf s) ≡ true) (l : List ℕ) (el : l ≡ relaxedPlan (taskOf s)) where
     pub relax-whole : (n : ℕ) → n ≡ length (relaxedPlan (taskOf s)) → none ≡ roomCheck (length l) (capacity m) → done n ≡ relaxCall s m
     unfolding relaxCall
     relax-whole n en q = rw en (called-whole s (length (relaxedPlan (taskOf s))) (capacity m) (length (relaxedPlan (taskOf s))) e h (rw (← el) q))

@@ -15,7 +15,7 @@ use lib.ListN.{length, getD, set, take, drop, length-set}
 use lib.Seq.{getD-set-same, getD-set-other, getD-take, drop-cons, drop-length, set-split, drop-set-lt, length-take-le}
 use Rattle.planning.specs.Record.{Fact, Action, Task, taskOf}
 use Rattle.planning.specs.Runs.{State, has, holds, actions, act, variables, count, initial, goals}
-use Rattle.planning.specs.Relaxed.{forwardRun, firstBy, is, reachedNeeded, keep, relaxedPlan}
+use Rattle.planning.specs.Relaxed.{forwardRun, firstAchiever, is, reachedNeeded, keep, relaxedPlan}
 use Rattle.planning.proofs.Tests.{or-l, or-r, and-l, and-r, and-i}
 use Rattle.planning.proofs.Steps.{All}
 use Rattle.planning.proofs.Formed.{Formed, formed-of, sorted-has}
@@ -134,7 +134,7 @@ module _ (bytes table masks fst run : List ℕ) (n : ℕ) (R : Replay bytes tabl
   t = taskOf bytes
 
   abbrev by : ℕ → ℕ → Option ℕ
-  by = firstBy (act t) (forwardRun t) (initial t)
+  by = firstAchiever (act t) (forwardRun t) (initial t)
 
   formed : Formed t
   formed = formed-of bytes (R .accepted)

@@ -8,7 +8,7 @@ use Prim.Native.Nat.{ℕ, _+_, _*_, _<_, _≤_}
 use lib.ListN.{length, getD, take, drop}
 use Rattle.planning.specs.Record.{Task, taskOf, recordCheck}
 use Rattle.planning.specs.Runs.{State, act, initial, goals}
-use Rattle.planning.specs.Relaxed.{forwardRun, solvable, factsReached, firstBy, keep, relaxedPlan}
+use Rattle.planning.specs.Relaxed.{forwardRun, reachesGoals, factsReached, firstAchiever, keep, relaxedPlan}
 use Rattle.bits.specs.declared.Refusal.{Refusal}
 use Rattle.table.specs.Table.{Tabled}
 use Rattle.state.specs.Sets.{singles, setsOf}
@@ -37,8 +37,8 @@ pub record Keeping (t : Task) (n : ℕ) (needed kept : List ℕ) (k m : ℕ) : T
   pub end : m ≤ 1024
   pub long : length kept ≡ 1024
   pub needed-long : length needed ≡ 64
-  pub kept-are : keep (act t) (firstBy (act t) (forwardRun t) (initial t)) (goals t) (drop k (forwardRun t)) .actions′ ≡ drop m kept
-  pub needed-are : keep (act t) (firstBy (act t) (forwardRun t) (initial t)) (goals t) (drop k (forwardRun t)) .needed ≡ setsOf needed
+  pub kept-are : keep (act t) (firstAchiever (act t) (forwardRun t) (initial t)) (goals t) (drop k (forwardRun t)) .actions′ ≡ drop m kept
+  pub needed-are : keep (act t) (firstAchiever (act t) (forwardRun t) (initial t)) (goals t) (drop k (forwardRun t)) .needed ≡ setsOf needed
 
 -- the relaxed plan in the front of a list of 1,024
 pub record Front (t : Task) (plan : List ℕ) (n : ℕ) : Type 0 where
@@ -48,12 +48,12 @@ pub record Front (t : Task) (plan : List ℕ) (n : ℕ) : Type 0 where
   pub long : length plan ≡ 1024
 
 pub record Found (t : Task) (plan : List ℕ) (n : ℕ) : Type 0 where
-  pub solved : solvable t ≡ true
+  pub solved : reachesGoals t ≡ true
   pub front : Front t plan n
 
 -- "10, facts reached: no plan"
 pub record Unfound (t : Task) (f : Refusal) : Type 0 where
-  pub unsolved : solvable t ≡ false
+  pub unsolved : reachesGoals t ≡ false
   pub number′ : f .number ≡ 10
   pub place′ : f .place ≡ factsReached t
 

@@ -12,7 +12,7 @@ use Rattle.planning.specs.Basics.{first, reach}
 use Rattle.planning.specs.Record.{Fact, Action, Task}
 use Rattle.planning.specs.Runs.{State, Mode, relaxed, run, look, variables, actions, count, act, black}
 use Rattle.planning.specs.Painting.{target}
-use Rattle.planning.specs.Repair.{hop, adjacent, pathIn, shortest, toward, after, pass, fill, ready, clientsFirst, order, value, blackMet}
+use Rattle.planning.specs.Repair.{usableArc, adjacent, pathIn, shortest, toward, after, pass, fill, ready, clientsFirst, order, value, blackMet}
 use Rattle.planning.proofs.Tests.{and-l}
 use Rattle.planning.proofs.Below.{First, First?, first-is}
 use Rattle.planning.proofs.Steps.{All, all-append}
@@ -40,7 +40,7 @@ module _ (act : ℕ → Action) (A : ℕ) (K : State) (v n : ℕ) where
   pathIn-below (suc k) c d = go (first A goes) (first-is A goes) (pathIn-below k)
     where
       goes : ℕ → Bool
-      goes i = hop act K v c i && reach n (adjacent act A K v) k (target act v i) d
+      goes i = usableArc act K v c i && reach n (adjacent act A K v) k (target act v i) d
 
       go : (o : Option ℕ) → First? A goes o → ((c d : ℕ) → All (λ i. i < A) (pathIn act A K v n k c d)) → All (λ i. i < A) (elim o [ none ↦ [] | some i ↦ i ∷ pathIn act A K v n k (target act v i) d ])
       go none f g = tt
