@@ -23,7 +23,8 @@ use Rattle.state.specs.Sets.{modeOf, actionOf}
 use Rattle.graph.specs.Given.{Given}
 use Rattle.graph.proofs.Rows.{given-act}
 use Rattle.graph.proofs.Searches.{false-not}
-use Rattle.painting.specs.Chains.{Next, Sets, Chained, moveOf, Linked}
+use Rattle.state.specs.Chains.{Next, Sets, Chained}
+use Rattle.painting.specs.Chains.{moveOf, Linked}
 
 -- f is a fact of the list on a variable of m
 pub record Move (m : Mode) (fs : List Fact) (f : ℕ) : Type 0 where

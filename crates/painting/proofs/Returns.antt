@@ -25,7 +25,8 @@ use Rattle.table.specs.Table.{factsIn, preAt, effAt}
 use Rattle.state.specs.Sets.{Listed}
 use Rattle.state.proofs.Tabled.{tabled-listed}
 use Rattle.graph.proofs.Searches.{both, false-not, first-same, some-same, some-found, some-lacks}
-use Rattle.painting.specs.Chains.{Next, Sets, Chained, moveOf}
+use Rattle.state.specs.Chains.{Next, Sets, Chained}
+use Rattle.painting.specs.Chains.{moveOf}
 use Rattle.painting.specs.Returns.{returned, unreturnedFrom, arcsBy, lacksBy, lacks, asked, Ground}
 use Rattle.painting.proofs.Chains.{Move, NoMove}
 use Rattle.painting.proofs.Marks.{Small, Allows}

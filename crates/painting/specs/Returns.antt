@@ -13,7 +13,7 @@ use Rattle.planning.specs.Runs.{State, has, look, holds, variables, actions, ac
 use Rattle.planning.specs.Painting.{cyclic, lacksReturn}
 use Rattle.table.specs.Table.{Tabled}
 use Rattle.state.specs.Sets.{modeOf}
-use Rattle.painting.specs.Chains.{Chained}
+use Rattle.state.specs.Chains.{Chained}
 
 abbrev pub pickPlace : Bool → ℕ → ℕ → ℕ
 pickPlace true g f = f

@@ -16,9 +16,10 @@ ghost use Rattle.planning.specs.Painting.{blackArc, cyclic, unreturned, acyclic
 ghost use Rattle.table.specs.Table.{factsIn};
 ghost use Rattle.state.specs.Sets.{modeOf, setsOf, actionOf, Listed};
 ghost use Rattle.graph.specs.Given.{Given, Facts, foundOf};
-ghost use Rattle.painting.specs.Chains.{Chained, Linked, Room, moveOf};
+ghost use Rattle.state.specs.Chains.{Chained};
+ghost use Rattle.painting.specs.Chains.{Linked, Room, moveOf};
 ghost use Rattle.painting.specs.Returns.{place, markAll, marked, Unmarked, returned, unreturnedFrom, lacksBy, lacks, asked, Ground, Moved, Lacking};
-ghost use Rattle.painting.specs.Answers.{paintedOf, Checked};
+ghost use Rattle.painting.specs.Answers.{paintedOf, refusalOf, Checked};
 
 fn wide(x: u16) -> usize
     ensures { λ r. ⌜ r ≡ x ⌝ }
@@ -269,6 +270,19 @@ pub fn lowest_lacking(
 pub enum Painted {
     Accepted,
     Refused(Refusal),
+}
+
+// The refusal of an answer that has one.
+pub fn refusal_of(p: Painted) -> Refusal
+    ensures { λ f. ⌜ f ≡ refusalOf p ⌝ }
+{
+    let Painted::Refused(f) = p else {
+        return Refusal {
+            number: 0,
+            place: 0,
+        };
+    };
+    f
 }
 
 // What was found is refused with its place.

@@ -20,7 +20,8 @@ use Rattle.planning.proofs.Formed.{Formed, formed-of}
 use Rattle.state.specs.Sets.{inSet, setsOf, actionOf, Listed}
 use Rattle.state.proofs.Members.{inSet-single, one-shl}
 use Rattle.state.proofs.Tabled.{tabled-listed, tabled-action}
-use Rattle.paths.specs.Paths.{Next, Sets, Chained, Ground, Member, lower, Found, Enters, Marks, Kept, Apart, Leads}
+use Rattle.state.specs.Chains.{Next, Sets, Chained}
+use Rattle.paths.specs.Paths.{Ground, Member, lower, Found, Enters, Marks, Kept, Apart, Leads}
 use Rattle.paths.proofs.Sets.{inSet-xor, either, inSet-all}
 use Rattle.paths.proofs.Leads.{marks-turn, marks-map, usableArc-is, usableArc-fits, Layered, layered-start, layered-turn, layered-stop}
 

@@ -26,7 +26,8 @@ use Rattle.planning.proofs.Formed.{Formed, sorted-has, sorted-func}
 use Rattle.planning.proofs.Short.{usableArc-elim, adjacent-elim, usableArc→adjacent}
 use Rattle.state.specs.Sets.{inSet}
 use Rattle.state.proofs.Members.{inSet-empty, inSet-or, inSet-single}
-use Rattle.paths.specs.Paths.{Next, Sets, Member, lower, leadIn, lead, numberOf, Leads, Found, Enters, Marks, Kept, Apart}
+use Rattle.state.specs.Chains.{Next, Sets}
+use Rattle.paths.specs.Paths.{Member, lower, leadIn, lead, numberOf, Leads, Found, Enters, Marks, Kept, Apart}
 use Rattle.paths.proofs.Sets.{inSet-xor, either, inSet-all}
 
 -- the least number, and the definition's

@@ -23,7 +23,8 @@ use Rattle.planning.proofs.Formed.{Formed, formed-of}
 use Rattle.table.specs.Table.{Tabled}
 use Rattle.state.proofs.Tabled.{tabled-listed, tabled-action}
 use Rattle.state.specs.Sets.{actionOf, Listed}
-use Rattle.paths.specs.Paths.{Asked, leadIn, lead, numberOf, Leads, Sets, Put}
+use Rattle.state.specs.Chains.{Sets}
+use Rattle.paths.specs.Paths.{Asked, leadIn, lead, numberOf, Leads, Put}
 use Rattle.paths.specs.declared.Written.the-variants.{Upto, Long}
 use Rattle.paths.proofs.Leads.{first-at, range, usableArc-sets, usableArc-adj, effs}
 

@@ -13,7 +13,8 @@ ghost use Rattle.planning.specs.Repair.{shortest};
 ghost use Rattle.table.specs.Table.{factsIn, Tabled};
 ghost use mathlib.Core.Option.{none};
 ghost use Rattle.state.specs.Sets.{inSet, setsOf, actionOf, Listed, singles};
-ghost use Rattle.paths.specs.Paths.{Next, Sets, Ground, Member, Asked, lower, Leads, Enters, Marks, Kept, Apart, Memo, Put};
+ghost use Rattle.state.specs.Chains.{Next, Sets};
+ghost use Rattle.paths.specs.Paths.{Ground, Member, Asked, lower, Leads, Enters, Marks, Kept, Apart, Memo, Put};
 
 // Where a list ends after more was written, or that it does not fit.
 pub enum Written {

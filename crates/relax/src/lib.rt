@@ -121,7 +121,7 @@ pub enum Kept {
 }
 
 // The refusal of an answer that has one.
-fn refusal_of(k: Kept) -> Refusal
+pub fn refusal_of(k: Kept) -> Refusal
     ensures { λ f. ⌜ f ≡ noPlanOf k ⌝ }
 {
     let Kept::NoPlan(f) = k else {

@@ -435,7 +435,7 @@ fn lesser(a: usize, b: usize) -> usize
 }
 
 // "Capacity is the least of their lengths and 32,768."
-fn capacity(plan: usize, work: usize) -> usize
+pub fn capacity(plan: usize, work: usize) -> usize
     ensures { λ r. ⌜ r ≡ capacityOf plan work ⌝ }
 {
     lesser(lesser(plan, work), 32768)

@@ -1,0 +1,30 @@
+use mathlib.Core.Path.{sym, ap, _∙_}
+use lib.ListN.{length}
+use Rattle.planning.specs.Calls.{workList}
+use Rattle.planner.proofs.Settled.{plan-settled}
+use borrow.Author.Needs.{needs}
+use Rattle.planner.proofs.plan.Statement.{statement}
+use Rattle.planner.proofs.plan.Tie as tie
+use Rattle.planner.proofs.plan.Reads as reads
+use Rattle.planner.proofs.plan.Lts as lts
+use Rattle.planner.proofs.finish.Reads as finish-reads
+use Rattle.planner.proofs.plan_checked.Reads as plan-checked-reads
+
+plan-checked-requires : tie.Need-plan-checked-requires
+plan-checked-requires c κs = search needs
+
+finish-requires : tie.Need-finish-requires
+finish-requires c κs = search needs
+
+same-length : tie.Need-same-length
+same-length c = search needs
+
+same-length-2 : tie.Need-same-length-2
+same-length-2 c = search needs
+
+returns : tie.Need-returns
+returns c = let a = c .before .before .before .before .before .before .before .before .before .before .before .before .before .before .before .before .before .args in let D = c .before .before .before .before .before .before .before .before .before .before .before .plan-checked .ensures in let E = c .before .before .before .before .finish .ensures in let S = plan-settled (a .bytes .now) (length (a .plan .now)) (length (a .work .now)) _ (c .before .before .before .before .before .before .before .before .before .before .plan .given) _ D _ (E .0) in (D .answer, (S .0, (E .1 ∙ ap workList (c .before .before .before .before .before .before .before .before .work .given), S .1)))
+
+pub plan-spec : {M : Type 1} → statement M
+plan-spec =
+    tie.close (tie.spec plan-checked-requires finish-requires same-length same-length-2 returns)
