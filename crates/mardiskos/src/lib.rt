@@ -1,4 +1,5 @@
 // The entry points as C calls them: a slice is a pointer and a length.
+mod plans;
 mod runs;
 mod sheets;
 

@@ -1,0 +1,10 @@
+-- What C reads of the planner's answer: its code, and the result's numbers, 0 after a refusal.
+use Prim.Native.Nat.{ℕ, _+_, _*_}
+use mathlib.Core.Bool.{false}
+use Rattle.planning.specs.Basics.{Answer, refused, done}
+use Rattle.planning.specs.Calls.{Planned}
+use Rattle.mardiskos.specs.declared.plans.PlanResult.{PlanResult}
+
+abbrev pub planResultOf : Answer Planned → PlanResult
+planResultOf (refused n p) = record { code = p * 32 + n; steps = 0; cost = 0; runs = 0; real = false }
+planResultOf (done x) = record { code = 0; steps = x .steps; cost = x .cost; runs = x .runs; real = x .real′ }

@@ -1,0 +1,53 @@
+// The planner as C calls it. The code is 0, or 32 times the place and the number; after a refusal the other fields are 0.
+use planner::Planned;
+ghost use mathlib.Core.Path.{_≡_};
+ghost use lib.ListN.{length};
+ghost use Rattle.planning.specs.Calls.{planCall, planList, workList, planIn};
+ghost use Rattle.planning.specs.Existence.{Demand3};
+ghost use Rattle.planner.specs.Answers.{answerOf};
+ghost use Rattle.mardiskos.specs.Plans.{planResultOf};
+
+#[repr(C)]
+pub struct PlanResult {
+    pub code: u64,
+    pub steps: u32,
+    pub cost: u32,
+    pub runs: u32,
+    pub real: bool,
+}
+
+fn flat(p: Planned) -> PlanResult
+    ensures { λ r. ⌜ r ≡ planResultOf (answerOf p) ⌝ }
+{
+    match p {
+        Planned::Plan {
+            steps,
+            cost,
+            runs,
+            real,
+        } => PlanResult {
+            code: 0,
+            steps,
+            cost,
+            runs,
+            real,
+        },
+        Planned::Refused(f) => PlanResult {
+            code: (f.place as u64) * 32 + (f.number as u64),
+            steps: 0,
+            cost: 0,
+            runs: 0,
+            real: false,
+        },
+    }
+}
+
+#[no_mangle]
+pub extern "C" fn mardiskos_plan(bytes: &[u8], plan: &mut [u16], work: &mut [u16]) -> PlanResult
+    ensures { λ r. ⌜ r ≡ planResultOf (planCall (now (bytes .entry)) (length (now (plan .entry))) (length (now (work .entry)))) ⌝ }
+    ensures { λ r. ⌜ now (plan .exit) ≡ planList (now (bytes .entry)) (length (now (plan .entry))) (length (now (work .entry))) ⌝ }
+    ensures { λ r. ⌜ now (work .exit) ≡ workList (length (now (work .entry))) ⌝ }
+    ensures { λ r. ⌜ Demand3 (now (bytes .entry)) (length (now (plan .entry))) (length (now (work .entry))) (planCall (now (bytes .entry)) (length (now (plan .entry))) (length (now (work .entry)))) (planIn (planCall (now (bytes .entry)) (length (now (plan .entry))) (length (now (work .entry)))) (now (plan .exit))) ⌝ }
+{
+    flat(planner::plan(bytes, plan, work))
+}
