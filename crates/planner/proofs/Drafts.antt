@@ -15,13 +15,13 @@ use Rattle.planning.specs.Runs.{actions, relaxed, real, black, isPlan, costOf, 
 use Rattle.planning.specs.Relaxed.{reachesGoals, factsReached, relaxedPlan}
 use Rattle.planning.specs.Painting.{cyclic, unreturned, acyclicCheck, returnCheck}
 use Rattle.planning.specs.Repair.{order, repaired}
-use Rattle.planning.specs.Calls.{capacity, capacityOf, roomCheck, goalsCheck, notBelow, entriesCheck, Planned as Result, planned, planOf, planCall}
+use Rattle.planning.specs.Calls.{capacity, capacityOf, roomCheck, goalsCheck, notBelow, entriesCheck, Planned as Result, lengthCheck, relaxedCheck, planned, planOf, planCall, repairCall}
 use Rattle.planning.proofs.Steps.{All}
 use Rattle.planning.proofs.Plans.{isPlan-elim}
 use Rattle.planning.proofs.Formed.{Formed, formed-of}
 use Rattle.planning.proofs.Painting.{repaired-is-plan}
 use Rattle.planning.proofs.Achievers.{relaxedPlan-is-plan}
-use Rattle.planning.proofs.Checks.{Passed, andThen-none, andThen-assoc, refuseAt-none}
+use Rattle.planning.proofs.Checks.{Passed, andThen-none, andThen-assoc, refuseAt-none, inOrder-passed, inOrder-++}
 use Rattle.planning.proofs.Calls.{planCall-none}
 use Rattle.painting.specs.declared.Painted.{Painted}
 use Rattle.painting.specs.declared.Painted.the-variants.{Accepted}
@@ -32,6 +32,11 @@ use Rattle.relax.specs.declared.Kept.the-variants.{NoPlan}
 use Rattle.relax.specs.Answers.{noPlanOf}
 use Rattle.relax.specs.Keeping.{Unfound}
 use Rattle.bits.specs.declared.Refusal.{Refusal}
+use Rattle.bits.specs.declared.Read.{Read}
+use Rattle.bits.specs.declared.Read.the-variants.{Value}
+use Rattle.bits.specs.declared.Read.the-variants as read
+use Rattle.bits.specs.Answers.{readOf, refusalOf as readRefusal}
+use Rattle.bits.proofs.Stages.{passed, handed-on}
 use Rattle.judge.specs.declared.Verdict.{Verdict}
 use Rattle.judge.specs.Answers.{judgedOf, Ready}
 use Rattle.judge.proofs.Modes.{judged-alike, mode-real}
@@ -116,15 +121,7 @@ module _ (t : Task) (l : List ℕ) (p w : ℕ) where
       record { answer = rw (q, le-leb (length l) (capacityOf p w) (omega arith)) refl; front = (omega (arith, capacity-fits p w), rw (z ∙ sym en) e) }
   drafted-whole plan n en h ep e (Refused f) q = let z : _≡_ {A = ℕ} 0 1 = cc in absurd (omega arith)
 
--- a painting that is refused, and one that passes
-painting-stops : {A : Type 0} (s : List ℕ) (rest : List Check) (a : A) → recordCheck s ≡ none → (n p : ℕ) → refuse n p ≡ andThen (acyclicCheck (taskOf s)) (returnCheck (taskOf s))
-    → refused n p ≡ answer (inOrder (recordCheck s ∷ acyclicCheck (taskOf s) ∷ returnCheck (taskOf s) ∷ rest)) a
-unfolding inOrder andThen answer
-painting-stops s rest a rec n p e =
-    let k : andThen (acyclicCheck (taskOf s)) (andThen (returnCheck (taskOf s)) (inOrder rest)) ≡ andThen (refuse n p) (inOrder rest) =
-      sym (andThen-assoc (acyclicCheck (taskOf s)) (returnCheck (taskOf s)) (inOrder rest)) ∙ ap (λ (c : Check). andThen c (inOrder rest)) (sym e) in
-    rw (rec, k) refl
-
+-- a painting that passes
 pub painting-passes : (t : Task) (r : Painted) → paintedOf r ≡ andThen (acyclicCheck t) (returnCheck t) → r ≡ Accepted → (cyclic t ≡ none) × (unreturned t ≡ none)
 unfolding acyclicCheck returnCheck
 painting-passes t r e a =
@@ -138,42 +135,92 @@ last-check [] none h = refl
 last-check [] (some r) h = refl
 last-check (d ∷ cs) c h = rw (h .0) (last-check cs c (h .1))
 
--- a record that is refused
+-- a call that asks for the record's checks, for those of the painting, then for the rest
+module _ (s : List ℕ) (rest : List Check) (l : List ℕ) where
+  abbrev pub called : Answer Result
+  called = answer (inOrder (recordCheck s ∷ acyclicCheck (taskOf s) ∷ returnCheck (taskOf s) ∷ rest)) (planned (taskOf s) l)
+
+  unread : (plan : List ℕ) (f : Refusal) → refuse (f .number) (f .place) ≡ recordCheck s → Drafted called l plan (Refused f)
+  unfolding inOrder andThen answer
+  unread plan f e = record { answer = rw (← e) refl; front = tt }
+
+  unpainted : recordCheck s ≡ none → (plan : List ℕ) (r : Painted) (f g : Refusal) → paintedOf r ≡ andThen (acyclicCheck (taskOf s)) (returnCheck (taskOf s)) → r ≡ painted.Refused g → f ≡ refusalOf r
+      → Drafted called l plan (Refused f)
+  unfolding inOrder andThen answer
+  unpainted rec plan r f g e q k =
+      let told : refuse (f .number) (f .place) ≡ andThen (acyclicCheck (taskOf s)) (returnCheck (taskOf s)) = rw (k ∙ ap refusalOf q) (sym (ap paintedOf q) ∙ e) in
+      let first : andThen (acyclicCheck (taskOf s)) (andThen (returnCheck (taskOf s)) (inOrder rest)) ≡ andThen (refuse (f .number) (f .place)) (inOrder rest) =
+        sym (andThen-assoc (acyclicCheck (taskOf s)) (returnCheck (taskOf s)) (inOrder rest)) ∙ ap (λ (c : Check). andThen c (inOrder rest)) (sym told) in
+      record { answer = rw (rec, first) refl; front = tt }
+
+-- the planner's call
 pub plan-unread : (s : List ℕ) (n w : ℕ) (plan : List ℕ) (f : Refusal) → refuse (f .number) (f .place) ≡ recordCheck s → Drafted (planCall s n w) (planOf (taskOf s)) plan (Refused f)
-unfolding planCall inOrder andThen answer
-plan-unread s n w plan f e = record { answer = rw (← e) refl; front = tt }
+unfolding planCall
+plan-unread s n w = unread s _ (planOf (taskOf s))
 
--- an accepted record: the calls by what its painting and the list say
-module _ (s : List ℕ) (rec : recordCheck s ≡ none) where
-  told : (r : Painted) (f g : Refusal) → paintedOf r ≡ andThen (acyclicCheck (taskOf s)) (returnCheck (taskOf s)) → r ≡ painted.Refused g → f ≡ refusalOf r
-      → refuse (f .number) (f .place) ≡ andThen (acyclicCheck (taskOf s)) (returnCheck (taskOf s))
-  told r f g e q k = rw (k ∙ ap refusalOf q) (sym (ap paintedOf q) ∙ e)
+pub plan-unpainted : (s : List ℕ) → recordCheck s ≡ none → (n w : ℕ) (plan : List ℕ) (r : Painted) (f g : Refusal) → paintedOf r ≡ andThen (acyclicCheck (taskOf s)) (returnCheck (taskOf s)) → r ≡ painted.Refused g → f ≡ refusalOf r
+    → Drafted (planCall s n w) (planOf (taskOf s)) plan (Refused f)
+unfolding planCall
+plan-unpainted s rec n w = unpainted s _ (planOf (taskOf s)) rec
 
-  pub plan-unpainted : (n w : ℕ) (plan : List ℕ) (r : Painted) (f g : Refusal) → paintedOf r ≡ andThen (acyclicCheck (taskOf s)) (returnCheck (taskOf s)) → r ≡ painted.Refused g → f ≡ refusalOf r
-      → Drafted (planCall s n w) (planOf (taskOf s)) plan (Refused f)
-  unfolding planCall
-  plan-unpainted n w plan r f g e q k = record { answer = painting-stops s _ _ rec (f .number) (f .place) (told r f g e q k); front = tt }
+-- the repair of a caller's list
+pub repair-unread : (s l : List ℕ) (n w : ℕ) (plan : List ℕ) (f : Refusal) → refuse (f .number) (f .place) ≡ recordCheck s → Drafted (repairCall s l n w) (repaired (taskOf s) l) plan (Refused f)
+unfolding repairCall
+repair-unread s l n w = unread s _ (repaired (taskOf s) l)
 
-  module _ (acy : cyclic (taskOf s) ≡ none) (ret : unreturned (taskOf s) ≡ none) where
-    passes-painting : (acyclicCheck (taskOf s) ≡ none) × (returnCheck (taskOf s) ≡ none)
-    unfolding acyclicCheck returnCheck refuseAt
-    passes-painting = (rw acy refl, rw ret refl)
+pub repair-unpainted : (s l : List ℕ) → recordCheck s ≡ none → (n w : ℕ) (plan : List ℕ) (r : Painted) (f g : Refusal) → paintedOf r ≡ andThen (acyclicCheck (taskOf s)) (returnCheck (taskOf s)) → r ≡ painted.Refused g → f ≡ refusalOf r
+    → Drafted (repairCall s l n w) (repaired (taskOf s) l) plan (Refused f)
+unfolding repairCall
+repair-unpainted s l rec n w = unpainted s _ (repaired (taskOf s) l) rec
 
-    pub plan-unsolved : (n w : ℕ) (plan : List ℕ) (k : Kept) (f g : Refusal) → k ≡ NoPlan g → f ≡ noPlanOf k → Unfound (taskOf s) g → Drafted (planCall s n w) (planOf (taskOf s)) plan (Refused f)
-    plan-unsolved n w plan k f g q e U =
-        let x : f ≡ g = e ∙ ap noPlanOf q in
-        record { answer = rw (x, U .number′, U .place′) (sym (planCall-none s n w rec acy ret (U .unsolved))); front = tt }
+-- a caller's list that passes is a relaxed plan
+pub list-passes : (t : Task) (l : List ℕ) (r : Read) (v : ℕ) → readOf r ≡ answer (inOrder (lengthCheck l ∷ relaxedCheck t l ∷ [])) (length l) → r ≡ Value v → (lengthCheck l ≡ none) × (relaxedCheck t l ≡ none)
+list-passes t l r v e q =
+    let h = inOrder-passed (lengthCheck l ∷ relaxedCheck t l ∷ []) (passed r v (inOrder (lengthCheck l ∷ relaxedCheck t l ∷ [])) (length l) q e .0) in
+    (h .0, h .1 .0)
 
-    pub plan-roomed : (n w : ℕ) → reachesGoals (taskOf s) ≡ true → roomed (taskOf s) (planOf (taskOf s)) n w ≡ planCall s n w
-    unfolding planCall goalsCheck check
-    plan-roomed n w g =
-        ap (λ (c : Check). answer c (planned (taskOf s) (planOf (taskOf s))))
-        (sym (last-check (recordCheck s ∷ acyclicCheck (taskOf s) ∷ returnCheck (taskOf s) ∷ goalsCheck (taskOf s) ∷ []) (roomCheck (length (planOf (taskOf s))) (capacityOf n w)) (rec, (passes-painting .0, (passes-painting .1, (rw g refl, tt))))))
+-- an accepted record whose painting passes
+module _ (s : List ℕ) (rec : recordCheck s ≡ none) (acy : cyclic (taskOf s) ≡ none) (ret : unreturned (taskOf s) ≡ none) where
+  passes-painting : (acyclicCheck (taskOf s) ≡ none) × (returnCheck (taskOf s) ≡ none)
+  unfolding acyclicCheck returnCheck refuseAt
+  passes-painting = (rw acy refl, rw ret refl)
 
-    pub plan-drafted : (n w : ℕ) (l plan : List ℕ) (r : Planned) → l ≡ relaxedPlan (taskOf s) → reachesGoals (taskOf s) ≡ true → Drafted (roomed (taskOf s) (repaired (taskOf s) l) n w) (repaired (taskOf s) l) plan r
-        → Drafted (planCall s n w) (planOf (taskOf s)) plan r
-    unfolding planOf
-    plan-drafted n w l plan r e g D =
-        let D′ : Drafted (roomed (taskOf s) (repaired (taskOf s) (relaxedPlan (taskOf s))) n w) (repaired (taskOf s) (relaxedPlan (taskOf s))) plan r =
-          subst (λ (k : List ℕ). Drafted (roomed (taskOf s) (repaired (taskOf s) k) n w) (repaired (taskOf s) k) plan r) e D in
-        record { answer = D′ .answer ∙ plan-roomed n w g; front = D′ .front }
+  pub plan-unsolved : (n w : ℕ) (plan : List ℕ) (k : Kept) (f g : Refusal) → k ≡ NoPlan g → f ≡ noPlanOf k → Unfound (taskOf s) g → Drafted (planCall s n w) (planOf (taskOf s)) plan (Refused f)
+  plan-unsolved n w plan k f g q e U =
+      let x : f ≡ g = e ∙ ap noPlanOf q in
+      record { answer = rw (x, U .number′, U .place′) (sym (planCall-none s n w rec acy ret (U .unsolved))); front = tt }
+
+  plan-roomed : (n w : ℕ) → reachesGoals (taskOf s) ≡ true → roomed (taskOf s) (planOf (taskOf s)) n w ≡ planCall s n w
+  unfolding planCall goalsCheck check
+  plan-roomed n w g =
+      ap (λ (c : Check). answer c (planned (taskOf s) (planOf (taskOf s))))
+      (sym (last-check (recordCheck s ∷ acyclicCheck (taskOf s) ∷ returnCheck (taskOf s) ∷ goalsCheck (taskOf s) ∷ []) (roomCheck (length (planOf (taskOf s))) (capacityOf n w)) (rec, (passes-painting .0, (passes-painting .1, (rw g refl, tt))))))
+
+  pub plan-drafted : (n w : ℕ) (l plan : List ℕ) (r : Planned) → l ≡ relaxedPlan (taskOf s) → reachesGoals (taskOf s) ≡ true → Drafted (roomed (taskOf s) (repaired (taskOf s) l) n w) (repaired (taskOf s) l) plan r
+      → Drafted (planCall s n w) (planOf (taskOf s)) plan r
+  unfolding planOf
+  plan-drafted n w l plan r e g D =
+      let D′ : Drafted (roomed (taskOf s) (repaired (taskOf s) (relaxedPlan (taskOf s))) n w) (repaired (taskOf s) (relaxedPlan (taskOf s))) plan r =
+        subst (λ (k : List ℕ). Drafted (roomed (taskOf s) (repaired (taskOf s) k) n w) (repaired (taskOf s) k) plan r) e D in
+      record { answer = D′ .answer ∙ plan-roomed n w g; front = D′ .front }
+
+  pub repair-unlisted : (l : List ℕ) (n w : ℕ) (plan : List ℕ) (r : Read) (f g : Refusal) → readOf r ≡ answer (inOrder (lengthCheck l ∷ relaxedCheck (taskOf s) l ∷ [])) (length l) → r ≡ read.Refused g → f ≡ readRefusal r
+      → Drafted (repairCall s l n w) (repaired (taskOf s) l) plan (Refused f)
+  unfolding repairCall inOrder andThen answer
+  repair-unlisted l n w plan r f g e q k =
+      let two : List Check = lengthCheck l ∷ relaxedCheck (taskOf s) l ∷ [] in
+      let told : inOrder two ≡ refuse (f .number) (f .place) = handed-on r g f (inOrder two) (length l) q k e in
+      let all : inOrder (two ++ (roomCheck (length (repaired (taskOf s) l)) (capacityOf n w) ∷ [])) ≡ refuse (f .number) (f .place) = inOrder-++ two _ ∙ rw told refl in
+      record { answer = rw (rec, passes-painting .0, passes-painting .1) (rw all refl); front = tt }
+
+  pub repair-drafted : (l : List ℕ) (n w : ℕ) (plan : List ℕ) (r : Planned) → (lengthCheck l ≡ none) × (relaxedCheck (taskOf s) l ≡ none) → Drafted (roomed (taskOf s) (repaired (taskOf s) l) n w) (repaired (taskOf s) l) plan r
+      → Drafted (repairCall s l n w) (repaired (taskOf s) l) plan r
+  unfolding repairCall
+  repair-drafted l n w plan r h D =
+      record {
+        answer =
+          D .answer
+          ∙ ap (λ (c : Check). answer c (planned (taskOf s) (repaired (taskOf s) l)))
+            (sym (last-check (recordCheck s ∷ acyclicCheck (taskOf s) ∷ returnCheck (taskOf s) ∷ lengthCheck l ∷ relaxedCheck (taskOf s) l ∷ []) (roomCheck (length (repaired (taskOf s) l)) (capacityOf n w)) (rec, (passes-painting .0, (passes-painting .1, (h .0, (h .1, tt)))))));
+        front = D .front;
+      }

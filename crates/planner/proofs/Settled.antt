@@ -7,8 +7,10 @@ use lib.ListN.{length, take, replicate, length-take}
 use lib.Seq.{length-take-le, take-append-seam}
 use Rattle.planning.specs.Basics.{Answer, refused, done}
 use Rattle.planning.specs.Record.{Task, taskOf}
-use Rattle.planning.specs.Calls.{lent, planIn, Planned as Result, planOf, planCall, planList, workList}
-use Rattle.planning.specs.Existence.{ReturnsPlan, Complete, Demand3}
+use Rattle.planning.specs.Calls.{lent, planIn, Planned as Result, planOf, planCall, planList, repairCall, repairList, workList}
+use Rattle.planning.specs.Existence.{ReturnsPlan, Complete, Demand3, Bounded}
+use Rattle.planning.specs.Repair.{repaired}
+use Rattle.planning.proofs.Calls.{repairCall-bounded}
 use Rattle.planning.proofs.Demand3.{demand3}
 use Rattle.planner.specs.declared.Planned.{Planned}
 use Rattle.planner.specs.declared.Planned.the-variants.{Plan, Refused}
@@ -62,4 +64,13 @@ plan-settled s n w plan en r D plan′ e = (
   λ rec acy ret.
     complete-same (taskOf s) n w (answerOf r) (planOf (taskOf s)) (planIn (answerOf r) plan′) (settled-front (planCall s n w) (planOf (taskOf s)) plan n en r D plan′ e)
     (rw (D .answer) (demand3 s n w rec acy ret)),
+)
+
+-- the same of a caller's repair
+pub repair-settled : (s k : List ℕ) (n w : ℕ) (plan : List ℕ) → length plan ≡ n → (r : Planned) → Drafted (repairCall s k n w) (repaired (taskOf s) k) plan r → (plan′ : List ℕ) → plan′ ≡ lent (answerOf r) (length plan) (planIn (answerOf r) plan)
+    → (plan′ ≡ repairList s k n w) × Bounded s k (answerOf r) (planIn (answerOf r) plan′)
+unfolding repairList
+repair-settled s k n w plan en r D plan′ e = (
+  settled-list (repairCall s k n w) (repaired (taskOf s) k) plan n en r D plan′ e,
+  λ z. rw (settled-front (repairCall s k n w) (repaired (taskOf s) k) plan n en r D plan′ e z) (subst (λ x. Bounded s k x (repaired (taskOf s) k)) (sym (D .answer)) (repairCall-bounded s k n w) z),
 )
