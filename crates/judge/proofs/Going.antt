@@ -21,7 +21,7 @@ module _ (act : ℕ → Action) (m : Mode) (i : ℕ) (l : List ℕ) (s : State) 
   unfolding stepsRun
   stepsRun-stop e = rw (stepsRun, e) refl
 
-  runs-pass : holds s (act i .pre) ≡ true → runs act m (i ∷ l) s ≡ runs act m l (step m (act i) s)
+  pub runs-pass : holds s (act i .pre) ≡ true → runs act m (i ∷ l) s ≡ runs act m l (step m (act i) s)
   unfolding runs
   runs-pass e = rw (runs, e) refl
 
@@ -29,7 +29,7 @@ module _ (act : ℕ → Action) (m : Mode) (i : ℕ) (l : List ℕ) (s : State) 
   unfolding runs
   runs-stop e = rw (runs, e) refl
 
-  run-more : run act m (i ∷ l) s ≡ run act m l (step m (act i) s)
+  pub run-more : run act m (i ∷ l) s ≡ run act m l (step m (act i) s)
   unfolding run
   run-more = refl
 

@@ -1,4 +1,5 @@
 pub mod Modes
 pub mod Lists
+pub mod Relaxed
 pub mod Going
 pub mod Entry

@@ -1,8 +1,10 @@
 -- The definitions' values for each case of what judging answers.
 use mathlib.Core.Path.{_≡_}
-use mathlib.Core.List.{List}
+use mathlib.Core.Bool.{true, false}
+use mathlib.Core.List.{List, [], _∷_}
 use mathlib.Core.Option.{none}
-use Prim.Native.Nat.{ℕ, _≤_}
+use Prim.Native.Nat.{ℕ, suc, _≤_}
+use lib.Dec.{ltb}
 use lib.ListN.{length}
 use Rattle.planning.specs.Basics.{Answer, refused, done}
 use Rattle.planning.specs.Record.{taskOf, recordCheck}
@@ -36,3 +38,8 @@ pub record Ready (s table l : List ℕ) : Type 0 where
   pub tabled : Tabled (taskOf s) table
   pub short : length l ≤ 32768
   pub entries : entriesCheck (taskOf s) l ≡ none
+
+-- the entries before the first that is not below n
+unfoldable pub leading : ℕ → List ℕ → ℕ
+leading n [] = 0
+leading n (i ∷ l) = elim (ltb i n) [ true ↦ suc (leading n l) | false ↦ 0 ]

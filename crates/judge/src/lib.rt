@@ -9,13 +9,14 @@ ghost use mathlib.Core.List.{[], _∷_};
 ghost use mathlib.Core.Option.{none};
 ghost use Prim.Native.Nat.{_<_, _≤_};
 ghost use lib.ListN.{length};
-ghost use Rattle.planning.specs.Basics.{answer, inOrder, refuseAt};
+ghost use Rattle.planning.specs.Basics.{answer, inOrder};
 ghost use Rattle.planning.specs.Record.{taskOf, recordCheck};
 ghost use Rattle.planning.specs.Runs.{judged, judgement};
-ghost use Rattle.planning.specs.Calls.{notBelow, lengthCheck, entriesCheck, judgeCall};
+ghost use Rattle.planning.specs.Calls.{lengthCheck, entriesCheck, relaxedCheck, judgeCall};
 ghost use Rattle.bits.specs.Answers.{readOf};
+ghost use Rattle.table.specs.Table.{Tabled};
 ghost use Rattle.state.specs.Sets.{singles, modeOf};
-ghost use Rattle.judge.specs.Answers.{judgedOf, judgementOf, answerOf, refusalOf, Ready};
+ghost use Rattle.judge.specs.Answers.{judgedOf, judgementOf, answerOf, refusalOf, Ready, leading};
 
 // Under one semantics: the steps run before the first that does not apply, and whether the list is a plan.
 pub struct Verdict {
@@ -71,22 +72,18 @@ pub fn judge_all(bytes: &[u8], table: &[u16], list: &[u16]) -> Verdicts
     }
 }
 
-// Each entry is below n: the list's length, or refusal 9 at the lowest entry that is not.
-fn check_entries(list: &[u16], n: usize) -> Read
-    requires { ⌜ length (now list) ≤ 32768 ⌝ }
-    ensures { λ r. ⌜ readOf r ≡ answer (refuseAt 9 (notBelow n 0 (now (list .entry)))) (length (now (list .entry))) ⌝ }
+// The entries before the first that is not below n.
+fn leading(list: &[u16], n: usize) -> usize
+    ensures { λ r. ⌜ (r ≡ leading n (now (list .entry))) × (r ≤ length (now (list .entry))) ⌝ }
 {
     let mut k: usize = 0;
     while k < list.len() {
         if n <= list[k] as usize {
-            return Read::Refused(Refusal {
-                number: 9,
-                place: k as u32,
-            });
+            return k;
         }
         k += 1;
     }
-    Read::Value(k as u32)
+    k
 }
 
 // The list on its own: 13, then 9.
@@ -100,7 +97,37 @@ pub fn check_list(bytes: &[u8], list: &[u16]) -> Read
             place: 32768,
         });
     }
-    check_entries(list, table::actions(bytes))
+    let n = leading(list, table::actions(bytes));
+    if n < list.len() {
+        return Read::Refused(Refusal {
+            number: 9,
+            place: n as u32,
+        });
+    }
+    Read::Value(n as u32)
+}
+
+// A caller's relaxed plan: 13, then 9. Its entries run up to the first that is not below A.
+pub fn check_relaxed(bytes: &[u8], table: &[u16], list: &[u16]) -> Read
+    requires { ⌜ (recordCheck (now bytes) ≡ none) × Tabled (taskOf (now bytes)) (now table) ⌝ }
+    ensures { λ r. ⌜ readOf r ≡ answer (inOrder (lengthCheck (now (list .entry)) ∷ relaxedCheck (taskOf (now (bytes .entry))) (now (list .entry)) ∷ [])) (length (now (list .entry))) ⌝ }
+{
+    if 32768 < list.len() {
+        return Read::Refused(Refusal {
+            number: 13,
+            place: 32768,
+        });
+    }
+    let n = leading(list, table::actions(bytes));
+    let masks = state::single_sets();
+    let v = judge_one(&masks, bytes, table, &list[..n], 0);
+    if v.plan && n == list.len() {
+        return Read::Value(n as u32);
+    }
+    Read::Refused(Refusal {
+        number: 9,
+        place: v.steps,
+    })
 }
 
 // What judging answers: the verdicts, or the refusal of a check.

@@ -1,26 +1,44 @@
 use borrow.Author.Needs.{needs}
-use mathlib.Core.Path.{_∙_}
+use mathlib.Core.Path.{_≡_, ap, _∙_}
+use Prim.Native.Nat.{ℕ}
 use native.Mathlib.Omega.{arith}
 use Rattle.planning.specs.Record.{taskOf}
-use Rattle.judge.proofs.Lists.{long-refused, short-checked}
+use Rattle.planning.specs.Runs.{actions}
+use Rattle.planning.specs.Calls.{entriesCheck}
+use Rattle.judge.specs.Answers.{leading}
+use Rattle.judge.proofs.Lists.{long-refused, list-refused, list-passed}
 use Rattle.judge.proofs.check_list.Statement.{statement}
 use Rattle.judge.proofs.check_list.Tie as tie
 use Rattle.judge.proofs.check_list.Reads as reads
 use Rattle.judge.proofs.check_list.Lts as lts
+use Rattle.judge.proofs.leading.Reads as leading-reads
 use Rattle.table.proofs.actions.Reads as actions-reads
-use Rattle.judge.proofs.check_entries.Reads as check-entries-reads
 
 returns : tie.Need-returns
-returns c = let a = c .before .before .before .args in long-refused (taskOf (a .bytes .now)) (a .list .now) (omega arith)
+returns c = let a = c .before .before .before .args in long-refused (entriesCheck (taskOf (a .bytes .now)) (a .list .now)) (a .list .now) (omega arith)
 
 actions-requires : tie.Need-actions-requires
 actions-requires c κs = search needs
 
-check-entries-requires : tie.Need-check-entries-requires
-check-entries-requires c κs = search needs
+leading-requires : tie.Need-leading-requires
+leading-requires c κs = search needs
+
+ensured : (c : tie.After-leading) → c .leading .result ≡ leading (actions (taskOf (c .before .before .before .before .before .args .bytes .now))) (c .before .before .before .before .before .args .list .now)
+ensured c = c .leading .ensures .0 ∙ ap (λ (n : ℕ). leading n (c .before .before .before .before .before .args .list .now)) (c .before .actions .ensures)
+
+cast-t7 : tie.Need-cast-t7
+cast-t7 c = search needs
 
 returns-2 : tie.Need-returns-2
-returns-2 c = let a = c .before .before .before .before .before .args in c .check-entries .ensures ∙ short-checked (taskOf (a .bytes .now)) (a .list .now) _ (omega arith) (c .before .actions .ensures)
+returns-2 c = let a = c .before .before .before .before .before .before .args in list-refused (taskOf (a .bytes .now)) (a .list .now) _ (omega arith) (ensured (c .before)) (omega arith)
+
+cast-t9 : tie.Need-cast-t9
+cast-t9 c = search needs
+
+returns-3 : tie.Need-returns-3
+returns-3 c = let a = c .before .before .before .before .before .before .args in list-passed (taskOf (a .bytes .now)) (a .list .now) _ (omega arith) (ensured (c .before)) (omega arith) (c .before .leading .ensures .1)
 
 pub check-list-spec : {M : Type 1} → statement M
-check-list-spec = tie.close (tie.spec returns actions-requires check-entries-requires returns-2)
+check-list-spec =
+    tie.close
+    (tie.spec returns actions-requires leading-requires cast-t7 returns-2 cast-t9 returns-3)
