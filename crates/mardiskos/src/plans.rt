@@ -2,8 +2,8 @@
 use planner::Planned;
 ghost use mathlib.Core.Path.{_≡_};
 ghost use lib.ListN.{length};
-ghost use Rattle.planning.specs.Calls.{planCall, planList, workList, planIn};
-ghost use Rattle.planning.specs.Existence.{Demand3};
+ghost use Rattle.planning.specs.Calls.{planCall, planList, repairCall, repairList, workList, planIn};
+ghost use Rattle.planning.specs.Existence.{Demand3, Bounded};
 ghost use Rattle.planner.specs.Answers.{answerOf};
 ghost use Rattle.mardiskos.specs.Plans.{planResultOf};
 
@@ -50,4 +50,19 @@ pub extern "C" fn mardiskos_plan(bytes: &[u8], plan: &mut [u16], work: &mut [u16
     ensures { λ r. ⌜ Demand3 (now (bytes .entry)) (length (now (plan .entry))) (length (now (work .entry))) (planCall (now (bytes .entry)) (length (now (plan .entry))) (length (now (work .entry)))) (planIn (planCall (now (bytes .entry)) (length (now (plan .entry))) (length (now (work .entry)))) (now (plan .exit))) ⌝ }
 {
     flat(planner::plan(bytes, plan, work))
+}
+
+#[no_mangle]
+pub extern "C" fn mardiskos_repair(
+    bytes: &[u8],
+    list: &[u16],
+    plan: &mut [u16],
+    work: &mut [u16],
+) -> PlanResult
+    ensures { λ r. ⌜ r ≡ planResultOf (repairCall (now (bytes .entry)) (now (list .entry)) (length (now (plan .entry))) (length (now (work .entry)))) ⌝ }
+    ensures { λ r. ⌜ now (plan .exit) ≡ repairList (now (bytes .entry)) (now (list .entry)) (length (now (plan .entry))) (length (now (work .entry))) ⌝ }
+    ensures { λ r. ⌜ now (work .exit) ≡ workList (length (now (work .entry))) ⌝ }
+    ensures { λ r. ⌜ Bounded (now (bytes .entry)) (now (list .entry)) (repairCall (now (bytes .entry)) (now (list .entry)) (length (now (plan .entry))) (length (now (work .entry)))) (planIn (repairCall (now (bytes .entry)) (now (list .entry)) (length (now (plan .entry))) (length (now (work .entry)))) (now (plan .exit))) ⌝ }
+{
+    flat(planner::repair(bytes, list, plan, work))
 }

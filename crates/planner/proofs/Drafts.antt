@@ -150,7 +150,7 @@ module _ (s : List ℕ) (rest : List Check) (l : List ℕ) where
   unpainted rec plan r f g e q k =
       let told : refuse (f .number) (f .place) ≡ andThen (acyclicCheck (taskOf s)) (returnCheck (taskOf s)) = rw (k ∙ ap refusalOf q) (sym (ap paintedOf q) ∙ e) in
       let first : andThen (acyclicCheck (taskOf s)) (andThen (returnCheck (taskOf s)) (inOrder rest)) ≡ andThen (refuse (f .number) (f .place)) (inOrder rest) =
-        sym (andThen-assoc (acyclicCheck (taskOf s)) (returnCheck (taskOf s)) (inOrder rest)) ∙ ap (λ (c : Check). andThen c (inOrder rest)) (sym told) in
+      sym (andThen-assoc (acyclicCheck (taskOf s)) (returnCheck (taskOf s)) (inOrder rest)) ∙ ap (λ (c : Check). andThen c (inOrder rest)) (sym told) in
       record { answer = rw (rec, first) refl; front = tt }
 
 -- the planner's call
@@ -201,7 +201,7 @@ module _ (s : List ℕ) (rec : recordCheck s ≡ none) (acy : cyclic (taskOf s) 
   unfolding planOf
   plan-drafted n w l plan r e g D =
       let D′ : Drafted (roomed (taskOf s) (repaired (taskOf s) (relaxedPlan (taskOf s))) n w) (repaired (taskOf s) (relaxedPlan (taskOf s))) plan r =
-        subst (λ (k : List ℕ). Drafted (roomed (taskOf s) (repaired (taskOf s) k) n w) (repaired (taskOf s) k) plan r) e D in
+      subst (λ (k : List ℕ). Drafted (roomed (taskOf s) (repaired (taskOf s) k) n w) (repaired (taskOf s) k) plan r) e D in
       record { answer = D′ .answer ∙ plan-roomed n w g; front = D′ .front }
 
   pub repair-unlisted : (l : List ℕ) (n w : ℕ) (plan : List ℕ) (r : Read) (f g : Refusal) → readOf r ≡ answer (inOrder (lengthCheck l ∷ relaxedCheck (taskOf s) l ∷ [])) (length l) → r ≡ read.Refused g → f ≡ readRefusal r
@@ -210,7 +210,8 @@ module _ (s : List ℕ) (rec : recordCheck s ≡ none) (acy : cyclic (taskOf s) 
   repair-unlisted l n w plan r f g e q k =
       let two : List Check = lengthCheck l ∷ relaxedCheck (taskOf s) l ∷ [] in
       let told : inOrder two ≡ refuse (f .number) (f .place) = handed-on r g f (inOrder two) (length l) q k e in
-      let all : inOrder (two ++ (roomCheck (length (repaired (taskOf s) l)) (capacityOf n w) ∷ [])) ≡ refuse (f .number) (f .place) = inOrder-++ two _ ∙ rw told refl in
+      let room : List Check = roomCheck (length (repaired (taskOf s) l)) (capacityOf n w) ∷ [] in
+      let all : inOrder (two ++ room) ≡ refuse (f .number) (f .place) = inOrder-++ two room ∙ ap (λ (c : Check). andThen c (inOrder room)) told in
       record { answer = rw (rec, passes-painting .0, passes-painting .1) (rw all refl); front = tt }
 
   pub repair-drafted : (l : List ℕ) (n w : ℕ) (plan : List ℕ) (r : Planned) → (lengthCheck l ≡ none) × (relaxedCheck (taskOf s) l ≡ none) → Drafted (roomed (taskOf s) (repaired (taskOf s) l) n w) (repaired (taskOf s) l) plan r
@@ -219,8 +220,8 @@ module _ (s : List ℕ) (rec : recordCheck s ≡ none) (acy : cyclic (taskOf s) 
   repair-drafted l n w plan r h D =
       record {
         answer =
-          D .answer
-          ∙ ap (λ (c : Check). answer c (planned (taskOf s) (repaired (taskOf s) l)))
+            D .answer
+            ∙ ap (λ (c : Check). answer c (planned (taskOf s) (repaired (taskOf s) l)))
             (sym (last-check (recordCheck s ∷ acyclicCheck (taskOf s) ∷ returnCheck (taskOf s) ∷ lengthCheck l ∷ relaxedCheck (taskOf s) l ∷ []) (roomCheck (length (repaired (taskOf s) l)) (capacityOf n w)) (rec, (passes-painting .0, (passes-painting .1, (h .0, (h .1, tt)))))));
         front = D .front;
       }

@@ -62,8 +62,8 @@ unfolding planList
 plan-settled s n w plan en r D plan′ e = (
   settled-list (planCall s n w) (planOf (taskOf s)) plan n en r D plan′ e,
   λ rec acy ret.
-    complete-same (taskOf s) n w (answerOf r) (planOf (taskOf s)) (planIn (answerOf r) plan′) (settled-front (planCall s n w) (planOf (taskOf s)) plan n en r D plan′ e)
-    (rw (D .answer) (demand3 s n w rec acy ret)),
+      complete-same (taskOf s) n w (answerOf r) (planOf (taskOf s)) (planIn (answerOf r) plan′) (settled-front (planCall s n w) (planOf (taskOf s)) plan n en r D plan′ e)
+      (rw (D .answer) (demand3 s n w rec acy ret)),
 )
 
 -- the same of a caller's repair

@@ -1,5 +1,6 @@
 // The planner: from a record to a repaired plan, and the repair of a caller's relaxed plan. Each check is asked for in the paper's
 // order; the plan stands in the front of the plan list from the repair on, and what is behind it is blanked at the end.
+use bits::Read;
 use bits::Refusal;
 use graph::Order;
 use painting::Painted;
@@ -130,9 +131,7 @@ fn plan_loaded(bytes: &[u8], table: &[u16], plan: &mut [u16], work: &mut [u16]) 
     let rows = graph::graph(bytes, table, paint, acts);
     let mut head = [65535u16; 4096];
     let mut chain = [65535u16; 1024];
-    let p = painting::check_painting(
-        bytes, table, paint, vars, acts, rows, &mut head, &mut chain,
-    );
+    let p = painting::check_painting(bytes, table, paint, vars, acts, rows, &mut head, &mut chain);
     let Painted::Accepted = p else {
         return Planned::Refused(painting::refusal_of(p));
     };
@@ -142,7 +141,45 @@ fn plan_loaded(bytes: &[u8], table: &[u16], plan: &mut [u16], work: &mut [u16]) 
         return Planned::Refused(relax::refusal_of(k));
     };
     let count = n as usize;
-    draft(bytes, table, &head, &chain, paint, &rows, &relaxed[..count], plan, work)
+    draft(
+        bytes,
+        table,
+        &head,
+        &chain,
+        paint,
+        &rows,
+        &relaxed[..count],
+        plan,
+        work,
+    )
+}
+
+// Checks 7, 8, 13, 9 and 11 of an accepted record and a caller's list, and the plan.
+fn repair_loaded(
+    bytes: &[u8],
+    table: &[u16],
+    list: &[u16],
+    plan: &mut [u16],
+    work: &mut [u16],
+) -> Planned
+    requires { ⌜ (recordCheck (now bytes) ≡ none) × Tabled (taskOf (now bytes)) (now table) ⌝ }
+    ensures { λ r. ⌜ Drafted (repairCall (now (bytes .entry)) (now (list .entry)) (length (now (plan .entry))) (length (now (work .entry)))) (repaired (taskOf (now (bytes .entry))) (now (list .entry))) (now (plan .exit)) r ⌝ }
+{
+    let paint = state::painted(bytes);
+    let vars = table::variables(bytes);
+    let acts = table::actions(bytes);
+    let rows = graph::graph(bytes, table, paint, acts);
+    let mut head = [65535u16; 4096];
+    let mut chain = [65535u16; 1024];
+    let p = painting::check_painting(bytes, table, paint, vars, acts, rows, &mut head, &mut chain);
+    let Painted::Accepted = p else {
+        return Planned::Refused(painting::refusal_of(p));
+    };
+    let l = judge::check_relaxed(bytes, table, list);
+    let Read::Value(_) = l else {
+        return Planned::Refused(bits::refusal_of(l));
+    };
+    draft(bytes, table, &head, &chain, paint, &rows, list, plan, work)
 }
 
 fn plan_accepted(bytes: &[u8], plan: &mut [u16], work: &mut [u16]) -> Planned
@@ -159,6 +196,20 @@ fn plan_accepted(bytes: &[u8], plan: &mut [u16], work: &mut [u16]) -> Planned
     plan_loaded(bytes, &table, plan, work)
 }
 
+fn repair_accepted(bytes: &[u8], list: &[u16], plan: &mut [u16], work: &mut [u16]) -> Planned
+    requires { ⌜ recordCheck (now bytes) ≡ none ⌝ }
+    ensures { λ r. ⌜ Drafted (repairCall (now (bytes .entry)) (now (list .entry)) (length (now (plan .entry))) (length (now (work .entry)))) (repaired (taskOf (now (bytes .entry))) (now (list .entry))) (now (plan .exit)) r ⌝ }
+{
+    if bytes.len() <= 3072 {
+        let mut table = [0u16; 4096];
+        table::load(bytes, &mut table);
+        return repair_loaded(bytes, &table, list, plan, work);
+    }
+    let mut table = [0u16; 34816];
+    table::load(bytes, &mut table);
+    repair_loaded(bytes, &table, list, plan, work)
+}
+
 // The record's checks, and the plan.
 fn plan_checked(bytes: &[u8], plan: &mut [u16], work: &mut [u16]) -> Planned
     ensures { λ r. ⌜ Drafted (planCall (now (bytes .entry)) (length (now (plan .entry))) (length (now (work .entry)))) (planOf (taskOf (now (bytes .entry)))) (now (plan .exit)) r ⌝ }
@@ -166,6 +217,17 @@ fn plan_checked(bytes: &[u8], plan: &mut [u16], work: &mut [u16]) -> Planned
     let c = record::check(bytes);
     let Checked::Refused(f) = c else {
         return plan_accepted(bytes, plan, work);
+    };
+    Planned::Refused(f)
+}
+
+// The same with a caller's list.
+fn repair_checked(bytes: &[u8], list: &[u16], plan: &mut [u16], work: &mut [u16]) -> Planned
+    ensures { λ r. ⌜ Drafted (repairCall (now (bytes .entry)) (now (list .entry)) (length (now (plan .entry))) (length (now (work .entry)))) (repaired (taskOf (now (bytes .entry))) (now (list .entry))) (now (plan .exit)) r ⌝ }
+{
+    let c = record::check(bytes);
+    let Checked::Refused(f) = c else {
+        return repair_accepted(bytes, list, plan, work);
     };
     Planned::Refused(f)
 }
@@ -202,6 +264,18 @@ pub fn plan(bytes: &[u8], plan: &mut [u16], work: &mut [u16]) -> Planned
     ensures { λ r. ⌜ Demand3 (now (bytes .entry)) (length (now (plan .entry))) (length (now (work .entry))) (answerOf r) (planIn (answerOf r) (now (plan .exit))) ⌝ }
 {
     let r = plan_checked(bytes, plan, work);
+    finish(r, plan, work);
+    r
+}
+
+// The repair of a caller's relaxed plan. Checks 1 to 8, 13, 9, 11.
+pub fn repair(bytes: &[u8], list: &[u16], plan: &mut [u16], work: &mut [u16]) -> Planned
+    ensures { λ r. ⌜ answerOf r ≡ repairCall (now (bytes .entry)) (now (list .entry)) (length (now (plan .entry))) (length (now (work .entry))) ⌝ }
+    ensures { λ r. ⌜ now (plan .exit) ≡ repairList (now (bytes .entry)) (now (list .entry)) (length (now (plan .entry))) (length (now (work .entry))) ⌝ }
+    ensures { λ r. ⌜ now (work .exit) ≡ workList (length (now (work .entry))) ⌝ }
+    ensures { λ r. ⌜ Bounded (now (bytes .entry)) (now (list .entry)) (answerOf r) (planIn (answerOf r) (now (plan .exit))) ⌝ }
+{
+    let r = repair_checked(bytes, list, plan, work);
     finish(r, plan, work);
     r
 }

@@ -1,0 +1,30 @@
+use mathlib.Core.Path.{sym, ap, _∙_}
+use lib.ListN.{length}
+use Rattle.planning.specs.Calls.{workList}
+use Rattle.planner.proofs.Settled.{repair-settled}
+use borrow.Author.Needs.{needs}
+use Rattle.planner.proofs.repair.Statement.{statement}
+use Rattle.planner.proofs.repair.Tie as tie
+use Rattle.planner.proofs.repair.Reads as reads
+use Rattle.planner.proofs.repair.Lts as lts
+use Rattle.planner.proofs.finish.Reads as finish-reads
+use Rattle.planner.proofs.repair_checked.Reads as repair-checked-reads
+
+repair-checked-requires : tie.Need-repair-checked-requires
+repair-checked-requires c κs = search needs
+
+finish-requires : tie.Need-finish-requires
+finish-requires c κs = search needs
+
+same-length : tie.Need-same-length
+same-length c = search needs
+
+same-length-2 : tie.Need-same-length-2
+same-length-2 c = search needs
+
+returns : tie.Need-returns
+returns c = let a = c .before .before .before .before .before .before .before .before .before .before .before .before .before .before .before .before .before .before .args in let D = c .before .before .before .before .before .before .before .before .before .before .before .repair-checked .ensures in let E = c .before .before .before .before .finish .ensures in let S = repair-settled (a .bytes .now) (a .list .now) (length (a .plan .now)) (length (a .work .now)) _ (c .before .before .before .before .before .before .before .before .before .before .plan .given) _ D _ (E .0) in (D .answer, (S .0, (E .1 ∙ ap workList (c .before .before .before .before .before .before .before .before .work .given), S .1)))
+
+pub repair-spec : {M : Type 1} → statement M
+repair-spec =
+    tie.close (tie.spec repair-checked-requires finish-requires same-length same-length-2 returns)
