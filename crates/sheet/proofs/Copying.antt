@@ -5,9 +5,9 @@ use Prim.Native.Nat.{ℕ, zero, suc, _+_, _-_, _*_, _/_, _%_, _^_, _<_, _≤_}
 use native.Mathlib.Nat.{zero-add, suc-add, sub-zero}
 use native.Mathlib.Numerals.{add-one}
 use native.Mathlib.Omega.{arith}
-use lib.ListN.{length, take, drop, set, length-set, length-append}
-use lib.Seq.{take-suc-set, length-take-le, take-at, sets-eq}
-use Rattle.planning.specs.Basics.{bitsAt}
+use lib.ListN.{length, take, drop, set, length-set, length-append, length-drop}
+use lib.Seq.{take-suc-set, length-take-le, take-at, sets-eq, getD-drop, take-all}
+use Rattle.planning.specs.Basics.{bitAt, bitsAt}
 use Rattle.planning.specs.Sheet.{stepsAt}
 use Rattle.bits.proofs.Window.{bitsAt-cut}
 
@@ -51,17 +51,17 @@ module _ (s : List ℕ) (n : ℕ) (whole d₀ d : List ℕ) (i : ℕ) (g : Copyi
         so-far = g .so-far ∙ rw (k, p, ← e, add-one i, take-suc-set d i v l, append-assoc) refl;
       }
 
-  pub copying-four : (j : ℕ) (e : List ℕ) → i + 4 ≤ n → j * 8 + 5 ≡ 53 + 10 * i → length e ≡ length d
-      → e ≡ take i d ++ stepsAt s (j * 8 + 5) 4 ++ drop (i + 4) d → Copying s n whole d₀ e (i + 4)
-  copying-four j e h q l w =
-      let k : n - i ≡ 4 + (n - (i + 4)) = omega arith in
-      let p : 53 + 10 * i + 10 * 4 ≡ 53 + 10 * (i + 4) = omega arith in
-      let z : length (take i d ++ stepsAt s (j * 8 + 5) 4) ≡ i + 4 = rw (length-append, length-stepsAt, length-take-le i d (omega (arith, g .long, g .room))) refl in
+  pub copying-five : (e : List ℕ) → i + 5 ≤ n → length e ≡ length d
+      → e ≡ take i d ++ stepsAt s (53 + 10 * i) 5 ++ drop (i + 5) d → Copying s n whole d₀ e (i + 5)
+  copying-five e h l w =
+      let k : n - i ≡ 5 + (n - (i + 5)) = omega arith in
+      let p : 53 + 10 * i + 10 * 5 ≡ 53 + 10 * (i + 5) = omega arith in
+      let z : length (take i d ++ stepsAt s (53 + 10 * i) 5) ≡ i + 5 = rw (length-append, length-stepsAt, length-take-le i d (omega (arith, g .long, g .room))) refl in
       record {
         within = h;
         room = g .room;
         long = l ∙ g .long;
-        so-far = g .so-far ∙ rw (k, stepsAt-add s (53 + 10 * i) 4 (n - (i + 4)), p, w, take-at (take i d ++ stepsAt s (j * 8 + 5) 4) (drop (i + 4) d) (i + 4) z, q, append-assoc) refl;
+        so-far = g .so-far ∙ rw (k, stepsAt-add s (53 + 10 * i) 5 (n - (i + 5)), p, w, take-at (take i d ++ stepsAt s (53 + 10 * i) 5) (drop (i + 5) d) (i + 5) z, append-assoc) refl;
       }
 
   pub copying-end : n ≤ i → take n d ≡ whole
@@ -71,17 +71,42 @@ module _ (s : List ℕ) (n : ℕ) (whole d₀ d : List ℕ) (i : ℕ) (g : Copyi
       let k : n - n ≡ 0 = omega arith in
       sym (g .so-far ∙ rw (e, k, append-nil) refl)
 
--- four fields out of the 48 bits from byte j on, stored one behind the other
-pub four-stored : (s d : List ℕ) (j i w : ℕ) → w ≡ bitsAt s (j * 8) 48 → i + 4 ≤ length d
-    → set (set (set (set d i (w / 2 ^ 33 % 1024)) (i + 1) (w / 2 ^ 23 % 1024)) (i + 2) (w / 2 ^ 13 % 1024)) (i + 3) (w / 2 ^ 3 % 1024)
-    ≡ take i d ++ stepsAt s (j * 8 + 5) 4 ++ drop (i + 4) d
+-- five fields of 50 bits, stored one behind the other
+pub five-stored : (s d : List ℕ) (p i w : ℕ) → w ≡ bitsAt s p 50 → i + 5 ≤ length d
+    → set (set (set (set (set d i (w / 2 ^ 40 % 1024)) (i + 1) (w / 2 ^ 30 % 1024)) (i + 2) (w / 2 ^ 20 % 1024)) (i + 3) (w / 2 ^ 10 % 1024)) (i + 4) (w % 1024)
+    ≡ take i d ++ stepsAt s p 5 ++ drop (i + 5) d
 unfolding stepsAt
-four-stored s d j i w e h =
-    let e1 : j * 8 + 5 + 10 ≡ j * 8 + 15 = omega arith in
-    let e2 : j * 8 + 15 + 10 ≡ j * 8 + 25 = omega arith in
-    let e3 : j * 8 + 25 + 10 ≡ j * 8 + 35 = omega arith in
+five-stored s d p i w e h =
+    let p0 : p + 0 ≡ p = omega arith in
+    let p2 : p + 10 + 10 ≡ p + 20 = omega arith in
+    let p3 : p + 20 + 10 ≡ p + 30 = omega arith in
+    let p4 : p + 30 + 10 ≡ p + 40 = omega arith in
+    let f0 : w / 2 ^ 40 % 1024 ≡ bitsAt s p 10 = rw e (bitsAt-cut s p 0 10 40 ∙ ap (λ (q : ℕ). bitsAt s q 10) p0) in
+    let f4 : w % 1024 ≡ bitsAt s (p + 40) 10 = let z : w / 2 ^ 0 ≡ w = omega arith in ap (λ (x : ℕ). x % 1024) (sym z) ∙ rw e (bitsAt-cut s p 40 10 0) in
     let i1 : i + 1 ≡ suc i = omega arith in
     let i2 : i + 2 ≡ suc (suc i) = omega arith in
     let i3 : i + 3 ≡ suc (suc (suc i)) = omega arith in
-    rw (e1, e2, e3, ← bitsAt-cut s (j * 8) 5 10 33, ← bitsAt-cut s (j * 8) 15 10 23, ← bitsAt-cut s (j * 8) 25 10 13, ← bitsAt-cut s (j * 8) 35 10 3, ← e, i1, i2, i3)
-    (sets-eq (w / 2 ^ 33 % 1024 ∷ w / 2 ^ 23 % 1024 ∷ w / 2 ^ 13 % 1024 ∷ w / 2 ^ 3 % 1024 ∷ []) d i h)
+    let i4 : i + 4 ≡ suc (suc (suc (suc i))) = omega arith in
+    rw (p2, p3, p4, ← f0, ← bitsAt-cut s p 10 10 30, ← bitsAt-cut s p 20 10 20, ← bitsAt-cut s p 30 10 10, ← f4, ← e, i1, i2, i3, i4)
+    (sets-eq (w / 2 ^ 40 % 1024 ∷ w / 2 ^ 30 % 1024 ∷ w / 2 ^ 20 % 1024 ∷ w / 2 ^ 10 % 1024 ∷ w % 1024 ∷ []) d i h)
+
+-- bits behind the first j bytes
+bitAt-drop : (s : List ℕ) (j p : ℕ) → bitAt (drop j s) p ≡ bitAt s (j * 8 + p)
+unfolding bitAt
+bitAt-drop s j p =
+    let e : j + p / 8 ≡ (j * 8 + p) / 8 = omega arith in
+    let m : p % 8 ≡ (j * 8 + p) % 8 = omega arith in
+    rw (getD-drop j s (p / 8) 0, e, m) refl
+
+bitsAt-drop : (s : List ℕ) (j p w : ℕ) → bitsAt (drop j s) p w ≡ bitsAt s (j * 8 + p) w
+unfolding bitsAt
+bitsAt-drop s j p zero = refl
+bitsAt-drop s j p (suc w) =
+    let a : j * 8 + (p + w) ≡ j * 8 + p + w = omega arith in
+    rw (bitsAt-drop s j p w, bitAt-drop s j (p + w), a) refl
+
+-- a field in the bytes from its first one on
+pub bitsAt-behind : (s : List ℕ) (p w : ℕ) → bitsAt (take (length s - p / 8) (drop (p / 8) s)) (p % 8) w ≡ bitsAt s p w
+bitsAt-behind s p w =
+    let e : p / 8 * 8 + p % 8 ≡ p = omega arith in
+    rw (take-all (length s - p / 8) (drop (p / 8) s) (rw (length-drop (p / 8) s) (omega arith)), bitsAt-drop s (p / 8) (p % 8) w, e) refl

@@ -277,29 +277,36 @@ fn read_each(bytes: &[u8], from: usize, steps: usize, list: &mut [u16])
     }
 }
 
-// Four steps behind the first five bits of byte j, written from i on.
-fn read_four(bytes: &[u8], j: usize, list: &mut [u16], i: usize)
-    requires { ⌜ (j + 6 ≤ length (now bytes)) × (8 ≤ length (now bytes)) × (j ≤ 50000) × (i + 4 ≤ length (now list)) ⌝ }
-    ensures { λ _. ⌜ now (list .exit) ≡ take i (now (list .entry)) ++ stepsAt (now (bytes .entry)) (j * 8 + 5) 4 ++ drop (i + 4) (now (list .entry)) ⌝ }
+// The 50 bits from `at` on, where eight bytes are left.
+fn five_steps(bytes: &[u8], at: usize) -> u64
+    requires { ⌜ at + 64 ≤ 8 * length (now bytes) ⌝ }
+    ensures { λ r. ⌜ r ≡ bitsAt (now (bytes .entry)) at 50 ⌝ }
 {
-    let word = bits::window_at(bytes, j * 8) / 65536;
-    list[i] = ((word >> 33) % 1024) as u16;
-    list[i + 1] = ((word >> 23) % 1024) as u16;
-    list[i + 2] = ((word >> 13) % 1024) as u16;
-    list[i + 3] = ((word >> 3) % 1024) as u16;
+    bits::window_at(&bytes[at / 8..], at % 8) >> 14
 }
 
-// The steps of a sheet: four lie in five bytes.
+// Five steps out of one window, written from i on.
+fn read_five(bytes: &[u8], list: &mut [u16], i: usize)
+    requires { ⌜ (10 * i + 117 ≤ 8 * length (now bytes)) × (i ≤ 32768) × (i + 5 ≤ length (now list)) ⌝ }
+    ensures { λ _. ⌜ now (list .exit) ≡ take i (now (list .entry)) ++ stepsAt (now (bytes .entry)) (53 + 10 * i) 5 ++ drop (i + 5) (now (list .entry)) ⌝ }
+{
+    let word = five_steps(bytes, 53 + 10 * i);
+    list[i] = ((word >> 40) % 1024) as u16;
+    list[i + 1] = ((word >> 30) % 1024) as u16;
+    list[i + 2] = ((word >> 20) % 1024) as u16;
+    list[i + 3] = ((word >> 10) % 1024) as u16;
+    list[i + 4] = (word % 1024) as u16;
+}
+
+// The steps of a sheet: five a turn while seven are left, so that eight bytes are.
 fn read_steps(bytes: &[u8], steps: usize, list: &mut [u16])
     requires { ⌜ (steps ≤ 32768) × (steps ≤ length (now list)) × (53 + 10 * steps ≤ 8 * length (now bytes)) ⌝ }
     ensures { λ _. ⌜ take steps (now (list .exit)) ≡ stepsAt (now (bytes .entry)) 53 steps ⌝ }
 {
     let mut i: usize = 0;
-    let mut j: usize = 6;
-    while i + 4 <= steps {
-        read_four(bytes, j, list, i);
-        i += 4;
-        j += 5;
+    while i + 7 <= steps {
+        read_five(bytes, list, i);
+        i += 5;
     }
     read_each(bytes, i, steps, list);
 }

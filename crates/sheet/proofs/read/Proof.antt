@@ -1,12 +1,14 @@
 -- The answer is that of the checks. The list holds the steps in front and 65,535 behind; the bytes are those of the sheet that was
 -- read, since an accepted sheet is written again as it was.
 use mathlib.Core.Path.{_≡_, refl, sym, ap, _∙_}
+use mathlib.Core.List.{_++_}
+use Prim.Native.Nat.{_-_}
 use native.Mathlib.Omega.{arith}
 use borrow.Author.Needs.{needs}
-use lib.ListN.{length}
+use lib.ListN.{take, length, replicate}
 use Rattle.planning.specs.Basics.{done}
 use Rattle.planning.specs.Calls.{Read, readCall}
-use Rattle.planning.specs.Sheet.{stepsIn}
+use Rattle.planning.specs.Sheet.{stepsAt, stepsIn}
 use Rattle.sheet.proofs.Checks.{accepted, Held, holding}
 use Rattle.sheet.proofs.Promises.{read-refused, read-done}
 use Rattle.sheet.proofs.read.Statement.{statement}
@@ -64,7 +66,9 @@ returns-2 c = let o = c .before .before .before .before .before .before .before 
     let w = called (c .before .before .before .before .before .before .before .before) in
     let h = held (c .before .before .before .before .before .before .before .before) in
     let l : length d ≡ length (o .list .now) = search needs in
-    let p = read-done (o .bytes .now) (length (o .list .now)) _ (rw (h .is) at w) (h .ok) (λ i. omega (arith, c .before .before .before .before .before .before .before .before .before .before .before .before .before .shared-slice-known .given i)) (c .before .before .blank-from .ensures ∙ rw (c .before .before .before .before .before .before .read-steps .ensures, l, steps-are (c .before .before .before .before .before .before .before .before)) refl) in
+    let z : take k d ++ replicate (length d - k) 65535 ≡ stepsAt (o .bytes .now) 53 (stepsIn (o .bytes .now)) ++ replicate (length (o .list .now) - stepsIn (o .bytes .now)) 65535 =
+    rw (c .before .before .before .before .before .before .read-steps .ensures, l, steps-are (c .before .before .before .before .before .before .before .before)) refl in
+    let p = read-done (o .bytes .now) (length (o .list .now)) _ (rw (h .is) at w) (h .ok) (λ i. omega (arith, c .before .before .before .before .before .before .before .before .before .before .before .before .before .shared-slice-known .given i)) (c .before .before .blank-from .ensures ∙ z) in
     (sym w, (p .0, λ n q. p .1 n (w ∙ q)))
 
 pub read-spec : {M : Type 1} → statement M

@@ -1,39 +1,36 @@
--- Four steps a turn; `read_each` has the rest.
+-- Five steps a turn; `read_each` has the rest.
 use mathlib.Core.Path.{_≡_, sym, _∙_}
-use Prim.Native.Nat.{_+_, _*_, _-_}
+use Prim.Native.Nat.{_-_}
 use native.Mathlib.Omega.{arith}
 use borrow.Author.Needs.{needs}
 use Rattle.planning.specs.Sheet.{stepsAt}
-use Rattle.sheet.proofs.Copying.{Copying, copying-none, copying-four}
+use Rattle.sheet.proofs.Copying.{Copying, copying-none, copying-five}
 use Rattle.sheet.proofs.read_steps.Statement.{statement}
 use Rattle.sheet.proofs.read_steps.Tie as tie
 
 abbrev Inv-loop : tie.InvT-loop
-Inv-loop bytes steps list₀ i₀ j₀ list i j = (j * 8 + 5 ≡ 53 + 10 * i) × Copying bytes steps (stepsAt bytes 53 steps) list₀ list i
+Inv-loop bytes steps list₀ i₀ list i = Copying bytes steps (stepsAt bytes 53 steps) list₀ list i
 
 abbrev μ-loop : tie.MeasureT-loop
-μ-loop bytes steps list₀ i₀ j₀ list i j = steps - i
+μ-loop bytes steps list₀ i₀ list i = steps - i
 
 loop-holds : tie.Need-loop-holds Inv-loop μ-loop
-loop-holds c = (omega arith, copying-none _ _ _ (omega arith))
+loop-holds c = copying-none _ _ _ (omega arith)
 
 add-loop : tie.Need-add-loop Inv-loop μ-loop
 add-loop c = search needs
 
-read-four-requires : tie.Need-read-four-requires Inv-loop μ-loop
-read-four-requires c κs = (omega (arith, c .before .before .loop .inv), omega (arith, c .before .before .loop .inv), omega (arith, c .before .before .loop .inv), omega (arith, c .before .before .loop .inv))
+read-five-requires : tie.Need-read-five-requires Inv-loop μ-loop
+read-five-requires c κs = search needs
 
 add-i : tie.Need-add-i Inv-loop μ-loop
 add-i c = search needs
-
-add-j : tie.Need-add-j Inv-loop μ-loop
-add-j c = search needs
 
 loop-less : tie.Need-loop-less Inv-loop μ-loop
 loop-less c = search needs
 
 loop-again : tie.Need-loop-again Inv-loop μ-loop
-loop-again c = (omega arith, copying-four _ _ _ _ _ _ (c .before .before .before .before .before .loop .inv .1) _ _ (omega arith) (c .before .before .before .before .before .loop .inv .0) (search needs) (c .before .before .read-four .ensures))
+loop-again c = copying-five _ _ _ _ _ _ (c .before .before .before .before .before .loop .inv) _ (omega arith) (search needs) (c .before .before .read-five .ensures)
 
 read-each-requires : tie.Need-read-each-requires Inv-loop μ-loop
 read-each-requires c κs = search needs
@@ -42,7 +39,7 @@ same-length : tie.Need-same-length Inv-loop μ-loop
 same-length c = search needs
 
 returns : tie.Need-returns Inv-loop μ-loop
-returns c = c .before .before .read-each .ensures ∙ sym (c .before .before .before .before .before .loop .inv .1 .so-far)
+returns c = c .before .before .read-each .ensures ∙ sym (c .before .before .before .before .before .loop .inv .so-far)
 
 pub read-steps-spec : {M : Type 1} → statement M
 read-steps-spec =
@@ -52,9 +49,8 @@ read-steps-spec =
     μ-loop
     loop-holds
     add-loop
-    read-four-requires
+    read-five-requires
     add-i
-    add-j
     loop-less
     loop-again
     read-each-requires

@@ -1,10 +1,11 @@
 -- The answer is that of the checks. The bytes in front are the front's and the steps', zeros stand behind, and what is written is read
 -- back as it was.
 use mathlib.Core.Path.{_≡_, refl, sym, ap, _∙_}
-use Prim.Native.Nat.{_≤_}
+use mathlib.Core.List.{_++_}
+use Prim.Native.Nat.{_-_, _≤_}
 use native.Mathlib.Omega.{arith}
 use borrow.Author.Needs.{needs}
-use lib.ListN.{take, length}
+use lib.ListN.{take, length, replicate}
 use Rattle.planning.specs.Basics.{done}
 use Rattle.planning.specs.Calls.{writeCall}
 use Rattle.planning.specs.Sheet.{sheetSize, sheetEnd, sheetBytes}
@@ -75,7 +76,8 @@ returns-2 c = let o = c .before .before .before .before .before .before .before 
     let w = called (c .before .before .before .before .before .before .before .before .before .before .before .before .before) in
     let l : length d ≡ length (o .bytes .now) = search needs in
     let b : take k d ≡ sheetBytes (sheet (o .list .now) (o .cost) (o .real)) = sheet-written (sheet (o .list .now) (o .cost) (o .real)) _ k (o .bytes .now) _ d (c .before .before .before .before .before .before .before .before .before .before .before .before .front .ensures) (fit (c .before .before .before .before .before .before .before .before .before .before .before .before .before) .size) (c .before .before .before .before .before .before .before .before .before .before .write-bits .ensures) (c .before .before .before .before .before .before .write-steps .ensures) in
-    let p = write-done (sheet (o .list .now) (o .cost) (o .real)) (length (o .bytes .now)) _ k w (omega arith) (c .before .before .clear-from .ensures ∙ rw (b, l) refl) in
+    let z : take k d ++ replicate (length d - k) 0 ≡ sheetBytes (sheet (o .list .now) (o .cost) (o .real)) ++ replicate (length (o .bytes .now) - k) 0 = rw (b, l) refl in
+    let p = write-done (sheet (o .list .now) (o .cost) (o .real)) (length (o .bytes .now)) _ k w (omega arith) (c .before .before .clear-from .ensures ∙ z) in
     (sym w, (p .0, λ n h. p .1 n (w ∙ h)))
 
 pub write-spec : {M : Type 1} → statement M

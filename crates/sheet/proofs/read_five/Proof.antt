@@ -1,16 +1,20 @@
--- Four fields cut out of eight bytes, and four stores.
+-- Five fields cut out of 50 bits, and five stores.
+use Prim.Native.Nat.{_+_, _*_}
 use native.Mathlib.Omega.{arith}
-use borrow.Author.Needs.{needs}
 use lib.ListN.{length-set}
-use Rattle.sheet.proofs.Copying.{four-stored}
-use Rattle.sheet.proofs.read_four.Statement.{statement}
-use Rattle.sheet.proofs.read_four.Tie as tie
+use Rattle.sheet.proofs.Copying.{five-stored}
+use borrow.Author.Needs.{needs}
+use Rattle.sheet.proofs.read_five.Statement.{statement}
+use Rattle.sheet.proofs.read_five.Tie as tie
 
-mul-window-at : tie.Need-mul-window-at
-mul-window-at c = search needs
+mul-five-steps : tie.Need-mul-five-steps
+mul-five-steps c = search needs
 
-window-at-requires : tie.Need-window-at-requires
-window-at-requires c κs = search needs
+add-five-steps : tie.Need-add-five-steps
+add-five-steps c = search needs
+
+five-steps-requires : tie.Need-five-steps-requires
+five-steps-requires c κs = search needs
 
 cast-list : tie.Need-cast-list
 cast-list c = search needs
@@ -57,18 +61,31 @@ mul-list-4 c = search needs
 slice-write-list-4 : tie.Need-slice-write-list-4
 slice-write-list-4 c = simp length-set (omega arith)
 
+cast-list-5 : tie.Need-cast-list-5
+cast-list-5 c = search needs
+
+add-list-4 : tie.Need-add-list-4
+add-list-4 c = search needs
+
+mul-list-5 : tie.Need-mul-list-5
+mul-list-5 c = search needs
+
+slice-write-list-5 : tie.Need-slice-write-list-5
+slice-write-list-5 c = simp length-set (omega arith)
+
 same-length : tie.Need-same-length
 same-length c = search needs
 
 returns : tie.Need-returns
-returns c = let a = c .before .before .before .args in four-stored (a .bytes .now) (a .list .now) (a .j) (a .i) _ (c .window-at .ensures 48 (omega arith) (omega arith)) (omega arith)
+returns c = let a = c .before .before .before .args in five-stored (a .bytes .now) (a .list .now) (53 + 10 * a .i) (a .i) _ (c .five-steps .ensures) (omega arith)
 
-pub read-four-spec : {M : Type 1} → statement M
-read-four-spec =
+pub read-five-spec : {M : Type 1} → statement M
+read-five-spec =
     tie.close
     (tie.spec
-    mul-window-at
-    window-at-requires
+    mul-five-steps
+    add-five-steps
+    five-steps-requires
     cast-list
     mul-list
     slice-write-list
@@ -84,5 +101,9 @@ read-four-spec =
     add-list-3
     mul-list-4
     slice-write-list-4
+    cast-list-5
+    add-list-4
+    mul-list-5
+    slice-write-list-5
     same-length
     returns)
