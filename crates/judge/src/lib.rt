@@ -30,7 +30,8 @@ pub struct Verdicts {
     pub real: Verdict,
 }
 
-// Variable v acts as black where bit v of `mode` is 1. The next state is a value of its own: the test looks at the one before it.
+// Variable v acts as black where bit v of `mode` is 1. Each step changes the one state: a state of its own for each would be
+// copied twice.
 pub fn judge_one(masks: &[u64; 64], bytes: &[u8], table: &[u16], list: &[u16], mode: u64) -> Verdict
     requires { ⌜ Ready (now bytes) (now table) (now list) × (now masks ≡ singles) ⌝ }
     ensures { λ r. ⌜ judgedOf r ≡ judged (taskOf (now (bytes .entry))) (modeOf mode) (now (list .entry)) ⌝ }
@@ -39,12 +40,11 @@ pub fn judge_one(masks: &[u64; 64], bytes: &[u8], table: &[u16], list: &[u16], m
     let mut k: usize = 0;
     while k < list.len() {
         let i = list[k] as usize;
-        let next = s.step(table, i, mode);
         if !state::applies(masks, &s.sets, table, i) {
             let steps = k as u32;
             return Verdict { steps, plan: false };
         }
-        s = next;
+        state::apply(&mut s.sets, table, i, mode);
         k += 1;
     }
     let g = Goals::load(bytes);

@@ -8,16 +8,16 @@ ghost use mathlib.Core.Path.{_≡_};
 ghost use mathlib.Core.Bool.{true, false, not, _&&_};
 ghost use mathlib.Core.List.{_++_, _∷_, []};
 ghost use mathlib.Core.Option.{none};
-ghost use Prim.Native.Nat.{ℕ, _+_, _-_, _*_, _/_, _%_, _^_, _<_, _≤_, min};
+ghost use Prim.Native.Nat.{ℕ, _+_, _-_, _*_, _/_, _%_, _<_, _≤_, min};
 ghost use lib.Dec.{T};
 ghost use lib.Count.{trailingZeros};
 ghost use lib.ListN.{length, getD, take, drop};
 ghost use lib.Seq.{slice, paste};
 ghost use Rattle.planning.specs.Record.{taskOf, recordCheck};
-ghost use Rattle.planning.specs.Runs.{step, run, actions, count, act, black, variables, initial, goals};
+ghost use Rattle.planning.specs.Runs.{run, actions, count, act, black, variables, initial, goals};
 ghost use Rattle.planning.specs.Repair.{pass, value, blackMet, repaired};
 ghost use Rattle.table.specs.Table.{factsIn, Tabled};
-ghost use Rattle.state.specs.Sets.{setsOf, modeOf, mixed, actionOf, Listed, singles};
+ghost use Rattle.state.specs.Sets.{setsOf, modeOf, singles};
 ghost use Rattle.paths.specs.Paths.{Put};
 ghost use Rattle.passes.specs.Passes.{pathsOf, Entries};
 ghost use Rattle.repair.specs.Repairs.{Setting, Wanted, filled, movesFor, stepsFor, Ran, Held};
@@ -90,30 +90,6 @@ fn black_met(masks: &[u64; 64], sets: &[u64; 64], facts: &[u16], paint: u64) -> 
     true
 }
 
-// The set after an effect: value x alone where the variable acts as black, else x and what was there.
-fn changed(old: u64, x: usize, black: bool) -> u64
-    requires { ⌜ x < 64 ⌝ }
-    ensures { λ r. ⌜ r ≡ mixed black old (2 ^ x) ⌝ }
-{
-    let new = 1 << x;
-    if black { new } else { old | new }
-}
-
-// Action i applied in place. Variable v acts as black where bit v of `mode` is 1.
-fn apply(sets: &mut [u64; 64], table: &[u16], i: usize, mode: u64)
-    requires { ⌜ Listed (now table) i × (length (now sets) ≡ 64) ⌝ }
-    ensures { λ _. ⌜ (setsOf (now (sets .exit)) ≡ step (modeOf mode) (actionOf (now (table .entry)) i) (setsOf (now (sets .entry)))) × (length (now (sets .exit)) ≡ 64) ⌝ }
-{
-    let end = wide(table[4 * i + 3]);
-    let mut k = wide(table[4 * i + 2]);
-    while k < end {
-        let f = wide(table[k]);
-        let v = f / 64;
-        sets[v] = changed(sets[v], f % 64, (mode >> v) % 2 == 1);
-        k += 1;
-    }
-}
-
 // The actions of the list applied in turn.
 fn run_list(bytes: &[u8], table: &[u16], sets: &mut [u64; 64], list: &[u16], mode: u64)
     requires { ⌜ (recordCheck (now bytes) ≡ none) × Tabled (taskOf (now bytes)) (now table) × Entries (taskOf (now bytes)) (now list) × (length (now sets) ≡ 64) ⌝ }
@@ -121,7 +97,7 @@ fn run_list(bytes: &[u8], table: &[u16], sets: &mut [u64; 64], list: &[u16], mod
 {
     let mut k: usize = 0;
     while k < list.len() {
-        apply(sets, table, wide(list[k]), mode);
+        state::apply(sets, table, wide(list[k]), mode);
         k += 1;
     }
 }

@@ -1,5 +1,6 @@
 // States: for each of 64 variables the set of its values, one bit a value. The step takes a state and hands the next one back
-// whole; which variables act as black is a set of variables, so that the three semantics are one step.
+// whole, or changes lent sets where a run is long; which variables act as black is a set of variables, so that the three
+// semantics are one step.
 use table::Goal;
 ghost use mathlib.Core.Path.{_≡_};
 ghost use mathlib.Core.Option.{none};
@@ -135,6 +136,21 @@ fn changed(old: u64, x: usize, black: bool) -> u64
     if black { new } else { old | new }
 }
 
+// Action i applied in place. Variable v acts as black where bit v of `mode` is 1.
+pub fn apply(sets: &mut [u64; 64], table: &[u16], i: usize, mode: u64)
+    requires { ⌜ Listed (now table) i × (length (now sets) ≡ 64) ⌝ }
+    ensures { λ _. ⌜ (setsOf (now (sets .exit)) ≡ step (modeOf mode) (actionOf (now (table .entry)) i) (setsOf (now (sets .entry)))) × (length (now (sets .exit)) ≡ 64) ⌝ }
+{
+    let end = wide(table[4 * i + 3]);
+    let mut k = wide(table[4 * i + 2]);
+    while k < end {
+        let f = wide(table[k]);
+        let v = f / 64;
+        sets[v] = changed(sets[v], f % 64, (mode >> v) % 2 == 1);
+        k += 1;
+    }
+}
+
 // The black variables, as a set of variables.
 pub fn painted(bytes: &[u8]) -> u64
     requires { ⌜ recordCheck (now bytes) ≡ none ⌝ }
@@ -202,14 +218,7 @@ impl State {
         requires { ⌜ Listed (now table) i ⌝ }
         ensures { λ r. ⌜ setsOf (r .sets) ≡ step (modeOf mode) (actionOf (now (table .entry)) i) (setsOf (self .sets)) ⌝ }
     {
-        let end = wide(table[4 * i + 3]);
-        let mut k = wide(table[4 * i + 2]);
-        while k < end {
-            let f = wide(table[k]);
-            let v = f / 64;
-            self.sets[v] = changed(self.sets[v], f % 64, (mode >> v) % 2 == 1);
-            k += 1;
-        }
+        apply(&mut self.sets, table, i, mode);
         self
     }
 

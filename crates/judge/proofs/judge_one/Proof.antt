@@ -19,12 +19,12 @@ use Rattle.judge.proofs.judge_one.Reads as reads
 use Rattle.judge.proofs.judge_one.Lts as lts
 use Rattle.state.proofs.Goals.load.Reads as load-reads
 use Rattle.state.proofs.State.initial.Reads as initial-reads
-use Rattle.state.proofs.State.step.Reads as step-reads
 use Rattle.state.proofs.all_hold.Reads as all-hold-reads
 use Rattle.state.proofs.applies.Reads as applies-reads
+use Rattle.state.proofs.apply.Reads as apply-reads
 
 abbrev Inv-loop : tie.InvT-loop
-Inv-loop masks bytes table list mode s₀ k₀ s k = Going (taskOf bytes) (modeOf mode) list (setsOf (s .sets)) k
+Inv-loop masks bytes table list mode s₀ k₀ s k = Going (taskOf bytes) (modeOf mode) list (setsOf (s .sets)) k × (length (s .sets) ≡ 64)
 
 abbrev μ-loop : tie.MeasureT-loop
 μ-loop masks bytes table list mode s₀ k₀ s k = length list - k
@@ -33,7 +33,7 @@ initial-requires : tie.Need-initial-requires Inv-loop μ-loop
 initial-requires c κs = search needs
 
 loop-holds : tie.Need-loop-holds Inv-loop μ-loop
-loop-holds c = going-start _ _ _ _ (c .initial .ensures)
+loop-holds c = (going-start _ _ _ _ (c .initial .ensures), search needs)
 
 module _ (c : tie.In-loop Inv-loop μ-loop) where
   abbrev entry : ℕ
@@ -60,17 +60,17 @@ shared-slice-read-i c = search needs
 cast-i : tie.Need-cast-i Inv-loop μ-loop
 cast-i c = omega (arith, c .shared-slice-known4 .given (c .before .before .loop .k))
 
-step-requires : tie.Need-step-requires Inv-loop μ-loop
-step-requires c κs = here (c .before)
-
 applies-requires : tie.Need-applies-requires Inv-loop μ-loop
-applies-requires c κs = (here (c .before .before .before .before), c .before .before .before .before .before .before .before .before .before .before .pre .1)
+applies-requires c κs = (here (c .before .before .before), c .before .before .before .before .before .before .before .before .before .pre .1)
 
 cast-steps : tie.Need-cast-steps Inv-loop μ-loop
 cast-steps c = search needs
 
 returns : tie.Need-returns Inv-loop μ-loop
-returns c = going-stop _ _ _ _ _ (c .before .before .before .before .before .before .before .loop .inv) _ _ (omega arith) refl (here-act (c .before .before .before .before .before .before)) (sym (c .before .applies .ensures) ∙ not-true _ (c .if1 .taken))
+returns c = going-stop _ _ _ _ _ (c .before .before .before .before .before .before .loop .inv .0) _ _ (omega arith) refl (here-act (c .before .before .before .before .before)) (sym (c .before .applies .ensures) ∙ not-true _ (c .if1 .taken))
+
+apply-requires : tie.Need-apply-requires Inv-loop μ-loop
+apply-requires c κs = (here (c .before .before .before .before .before .before), c .before .before .before .before .before .before .before .loop .inv .1)
 
 add-k : tie.Need-add-k Inv-loop μ-loop
 add-k c = search needs
@@ -79,7 +79,7 @@ loop-less : tie.Need-loop-less Inv-loop μ-loop
 loop-less c = search needs
 
 loop-again : tie.Need-loop-again Inv-loop μ-loop
-loop-again c = going-turn _ _ _ _ _ (c .before .before .before .before .before .before .before .loop .inv) _ _ _ (omega arith) refl (here-act (c .before .before .before .before .before .before)) (sym (c .before .applies .ensures) ∙ not-false _ (c .if1 .left)) (c .before .before .before .before .step .ensures)
+loop-again c = (going-turn _ _ _ _ _ (c .before .before .before .before .before .before .before .before .loop .inv .0) _ _ _ (omega arith) refl (here-act (c .before .before .before .before .before .before .before)) (sym (c .before .before .before .applies .ensures) ∙ not-false _ (c .before .before .if1 .left)) (c .apply .ensures .0), c .apply .ensures .1)
 
 load-requires : tie.Need-load-requires Inv-loop μ-loop
 load-requires c κs = search needs
@@ -93,7 +93,7 @@ all-hold-requires c κs =
     (omega arith, omega (arith, G .few), search needs, λ k a b. G .small k b)
 
 returns-2 : tie.Need-returns-2 Inv-loop μ-loop
-returns-2 c = let a = c .before .before .before .before .before .before .before .before .before .before .before .before .before .args in let R = c .before .before .before .before .before .before .before .before .before .before .before .before .before .pre .0 in going-end _ _ _ _ _ (c .before .before .before .before .before .before .before .before .loop .inv) (omega arith) (entries-below (taskOf (a .bytes .now)) (a .list .now) (R .entries)) _ (c .all-hold .ensures ∙ ap (holds _) (c .before .before .before .before .before .before .load .ensures .are))
+returns-2 c = let a = c .before .before .before .before .before .before .before .before .before .before .before .before .before .args in let R = c .before .before .before .before .before .before .before .before .before .before .before .before .before .pre .0 in going-end _ _ _ _ _ (c .before .before .before .before .before .before .before .before .loop .inv .0) (omega arith) (entries-below (taskOf (a .bytes .now)) (a .list .now) (R .entries)) _ (c .all-hold .ensures ∙ ap (holds _) (c .before .before .before .before .before .before .load .ensures .are))
 
 pub judge-one-spec : {M : Type 1} → statement M
 judge-one-spec =
@@ -106,10 +106,10 @@ judge-one-spec =
     mul-i
     shared-slice-read-i
     cast-i
-    step-requires
     applies-requires
     cast-steps
     returns
+    apply-requires
     add-k
     loop-less
     loop-again

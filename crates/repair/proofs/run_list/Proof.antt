@@ -10,8 +10,8 @@ use Rattle.repair.proofs.run_list.Statement.{statement}
 use Rattle.repair.proofs.run_list.Tie as tie
 use Rattle.repair.proofs.run_list.Reads as reads
 use Rattle.repair.proofs.run_list.Lts as lts
-use Rattle.repair.proofs.apply.Reads as apply-reads
 use Rattle.repair.proofs.wide.Reads as wide-reads
+use Rattle.state.proofs.apply.Reads as apply-reads
 
 abbrev Inv-loop : tie.InvT-loop
 Inv-loop bytes table sets₀ list mode k₀ sets k = Running (taskOf bytes) (modeOf mode) list sets₀ sets k

@@ -5,18 +5,18 @@ use native.Mathlib.Omega.{arith}
 use lib.ListN.{length, getD, take, drop, set, replicate}
 use Rattle.state.specs.Sets.{inSet}
 use Rattle.state.proofs.Effects.{Putting, putting-start, putting-small, putting-turn, putting-end}
-use Rattle.state.proofs.State.step.Statement.{statement}
-use Rattle.state.proofs.State.step.Tie as tie
-use Rattle.state.proofs.State.step.Reads as reads
-use Rattle.state.proofs.State.step.Lts as lts
+use Rattle.state.proofs.apply.Statement.{statement}
+use Rattle.state.proofs.apply.Tie as tie
+use Rattle.state.proofs.apply.Reads as reads
+use Rattle.state.proofs.apply.Lts as lts
 use Rattle.state.proofs.changed.Reads as changed-reads
 use Rattle.state.proofs.wide.Reads as wide-reads
 
 abbrev Inv-loop : tie.InvT-loop
-Inv-loop table i mode self₀ end k₀ self k = Putting table i mode (self₀ .sets) end (self .sets) k
+Inv-loop sets₀ table i mode end k₀ sets k = Putting table i mode sets₀ end sets k
 
 abbrev μ-loop : tie.MeasureT-loop
-μ-loop table i mode self₀ end k₀ self k = end - k
+μ-loop sets₀ table i mode end k₀ sets k = end - k
 
 mul-wide : tie.Need-mul-wide Inv-loop μ-loop
 mul-wide c = search needs
@@ -49,7 +49,7 @@ wide-requires-2 : tie.Need-wide-requires-2 Inv-loop μ-loop
 wide-requires-2 c κs = search needs
 
 loop-holds : tie.Need-loop-holds Inv-loop μ-loop
-loop-holds c = putting-start _ _ _ _ (c .before .before .before .before .before .pre) _ _ (c .before .before .wide .ensures) (c .wide2 .ensures) (search needs)
+loop-holds c = putting-start _ _ _ _ (c .before .before .before .before .before .pre .0) _ _ (c .before .before .wide .ensures) (c .wide2 .ensures) (c .before .before .before .before .before .pre .1)
 
 mul-wide-5 : tie.Need-mul-wide-5 Inv-loop μ-loop
 mul-wide-5 c = search needs
@@ -61,7 +61,7 @@ wide-requires-3 : tie.Need-wide-requires-3 Inv-loop μ-loop
 wide-requires-3 c κs = search needs
 
 small : (c : tie.After-wide3 Inv-loop μ-loop) → c .wide3 .result < 4096
-small c = omega (arith, c .wide3 .ensures, putting-small _ _ _ _ (c .before .before .before .before .before .before .before .before .before .pre) _ _ _ (c .before .before .before .loop .inv) (omega arith))
+small c = omega (arith, c .wide3 .ensures, putting-small _ _ _ _ (c .before .before .before .before .before .before .before .before .before .pre .0) _ _ _ (c .before .before .before .loop .inv) (omega arith))
 
 mul-changed : tie.Need-mul-changed Inv-loop μ-loop
 mul-changed c = search needs
@@ -75,11 +75,11 @@ shr-changed c = omega (arith, small (c .before))
 changed-requires : tie.Need-changed-requires Inv-loop μ-loop
 changed-requires c κs = search needs
 
-mul-self : tie.Need-mul-self Inv-loop μ-loop
-mul-self c = search needs
+mul-sets : tie.Need-mul-sets Inv-loop μ-loop
+mul-sets c = search needs
 
-element-write-self : tie.Need-element-write-self Inv-loop μ-loop
-element-write-self c = omega (arith, small (c .before .before))
+element-write-sets : tie.Need-element-write-sets Inv-loop μ-loop
+element-write-sets c = omega (arith, small (c .before .before))
 
 add-k : tie.Need-add-k Inv-loop μ-loop
 add-k c = search needs
@@ -89,13 +89,13 @@ loop-less c = search needs
 
 loop-again : tie.Need-loop-again Inv-loop μ-loop
 unfolding inSet
-loop-again c = putting-turn _ _ _ _ (c .before .before .before .before .before .before .before .before .before .before .before .pre) _ _ _ (c .before .before .before .before .before .loop .inv) (omega arith) _ _ _ _ (c .before .before .wide3 .ensures) refl refl (c .changed .ensures)
+loop-again c = putting-turn _ _ _ _ (c .before .before .before .before .before .before .before .before .before .before .before .pre .0) _ _ _ (c .before .before .before .before .before .loop .inv) (omega arith) _ _ _ _ (c .before .before .wide3 .ensures) refl refl (c .changed .ensures)
 
 returns : tie.Need-returns Inv-loop μ-loop
-returns c = putting-end _ _ _ _ (c .before .before .before .before .before .before .before .pre) _ _ _ (c .before .loop .inv) (omega arith)
+returns c = (putting-end _ _ _ _ (c .before .before .before .before .before .before .before .pre .0) _ _ _ (c .before .loop .inv) (omega arith), c .before .loop .inv .long)
 
-pub step-spec : {M : Type 1} → statement M
-step-spec =
+pub apply-spec : {M : Type 1} → statement M
+apply-spec =
     tie.close
     (tie.spec
     Inv-loop
@@ -118,8 +118,8 @@ step-spec =
     element-copy-out-changed
     shr-changed
     changed-requires
-    mul-self
-    element-write-self
+    mul-sets
+    element-write-sets
     add-k
     loop-less
     loop-again
