@@ -16,6 +16,7 @@ use Rattle.planning.specs.Record.{Task, taskOf, recordCheck}
 use Rattle.planning.specs.Runs.{State, Mode, act, relaxed, run, initial, step, factsIn, size}
 use Rattle.planning.specs.Relaxed.{forwardRun, forwardEnd, reachesGoals, factsReached}
 use Rattle.planning.specs.Calls.{lent, capacity, roomCheck, goalsCheck, Forward, forwardCall, forwardList}
+use Rattle.planning.proofs.Checks.{andThen-last}
 use Rattle.planning.proofs.Formed.{Formed}
 use Rattle.forward.specs.Answers.{laidList}
 use Rattle.table.specs.Size.{tableSize}
@@ -38,11 +39,7 @@ module _ {A : Type 0} (s : List ℕ) (n room : ℕ) (a : A) where
 
   pub called-room : recordCheck s ≡ none → reachesGoals (taskOf s) ≡ true → called ≡ answer (roomCheck n room) a
   unfolding inOrder andThen goalsCheck check
-  called-room e h = rw (e, h) (ap (λ c. answer c a) (last (roomCheck n room)))
-    where
-      last : (c : Check) → andThen c none ≡ c
-      last none = refl
-      last (some r) = refl
+  called-room e h = rw (e, h) (ap (λ c. answer c a) (andThen-last (roomCheck n room)))
 
   pub called-whole : recordCheck s ≡ none → reachesGoals (taskOf s) ≡ true → none ≡ roomCheck n room → done a ≡ called
   unfolding answer

@@ -14,7 +14,7 @@ use Rattle.planning.specs.Basics.{Check, done, refused, answer, inOrder, andThe
 use Rattle.planning.specs.Runs.{allBelow, actions}
 use Rattle.planning.specs.Record.{Task}
 use Rattle.planning.specs.Calls.{notBelow, lengthCheck, entriesCheck}
-use Rattle.planning.proofs.Checks.{refuseAt-none}
+use Rattle.planning.proofs.Checks.{refuseAt-none, andThen-last}
 use Rattle.judge.specs.Answers.{leading}
 
 notBelow-cons : (n k i : ℕ) (l : List ℕ) → i < n → notBelow n k (i ∷ l) ≡ notBelow n (suc k) l
@@ -93,11 +93,6 @@ leading-below n k (i ∷ l) = go (decLt i n) (leading-below n (suc k) l)
     go : Dec (i < n) → notBelow n (suc k) (take (leading n l) l) ≡ none → notBelow n k (take (leading n (i ∷ l)) (i ∷ l)) ≡ none
     go (yes c) more = rw (leading-cons n i l c) (notBelow-cons n k i (take (leading n l) l) c ∙ more)
     go (no c) more = rw (leading-none n i l (omega arith)) refl
-
-andThen-last : (c : Check) → andThen c none ≡ c
-unfolding andThen
-andThen-last none = refl
-andThen-last (some r) = refl
 
 -- the list on its own
 pub long-refused : (c : Check) (l : List ℕ) → 32768 < length l → refused 13 32768 ≡ answer (inOrder (lengthCheck l ∷ c ∷ [])) (length l)

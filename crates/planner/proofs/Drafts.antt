@@ -21,7 +21,7 @@ use Rattle.planning.proofs.Plans.{isPlan-elim}
 use Rattle.planning.proofs.Formed.{Formed, formed-of}
 use Rattle.planning.proofs.Painting.{repaired-is-plan}
 use Rattle.planning.proofs.Achievers.{relaxedPlan-is-plan}
-use Rattle.planning.proofs.Checks.{Passed, andThen-none, andThen-assoc, refuseAt-none, inOrder-passed, inOrder-++}
+use Rattle.planning.proofs.Checks.{Passed, andThen-none, andThen-assoc, refuseAt-none, inOrder-passed, inOrder-last, inOrder-++}
 use Rattle.planning.proofs.Calls.{planCall-none}
 use Rattle.painting.specs.declared.Painted.{Painted}
 use Rattle.painting.specs.declared.Painted.the-variants.{Accepted}
@@ -128,13 +128,6 @@ painting-passes t r e a =
     let h = andThen-none (acyclicCheck t) (returnCheck t) (sym e ∙ ap paintedOf a) in
     (refuseAt-none 7 (cyclic t) (h .0), refuseAt-none 8 (unreturned t) (h .1))
 
--- checks of which all but the last pass
-last-check : (cs : List Check) (c : Check) → Passed cs → inOrder (cs ++ (c ∷ [])) ≡ c
-unfolding inOrder andThen
-last-check [] none h = refl
-last-check [] (some r) h = refl
-last-check (d ∷ cs) c h = rw (h .0) (last-check cs c (h .1))
-
 -- a call that asks for the record's checks, for those of the painting, then for the rest
 module _ (s : List ℕ) (rest : List Check) (l : List ℕ) where
   abbrev pub called : Answer Result
@@ -194,7 +187,7 @@ module _ (s : List ℕ) (rec : recordCheck s ≡ none) (acy : cyclic (taskOf s) 
   unfolding planCall goalsCheck check
   plan-roomed n w g =
       ap (λ (c : Check). answer c (planned (taskOf s) (planOf (taskOf s))))
-      (sym (last-check (recordCheck s ∷ acyclicCheck (taskOf s) ∷ returnCheck (taskOf s) ∷ goalsCheck (taskOf s) ∷ []) (roomCheck (length (planOf (taskOf s))) (capacityOf n w)) (rec, (passes-painting .0, (passes-painting .1, (rw g refl, tt))))))
+      (sym (inOrder-last (recordCheck s ∷ acyclicCheck (taskOf s) ∷ returnCheck (taskOf s) ∷ goalsCheck (taskOf s) ∷ []) (roomCheck (length (planOf (taskOf s))) (capacityOf n w)) (rec, (passes-painting .0, (passes-painting .1, (rw g refl, tt))))))
 
   pub plan-drafted : (n w : ℕ) (l plan : List ℕ) (r : Planned) → l ≡ relaxedPlan (taskOf s) → reachesGoals (taskOf s) ≡ true → Drafted (roomed (taskOf s) (repaired (taskOf s) l) n w) (repaired (taskOf s) l) plan r
       → Drafted (planCall s n w) (planOf (taskOf s)) plan r
@@ -222,6 +215,6 @@ module _ (s : List ℕ) (rec : recordCheck s ≡ none) (acy : cyclic (taskOf s) 
         answer =
             D .answer
             ∙ ap (λ (c : Check). answer c (planned (taskOf s) (repaired (taskOf s) l)))
-            (sym (last-check (recordCheck s ∷ acyclicCheck (taskOf s) ∷ returnCheck (taskOf s) ∷ lengthCheck l ∷ relaxedCheck (taskOf s) l ∷ []) (roomCheck (length (repaired (taskOf s) l)) (capacityOf n w)) (rec, (passes-painting .0, (passes-painting .1, (h .0, (h .1, tt)))))));
+            (sym (inOrder-last (recordCheck s ∷ acyclicCheck (taskOf s) ∷ returnCheck (taskOf s) ∷ lengthCheck l ∷ relaxedCheck (taskOf s) l ∷ []) (roomCheck (length (repaired (taskOf s) l)) (capacityOf n w)) (rec, (passes-painting .0, (passes-painting .1, (h .0, (h .1, tt)))))));
         front = D .front;
       }

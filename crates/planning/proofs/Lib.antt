@@ -25,3 +25,4 @@ pub mod Sizes
 pub mod Calls
 pub mod Demand3
 pub mod Examples
+pub mod Longest

@@ -2,6 +2,7 @@
 
 pub mod damage;
 pub mod extremes;
+pub mod listings;
 pub mod mixture;
 pub mod random;
 pub mod records;
