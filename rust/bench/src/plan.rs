@@ -57,29 +57,23 @@ fn repairs(task: &Task) -> Case<Repaired> {
 
 pub fn run() {
     let random = &mut Random::new(4);
-    let sizes = [("full", 4), ("half", 2), ("quarter", 1)];
-    class(
-        "painting check",
-        sizes.map(|(size, n)| (size, plans(&[extremes::returns(random, 256 * n)], 16))),
-    );
+    let sizes = [4, 2, 1];
+    class("painting check", sizes.map(|n| plans(&[extremes::returns(random, 256 * n)], 16)));
     class(
         "repair, 16,000 steps",
-        sizes.map(|(size, n)| (size, plans(&[stores::tower(random, 5, 5, 8 * n + 1)], MAX_STEPS))),
+        sizes.map(|n| plans(&[stores::tower(random, 5, 5, 8 * n + 1)], MAX_STEPS)),
     );
-    class(
-        "caller's 16,000 steps",
-        sizes.map(|(size, n)| (size, repairs(&stores::tower(random, 5, 5, 8 * n + 1)))),
-    );
+    class("caller's 16,000 steps", sizes.map(|n| repairs(&stores::tower(random, 5, 5, 8 * n + 1))));
     class(
         "1,000 small stores",
-        sizes.map(|(size, n)| {
+        sizes.map(|n| {
             let tasks: Vec<Task> =
                 (0..250 * n).map(|_| stores::store(random, stores::SMALL)).collect();
-            (size, plans(&tasks, 64))
+            plans(&tasks, 64)
         }),
     );
     class(
         "plan far beyond the room",
-        sizes.map(|(size, n)| (size, plans(&[stores::tower(random, 16, 16, 4)], 8_192 * n))),
+        sizes.map(|n| plans(&[stores::tower(random, 16, 16, 4)], 8_192 * n)),
     );
 }
