@@ -1,11 +1,9 @@
-/* Hands records to the proved check and prints number and place of each.
- * With a file as argument it checks that file's bytes instead, and ends with status 0 for accepted,
- * 1 for refused, 2 where the file cannot be read. */
+/* Calls every function of the header on two shelves and on records and lists with faults, and prints what
+ * comes back, the lists lent with all their entries. */
 #include "mardiskos.h"
 
 #include <inttypes.h>
 #include <stdio.h>
-#include <stdlib.h>
 #include <string.h>
 
 /* Two shelves: a carriage with 2 values and a box with 3, four actions, 278 bits. */
@@ -15,19 +13,31 @@ static const uint8_t two_shelves[35] = {
     0x41, 0x04, 0x10, 0x80, 0x00, 0x48, 0x40, 0x00, 0x10, 0x81, 0x00,
 };
 
-static int print_code(uint64_t code)
+enum { ENTRIES = 6 };
+static const uint16_t relaxed[] = {0, 2, 3};
+static const uint16_t repaired[] = {0, 2, 1, 3};
+static const uint16_t no_such_action[] = {0, 2, 4};
+static const uint16_t does_not_apply[] = {2, 0, 3};
+
+static void print_code(uint64_t code)
 {
-    if (code == 0) {
+    if (code == 0)
         puts("accepted");
-        return EXIT_SUCCESS;
-    }
-    printf("refused %u %" PRIu64 "\n", MARDISKOS_NUMBER(code), MARDISKOS_PLACE(code));
-    return EXIT_FAILURE;
+    else
+        printf("refused %u %" PRIu64 "\n", MARDISKOS_NUMBER(code), MARDISKOS_PLACE(code));
+}
+
+static void print_list(const char *what, const uint16_t *list, size_t len)
+{
+    printf("  %s:", what);
+    for (size_t i = 0; i < len; i++)
+        printf(" %u", (unsigned)list[i]);
+    puts("");
 }
 
 static void check(const char *what, const uint8_t *record, size_t len)
 {
-    printf("%s: ", what);
+    printf("check, %s: ", what);
     print_code(mardiskos_check(record, len));
 }
 
@@ -40,15 +50,10 @@ static void check_changed(const char *what, size_t at, uint8_t byte)
     check(what, record, sizeof record);
 }
 
-static void check_with_zero_byte(void)
+static void check_records(void)
 {
-    uint8_t record[sizeof two_shelves + 1] = {0};
-    memcpy(record, two_shelves, sizeof two_shelves);
-    check("a byte left over", record, sizeof record);
-}
-
-static void check_built_in(void)
-{
+    uint8_t longer[sizeof two_shelves + 1] = {0};
+    memcpy(longer, two_shelves, sizeof two_shelves);
     check("two shelves", two_shelves, sizeof two_shelves);
     check("no bytes", two_shelves, 0);
     check("one byte", two_shelves, 1);
@@ -61,57 +66,119 @@ static void check_built_in(void)
     check_changed("variable 2 of 2 variables", 12, 0x02);
     check_changed("variables not rising", 24, 0x40);
     check_changed("padding not 0", sizeof two_shelves - 1, two_shelves[34] | 1);
-    check_with_zero_byte();
+    check("a byte left over", longer, sizeof longer);
 }
 
-/* The bytes of a file, to be freed by the caller; null if it cannot be read. */
-static uint8_t *read_file(const char *name, size_t *len)
+static void judge(const char *what, const uint16_t *list, size_t len)
 {
-    size_t room = 1 << 16;
-    uint8_t *bytes = malloc(room);
-    FILE *file = fopen(name, "rb");
-    *len = 0;
-    while (bytes != NULL && file != NULL) {
-        *len += fread(bytes + *len, 1, room - *len, file);
-        if (*len < room)
-            break;
-        room *= 2;
-        uint8_t *more = realloc(bytes, room);
-        if (more == NULL)
-            free(bytes);
-        bytes = more;
-    }
-    int failed = file == NULL || ferror(file);
-    if (file != NULL)
-        fclose(file);
-    if (failed) {
-        free(bytes);
-        return NULL;
-    }
-    return bytes;
+    mardiskos_judgement j = mardiskos_judge(two_shelves, sizeof two_shelves, list, len);
+    printf("judge, %s: ", what);
+    print_code(j.code);
+    printf("  relaxed %" PRIu32 " %s, red-black %" PRIu32 " %s, real %" PRIu32 " %s\n", j.relaxed_steps,
+           j.relaxed_plan ? "plan" : "no plan", j.red_black_steps, j.red_black_plan ? "plan" : "no plan",
+           j.real_steps, j.real_plan ? "plan" : "no plan");
 }
 
-static int check_file(const char *name)
+static void forward(size_t len)
 {
-    size_t len;
-    uint8_t *bytes = read_file(name, &len);
-    if (bytes == NULL) {
-        fprintf(stderr, "cannot read %s\n", name);
-        return 2;
-    }
-    int status = print_code(mardiskos_check(bytes, len));
-    free(bytes);
-    return status;
+    uint16_t list[ENTRIES] = {0};
+    mardiskos_forward_run run = mardiskos_forward(two_shelves, sizeof two_shelves, list, len);
+    printf("forward run, %zu entries lent: ", len);
+    print_code(run.code);
+    printf("  %" PRIu32 " steps, %" PRIu32 " facts reached\n", run.steps, run.reached);
+    print_list("plan list", list, len);
 }
 
-int main(int argc, char **argv)
+static void relax(size_t len)
 {
-    if (argc > 2) {
-        fprintf(stderr, "usage: check [FILE]\n");
-        return 2;
-    }
-    if (argc == 2)
-        return check_file(argv[1]);
-    check_built_in();
-    return EXIT_SUCCESS;
+    uint16_t list[ENTRIES] = {0};
+    mardiskos_relaxed_plan found = mardiskos_relax(two_shelves, sizeof two_shelves, list, len);
+    printf("relaxed plan, %zu entries lent: ", len);
+    print_code(found.code);
+    printf("  %" PRIu32 " steps\n", found.steps);
+    print_list("plan list", list, len);
+}
+
+static void print_plan(mardiskos_plan_result p, const uint16_t *list, size_t len, const uint16_t *work,
+                       size_t work_len)
+{
+    print_code(p.code);
+    printf("  %" PRIu32 " steps, cost %" PRIu32 ", %s, %" PRIu32 " run\n", p.steps, p.cost,
+           p.real ? "real" : "not real", p.runs);
+    print_list("plan list", list, len);
+    print_list("work list", work, work_len);
+}
+
+static void plan(size_t record_len, size_t len, size_t work_len)
+{
+    uint16_t list[ENTRIES] = {0}, work[ENTRIES] = {0};
+    printf("plan, %zu bytes, %zu and %zu entries lent: ", record_len, len, work_len);
+    mardiskos_plan_result p = mardiskos_plan(two_shelves, record_len, list, len, work, work_len);
+    print_plan(p, list, len, work, work_len);
+}
+
+static void repair(const char *what, const uint16_t *actions, size_t count, size_t len)
+{
+    uint16_t list[ENTRIES] = {0}, work[ENTRIES] = {0};
+    printf("repair, %s, %zu entries lent: ", what, len);
+    mardiskos_plan_result p =
+        mardiskos_repair(two_shelves, sizeof two_shelves, actions, count, list, len, work, len);
+    print_plan(p, list, len, work, len);
+}
+
+static size_t write_sheet(uint8_t *bytes, size_t len)
+{
+    mardiskos_sheet_size size = mardiskos_write_sheet(repaired, 4, 10, true, bytes, len);
+    printf("sheet written, %zu bytes lent: ", len);
+    print_code(size.code);
+    printf("  %" PRIu32 " bytes:", size.bytes);
+    for (size_t i = 0; i < len; i++)
+        printf(" %02x", (unsigned)bytes[i]);
+    puts("");
+    return size.bytes;
+}
+
+static void read_sheet(const uint8_t *bytes, size_t bytes_len, size_t len)
+{
+    uint16_t list[ENTRIES] = {0};
+    mardiskos_sheet sheet = mardiskos_read_sheet(bytes, bytes_len, list, len);
+    printf("sheet read, %zu bytes, %zu entries lent: ", bytes_len, len);
+    print_code(sheet.code);
+    printf("  %" PRIu32 " steps, cost %" PRIu32 ", %s\n", sheet.steps, sheet.cost,
+           sheet.real ? "real" : "not real");
+    print_list("list", list, len);
+}
+
+static void check_sheets(void)
+{
+    uint8_t bytes[16];
+    size_t len = write_sheet(bytes, sizeof bytes);
+    read_sheet(bytes, len, ENTRIES);
+    read_sheet(bytes, len, 3);
+    read_sheet(bytes, len - 1, ENTRIES);
+    read_sheet(bytes, sizeof bytes, ENTRIES);
+    write_sheet(bytes, len - 1);
+}
+
+int main(void)
+{
+    check_records();
+    judge("repaired plan", repaired, 4);
+    judge("relaxed plan", relaxed, 3);
+    judge("empty list", relaxed, 0);
+    judge("no such action", no_such_action, 3);
+    forward(4);
+    forward(2);
+    relax(4);
+    relax(2);
+    plan(sizeof two_shelves, ENTRIES, 4);
+    plan(sizeof two_shelves, 4, 3);
+    plan(0, 0, 2);
+    repair("relaxed plan", relaxed, 3, ENTRIES);
+    repair("relaxed plan", relaxed, 3, 3);
+    repair("no such action", no_such_action, 3, 4);
+    repair("does not apply", does_not_apply, 3, 4);
+    repair("empty list", relaxed, 0, 4);
+    check_sheets();
+    return 0;
 }

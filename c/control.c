@@ -1,9 +1,15 @@
-/* A small control program over two shelves: the forward run, the relaxed plan, a list judged, its sheet written and read back,
- * and what is refused. */
+/* A control program: hands over a record, gets a plan, writes its sheet, reads the sheet back, judges what
+ * it read and prints the steps that run for real. Arguments are record files; without any it takes the
+ * two-shelves record that is built in. A refused record prints its number and place.
+ * Ends with status 0, with 1 if a record was refused, with 2 if a file could not be read. */
 #include "mardiskos.h"
 
 #include <inttypes.h>
 #include <stdio.h>
+#include <string.h>
+
+enum { MOST_STEPS = 32768, LONGEST_RECORD = 49315, LONGEST_SHEET = 40967 };
+enum { PLANNED = 0, REFUSED = 1, UNREAD = 2 };
 
 static const uint8_t two_shelves[35] = {
     0x10, 0x40, 0x10, 0x18, 0x10, 0x02, 0x03, 0x00, 0x00, 0x10, 0x44, 0x00,
@@ -11,80 +17,97 @@ static const uint8_t two_shelves[35] = {
     0x41, 0x04, 0x10, 0x80, 0x00, 0x48, 0x40, 0x00, 0x10, 0x81, 0x00,
 };
 
-static void print_refusal(uint64_t code)
+/* One byte more than a record can have: a longer file is refused at the same place as its front. */
+static uint8_t record[LONGEST_RECORD + 1];
+static uint8_t sheet[LONGEST_SHEET];
+static uint16_t plan[MOST_STEPS], work[MOST_STEPS], steps_read[MOST_STEPS];
+
+static int refuse(uint64_t code)
 {
     printf("refused %u %" PRIu64 "\n", MARDISKOS_NUMBER(code), MARDISKOS_PLACE(code));
+    return REFUSED;
 }
 
-static void judge(const char *what, const uint16_t *list, size_t len)
+static const char *verdict(bool real)
 {
-    mardiskos_judgement j = mardiskos_judge(two_shelves, sizeof two_shelves, list, len);
-    printf("%s: ", what);
-    if (j.code != 0) {
-        print_refusal(j.code);
-        return;
-    }
-    printf("relaxed %" PRIu32 " %s, red-black %" PRIu32 " %s, real %" PRIu32 " %s\n", j.relaxed_steps,
-           j.relaxed_plan ? "plan" : "no plan", j.red_black_steps, j.red_black_plan ? "plan" : "no plan",
-           j.real_steps, j.real_plan ? "plan" : "no plan");
+    return real ? "real" : "unreal";
 }
 
-static void print_list(const uint16_t *list, size_t len)
+static void print_judgement(mardiskos_judgement judged)
 {
-    for (size_t i = 0; i < len; i++)
+    printf("judged: %s, %s, %s\n", judged.relaxed_plan ? "relaxed plan" : "no relaxed plan",
+           judged.red_black_plan ? "red-black plan" : "no red-black plan",
+           judged.real_plan ? "real plan" : "no real plan");
+}
+
+static void print_runs(const uint16_t *list, uint32_t runs)
+{
+    printf("runs %" PRIu32 ":", runs);
+    for (uint32_t i = 0; i < runs; i++)
         printf(" %u", (unsigned)list[i]);
     puts("");
 }
 
-static void relax(size_t len)
+/* The sheet as whoever opens it later reads it, with the record beside it. */
+static int open_sheet(size_t len, size_t sheet_len)
 {
-    uint16_t list[4];
-    mardiskos_forward_run f = mardiskos_forward(two_shelves, sizeof two_shelves, list, len);
-    if (f.code != 0) {
-        print_refusal(f.code);
-        return;
-    }
-    printf("reached %" PRIu32 "\nforward %" PRIu32 ":", f.reached, f.steps);
-    print_list(list, len);
-    mardiskos_relaxed_plan r = mardiskos_relax(two_shelves, sizeof two_shelves, list, len);
-    printf("relaxed %" PRIu32 ":", r.steps);
-    print_list(list, len);
+    mardiskos_sheet read = mardiskos_read_sheet(sheet, sheet_len, steps_read, MOST_STEPS);
+    if (read.code != 0)
+        return refuse(read.code);
+    printf("read back: %" PRIu32 " steps, cost %" PRIu32 ", %s\n", read.steps, read.cost,
+           verdict(read.real));
+    mardiskos_judgement judged = mardiskos_judge(record, len, steps_read, read.steps);
+    if (judged.code != 0)
+        return refuse(judged.code);
+    print_judgement(judged);
+    print_runs(steps_read, judged.real_steps);
+    return PLANNED;
 }
 
-static void read_back(const uint8_t *bytes, size_t len)
+static int control(const char *name, size_t len)
 {
-    uint16_t list[6];
-    mardiskos_sheet s = mardiskos_read_sheet(bytes, len, list, 6);
-    if (s.code != 0) {
-        print_refusal(s.code);
-        return;
-    }
-    printf("read: %" PRIu32 " steps, cost %" PRIu32 ", %s:", s.steps, s.cost, s.real ? "real" : "unreal");
-    print_list(list, 6);
+    printf("%s\n", name);
+    uint64_t code = mardiskos_check(record, len);
+    if (code != 0)
+        return refuse(code);
+    mardiskos_plan_result planned = mardiskos_plan(record, len, plan, MOST_STEPS, work, MOST_STEPS);
+    if (planned.code != 0)
+        return refuse(planned.code);
+    printf("plan: %" PRIu32 " steps, cost %" PRIu32 ", %s, %" PRIu32 " run\n", planned.steps, planned.cost,
+           verdict(planned.real), planned.runs);
+    mardiskos_sheet_size written =
+        mardiskos_write_sheet(plan, planned.steps, planned.cost, planned.real, sheet, LONGEST_SHEET);
+    if (written.code != 0)
+        return refuse(written.code);
+    printf("sheet: %" PRIu32 " bytes\n", written.bytes);
+    return open_sheet(len, written.bytes);
 }
 
-int main(void)
+static int control_file(const char *name)
 {
-    const uint16_t plan[] = {0, 2, 1, 3};
-    const uint16_t relaxed[] = {0, 2, 3};
-    const uint16_t wrong[] = {0, 2, 4};
-    relax(4);
-    relax(2);
-    judge("plan", plan, 4);
-    judge("relaxed plan", relaxed, 3);
-    judge("empty list", plan, 0);
-    judge("no such action", wrong, 3);
+    FILE *file = fopen(name, "rb");
+    size_t len = file != NULL ? fread(record, 1, sizeof record, file) : 0;
+    bool failed = file == NULL || ferror(file);
+    if (file != NULL)
+        fclose(file);
+    if (failed) {
+        fprintf(stderr, "cannot read %s\n", name);
+        return UNREAD;
+    }
+    return control(name, len);
+}
 
-    uint8_t bytes[16];
-    mardiskos_sheet_size size = mardiskos_write_sheet(plan, 4, 10, true, bytes, sizeof bytes);
-    printf("written: %" PRIu32 " bytes:", size.bytes);
-    for (size_t i = 0; i < sizeof bytes; i++)
-        printf(" %02x", (unsigned)bytes[i]);
-    puts("");
-    read_back(bytes, size.bytes);
-    read_back(bytes, size.bytes - 1);
-    read_back(bytes, sizeof bytes);
-    size = mardiskos_write_sheet(plan, 4, 10, true, bytes, 11);
-    print_refusal(size.code);
-    return 0;
+int main(int argc, char **argv)
+{
+    int status = PLANNED;
+    if (argc < 2) {
+        memcpy(record, two_shelves, sizeof two_shelves);
+        return control("two shelves", sizeof two_shelves);
+    }
+    for (int i = 1; i < argc; i++) {
+        int next = control_file(argv[i]);
+        if (status < next)
+            status = next;
+    }
+    return status;
 }

@@ -11,17 +11,22 @@
  *   5       first bit of the field             a fact's variable not below the count of variables, or
  *                                              not rising within its list
  *   6       first bit behind the last field    padding not 0, or bytes left over
- *   9       position of the entry              a list entry that is no action of the record
+ *   7       lowest black variable on a cycle   the black causal graph has a cycle
+ *   8       lowest action with such an arc     an arc of a black variable lacks its return
+ *   9       position of the entry; the list's  a list entry that is no action of the record; of a caller's
+ *           length for a goal missed           relaxed plan also one that does not apply, or a goal missed
  *   10      facts reached                      no plan
- *   11      the room lent, 32,768 at most for  the result is longer than that
- *           a list; the bytes lent
+ *   11      the capacity; the bytes lent       the result is longer than that
  *   12      first bit of the field, or behind  sheet cut short, wrong edition, too many steps; or padding
  *           the last step                      not 0, bytes left over
  *   13      32,768, or position of the entry   list over 32,768 entries; in writing, an entry over 1,023
  *
- * Bits, entries and actions count from 0, the most significant bit of the first byte being bit 0.
- * Fields are looked at in bit order, and the first fault is told.
+ * Bits, entries, variables and actions count from 0, the most significant bit of the first byte being
+ * bit 0. Fields are looked at in bit order, and the first fault is told. The capacity is the length of
+ * the list lent, of the shorter one where two are lent, and 32,768 at most.
  *
+ * Anything may be handed over: any bytes as a record or a sheet, any numbers as a list, and all of it
+ * may be empty, the lists lent for writing too. What stands in these before a call makes no difference.
  * No pointer may be null, also where its length is 0; with length 0 nothing is read or written there.
  * What is lent stays the caller's: it is used only during the call, and no pointer to it is kept.
  * Areas lent for writing must not overlap with anything else lent to the same call. Nothing is
@@ -61,7 +66,8 @@ typedef struct {
     bool real_plan;
 } mardiskos_judgement;
 
-/* Judges the list_len actions at list in the record. Refuses with 1 to 6, 13, 9, in this order. */
+/* Judges the list_len actions at list in the record. Refuses with 1 to 6, 13, 9, in this order, as every
+ * function does in the order named with it. The painting may be any. */
 mardiskos_judgement mardiskos_judge(const uint8_t *record, size_t len, const uint16_t *list,
                                     size_t list_len);
 
@@ -86,6 +92,36 @@ typedef struct {
  * same way. Refuses with 1 to 6, 10, 11. */
 mardiskos_relaxed_plan mardiskos_relax(const uint8_t *record, size_t len, uint16_t *plan,
                                        size_t plan_len);
+
+/* A plan: its steps, the sum of their costs, the steps that run for real before the first that does not
+ * apply, and whether it is a plan in a real run. The steps that run are the first `runs` entries of the
+ * plan list; where all run and only a goal is missed, they are the whole plan. */
+typedef struct {
+    uint64_t code;
+    uint32_t steps;
+    uint32_t cost;
+    uint32_t runs;
+    bool real;
+} mardiskos_plan_result;
+
+/* The planner: the repair of the record's relaxed plan. The plan fills the front of the plan list and
+ * 65,535 the rest. The work list is room that the repair needs, as much as for the plan itself; it holds
+ * 65,535 throughout afterwards, always. Refuses with 1 to 8, 10, 11.
+ *
+ * With F the sum over all variables of the count of values less one, and P the product of the black
+ * variables' counts of values (1 if none is black), for every record that passes 1 to 8:
+ * - it answers 10 exactly if no list of actions, however long, is a red-black plan;
+ * - every plan it returns is a red-black plan of at most F * P steps;
+ * - if some list is a red-black plan and the capacity is F * P or more, it returns a plan.
+ * It answers 11 only where the plan is longer than the capacity, whatever F * P is. */
+mardiskos_plan_result mardiskos_plan(const uint8_t *record, size_t len, uint16_t *plan, size_t plan_len,
+                                     uint16_t *work, size_t work_len);
+
+/* The same for the caller's own relaxed plan, the list_len actions at list, which is only read. Of n
+ * actions it makes a red-black plan of at most n * P steps. Refuses with 1 to 8, 13, 9, 11. */
+mardiskos_plan_result mardiskos_repair(const uint8_t *record, size_t len, const uint16_t *list,
+                                       size_t list_len, uint16_t *plan, size_t plan_len, uint16_t *work,
+                                       size_t work_len);
 
 typedef struct {
     uint64_t code;

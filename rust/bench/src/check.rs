@@ -16,19 +16,19 @@ fn checks(records: Vec<Vec<u8>>) -> Case<[Vec<u8>]> {
 
 pub fn run() {
     let random = &mut Random::new(1);
-    let sizes = [("full", 1024), ("half", 512), ("quarter", 256)];
+    let sizes = [1024, 512, 256];
     class(
         "record check, longest",
-        sizes.map(|(size, actions)| {
+        sizes.map(|actions| {
             let task = records::dense_task(random, 64, actions, 15);
-            (size, checks(vec![record::write(&task)]))
+            checks(vec![record::write(&task)])
         }),
     );
     class(
         "record check, 1,024 tiny",
-        sizes.map(|(size, count)| {
+        sizes.map(|count| {
             let records = (0..count).map(|_| record::write(&stores::store(random, stores::TINY)));
-            (size, checks(records.collect()))
+            checks(records.collect())
         }),
     );
 }

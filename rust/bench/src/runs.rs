@@ -39,31 +39,35 @@ fn judge_reference((bytes, list): &Judged, _: &mut Lent) -> Answer {
 
 pub fn run() {
     let random = &mut Random::new(2);
-    let sizes = [("full", 1024), ("half", 512), ("quarter", 256)];
-    let chains = sizes.map(|(size, n)| (size, record::write(&extremes::chain(random, n))));
+    let sizes = [1024, 512, 256];
+    let chains = sizes.map(|n| record::write(&extremes::chain(random, n)));
     let lent = || Lent::new(1024, 0, 0);
     class(
         "forward run",
-        chains.clone().map(|(size, input)| {
-            let (library, reference) = (forward_library, forward_reference);
-            (size, Case { input: input.into(), lent: lent(), library, reference })
+        chains.clone().map(|input| Case {
+            input: input.into(),
+            lent: lent(),
+            library: forward_library,
+            reference: forward_reference,
         }),
     );
     class(
         "relaxed plan",
-        chains.map(|(size, input)| {
-            let (library, reference) = (relax_library, relax_reference);
-            (size, Case { input: input.into(), lent: lent(), library, reference })
+        chains.map(|input| Case {
+            input: input.into(),
+            lent: lent(),
+            library: relax_library,
+            reference: relax_reference,
         }),
     );
     let wheel = record::write(&extremes::wheel(random));
     class(
         "judging 32,768 steps",
-        sizes.map(|(size, n)| {
-            let list = (0..1024).cycle().take(32 * n).collect();
-            let input = Box::new((wheel.clone(), list));
-            let lent = Lent::new(0, 0, 0);
-            (size, Case { input, lent, library: judge_library, reference: judge_reference })
+        sizes.map(|n| Case {
+            input: Box::new((wheel.clone(), (0..1024).cycle().take(32 * n).collect())),
+            lent: Lent::new(0, 0, 0),
+            library: judge_library,
+            reference: judge_reference,
         }),
     );
 }

@@ -23,41 +23,25 @@ fn read_reference(bytes: &[u8], lent: &mut Lent) -> Answer {
 
 pub fn run() {
     let random = &mut Random::new(3);
-    let sizes = [("full", 32_768), ("half", 16_384), ("quarter", 8_192)];
-    let lists = sizes.map(|(size, steps)| {
-        let list: Vec<u16> = (0..steps).map(|_| random.below(1024) as u16).collect();
-        (size, list)
-    });
+    let sizes = [32_768, 16_384, 8_192];
+    let lists =
+        sizes.map(|steps| -> Vec<u16> { (0..steps).map(|_| random.below(1024) as u16).collect() });
     class(
         "sheet written, 32,768 steps",
-        lists.clone().map(|(size, list)| {
-            let lent = Lent::new(0, 0, sheet::size(list.len()));
-            (
-                size,
-                Case {
-                    input: list.into(),
-                    lent,
-                    library: write_library,
-                    reference: write_reference,
-                },
-            )
+        lists.clone().map(|list| Case {
+            lent: Lent::new(0, 0, sheet::size(list.len())),
+            input: list.into(),
+            library: write_library,
+            reference: write_reference,
         }),
     );
     class(
         "sheet read, 32,768 steps",
-        lists.map(|(size, list)| {
+        lists.map(|list| {
             let mut bytes = vec![0; sheet::size(list.len())];
             sheet::write(&list, 12_345, true, &mut bytes).unwrap();
             let lent = Lent::new(list.len(), 0, 0);
-            (
-                size,
-                Case {
-                    input: bytes.into(),
-                    lent,
-                    library: read_library,
-                    reference: read_reference,
-                },
-            )
+            Case { input: bytes.into(), lent, library: read_library, reference: read_reference }
         }),
     );
 }

@@ -1,4 +1,4 @@
-//! One line a case: both sides timed in turn, best of the rounds.
+//! One line a class: both sides timed in turn, best of the rounds.
 
 use std::time::{Duration, Instant};
 
@@ -46,23 +46,23 @@ pub fn header() {
     let build = if cfg!(debug_assertions) { "Debug build, times mean little" } else { "Release" };
     println!("{build}. Same inputs, best of up to {ROUNDS} rounds, both sides in turn.");
     println!("All that is lent is cleared before each call, outside the time taken.");
-    println!("growth: time of the library against the next smaller size.\n");
-    println!(
-        "{:<28} {:<8} {:>11} {:>11} {:>6} {:>6}",
-        "class", "size", "library us", "Rust us", "ratio", "growth"
-    );
+    println!("ratio: time of the library to that of the Rust planner.");
+    println!("growth: time of the library to that at the next smaller size.\n");
+    println!("{:<28}{:>26}{:>22}{:>14}", "", "library, microseconds", "ratio", "growth");
+    print!("{:<28}", "class");
+    print!("{:>9}{:>8}{:>9}", "full", "half", "quarter");
+    print!("{:>7}{:>6}{:>9}", "full", "half", "quarter");
+    println!("{:>8}{:>6}", "full", "half");
 }
 
-/// A class at its sizes, largest first.
-pub fn class<I: ?Sized>(name: &str, cases: impl IntoIterator<Item = (&'static str, Case<I>)>) {
-    let timed: Vec<_> = cases.into_iter().map(|(size, case)| (size, best(case))).collect();
-    for (i, (size, times)) in timed.iter().enumerate() {
-        let smaller = timed.get(i + 1).map(|(_, smaller)| times.library / smaller.library);
-        let growth = smaller.map_or("-".to_string(), |growth| format!("{growth:.2}"));
-        let (library, reference) = (times.library * 1e6, times.reference * 1e6);
-        let ratio = library / reference;
-        println!("{name:<28} {size:<8} {library:>11.1} {reference:>11.1} {ratio:>6.2} {growth:>6}");
-    }
+/// A class at full, half and quarter size.
+pub fn class<I: ?Sized>(name: &str, cases: [Case<I>; 3]) {
+    let timed = cases.map(best);
+    let [full, half, quarter] = timed.each_ref().map(|times| times.library * 1e6);
+    print!("{name:<28}{full:>9.1}{half:>8.1}{quarter:>9.1}");
+    let ratios = timed.each_ref().map(|times| times.library / times.reference);
+    print!("{:>7.2}{:>6.2}{:>9.2}", ratios[0], ratios[1], ratios[2]);
+    println!("{:>8.2}{:>6.2}", full / half, half / quarter);
 }
 
 fn best<I: ?Sized>(mut case: Case<I>) -> Times {

@@ -1,32 +1,20 @@
 //! Compares the proved library with the reference.
 //!
-//! `compare [SUITE..] [--seed N] [--count N]` runs the named suites, by default all that are
-//! compiled in. It stops at the first difference with a non-zero status and the input as hex. What
-//! is handed to the library lies against forbidden pages, so that a touch outside ends the run too.
+//! `compare [SUITE..] [--seed N] [--count N]` runs the named suites, by default all. It stops at
+//! the first difference with a non-zero status and the input as hex. What is handed to the library
+//! lies against forbidden pages, so that a touch outside ends the run too.
 
-#[cfg(feature = "check")]
 mod check;
-#[cfg(feature = "plan")]
 mod plan;
-#[cfg(feature = "runs")]
 mod runs;
-#[cfg(feature = "sheet")]
 mod sheet;
 
 use compare::suite::{Options, Suite};
 use std::process::ExitCode;
 use std::thread;
 
-const SUITES: &[(&str, Suite)] = &[
-    #[cfg(feature = "check")]
-    ("check", check::run),
-    #[cfg(feature = "runs")]
-    ("runs", runs::run),
-    #[cfg(feature = "sheet")]
-    ("sheet", sheet::run),
-    #[cfg(feature = "plan")]
-    ("plan", plan::run),
-];
+const SUITES: &[(&str, Suite)] =
+    &[("check", check::run), ("runs", runs::run), ("sheet", sheet::run), ("plan", plan::run)];
 
 fn main() -> ExitCode {
     match Options::parse(std::env::args().skip(1)).and_then(on_small_stack) {

@@ -1,7 +1,7 @@
 //! A plan shown with the names of its store.
 
+use mardiskos::Judgement;
 use reference::entry::MAX_STEPS;
-use reference::state::Run;
 use reference::{Fact, Refusal};
 
 use crate::store::{Action, Store};
@@ -15,14 +15,16 @@ pub struct Plan {
 }
 
 impl Plan {
-    /// The plan of the reference planner.
+    /// The plan of the proved library.
     pub fn find(store: &Store) -> Result<Plan, Refusal> {
         let record = store.record();
         let (mut steps, mut work) = (vec![0; MAX_STEPS], vec![0; MAX_STEPS]);
-        let result = reference::plan(&record, &mut steps, &mut work)?;
-        steps.truncate(result.steps as usize);
-        let kept = reference::relax(&record, &mut work)?;
-        work.truncate(kept as usize);
+        let planned = mardiskos::plan(&record, &mut steps, &mut work);
+        accepted(planned.code)?;
+        steps.truncate(planned.steps as usize);
+        let relaxed = mardiskos::relax(&record, &mut work);
+        accepted(relaxed.code)?;
+        work.truncate(relaxed.steps as usize);
         Ok(Plan { steps, relaxed: Some(work) })
     }
 
@@ -72,6 +74,13 @@ impl Plan {
     }
 }
 
+fn accepted(code: u64) -> Result<(), Refusal> {
+    match code {
+        0 => Ok(()),
+        code => Err(Refusal::new((code % 32) as u8, (code / 32) as usize)),
+    }
+}
+
 fn numbers(line: &mut Line, actions: usize) -> Result<Vec<u16>, Error> {
     let mut numbers = Vec::new();
     while !line.at_end() {
@@ -95,23 +104,23 @@ fn counted(line: &mut Line, actions: usize, count: usize) -> Result<Vec<u16>, Er
 
 /// The plan, one step a line, behind a line of its count, cost and verdict.
 pub fn show(store: &Store, plan: &Plan) -> Result<String, Refusal> {
-    let judgement = reference::judge(&store.record(), &plan.steps)?;
-    let real = judgement.real;
-    let mut out = head(store, plan, real);
-    if !judgement.red_black.plan {
+    let judged = mardiskos::judge(&store.record(), &plan.steps);
+    accepted(judged.code)?;
+    let mut out = head(store, plan, &judged);
+    if !judged.red_black_plan {
         out += "not a red-black plan\n";
     }
     out += &step_lines(store, plan);
-    if !real.plan {
-        out += &trouble(store, &plan.steps, real.steps as usize);
+    if !judged.real_plan {
+        out += &trouble(store, &plan.steps, judged.real_steps as usize);
     }
     Ok(out)
 }
 
-fn head(store: &Store, plan: &Plan, real: Run) -> String {
-    let verdict = if real.plan { "real" } else { "unreal" };
-    let (count, runs) = (steps(plan.steps.len()), steps(real.steps as usize));
-    let run = if real.steps == 1 { "runs" } else { "run" };
+fn head(store: &Store, plan: &Plan, judged: &Judgement) -> String {
+    let verdict = if judged.real_plan { "real" } else { "unreal" };
+    let (count, runs) = (steps(plan.steps.len()), steps(judged.real_steps as usize));
+    let run = if judged.real_steps == 1 { "runs" } else { "run" };
     format!("{count}, cost {}, {verdict}: {runs} {run}\n", cost(store, plan))
 }
 
