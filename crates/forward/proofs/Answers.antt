@@ -1,19 +1,18 @@
 -- The calls that fill a plan list, check by check, and the list afterwards. Two calls differ in what they put into the list only.
-use mathlib.Core.Path.{_≡_, refl, sym, ap, _∙_, subst}
+use mathlib.Core.Path.{_≡_, refl, sym, ap, _∙_}
 use mathlib.Core.Bool.{Bool, true, false, not}
-use mathlib.Core.List.{List, [], _∷_, _++_, append-assoc, append-nil}
-use mathlib.Core.Option.{Option, none, some}
-use Prim.Native.Nat.{ℕ, zero, suc, _+_, _-_, _<_, _≤_, min}
+use mathlib.Core.List.{List, [], _∷_, _++_, append-assoc}
+use mathlib.Core.Option.{none, some}
+use Prim.Native.Nat.{ℕ, suc, _+_, _-_, _<_, _≤_}
 use native.Mathlib.Numerals.{add-one}
 use native.Mathlib.Omega.{arith}
 use native.Mathlib.Decide.{decLt}
 use borrow.Author.Tests.{le-leb, lt-leb, not-true, not-false}
-use lib.Dec.{leb}
 use lib.ListN.{length, getD, set, take, drop, replicate, length-append, length-drop, length-replicate}
 use lib.Seq.{take-suc, drop-cons, take-length, set-at, length-take-le, take-at}
 use Rattle.planning.specs.Basics.{Refusal, Check, check, refuse, andThen, inOrder, Answer, refused, done, answer}
 use Rattle.planning.specs.Record.{Task, taskOf, recordCheck}
-use Rattle.planning.specs.Runs.{State, Mode, act, relaxed, run, initial, step, factsIn, size}
+use Rattle.planning.specs.Runs.{State, act, relaxed, run, initial, step, size}
 use Rattle.planning.specs.Relaxed.{forwardRun, forwardEnd, reachesGoals, factsReached}
 use Rattle.planning.specs.Calls.{lent, capacity, roomCheck, goalsCheck, Forward, forwardCall, forwardList}
 use Rattle.planning.proofs.Checks.{andThen-last}
@@ -21,7 +20,7 @@ use Rattle.planning.proofs.Formed.{Formed}
 use Rattle.forward.specs.Answers.{laidList}
 use Rattle.table.specs.Size.{tableSize}
 use Rattle.table.proofs.Size.{tableSize-max}
-use Rattle.state.specs.Sets.{Within, setsOf}
+use Rattle.state.specs.Sets.{Within}
 use Rattle.state.proofs.Count.{size-facts, within-initial, within-step}
 
 -- the checks of a call, in their order

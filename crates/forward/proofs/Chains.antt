@@ -3,10 +3,10 @@
 -- where its action is on none.
 use mathlib.Core.Path.{_≡_, refl, sym, ap, _∙_, subst}
 use mathlib.Core.Logic.{_⊎_, inl, inr, _≢_}
-use mathlib.Core.Bool.{Bool, true, false, not, _&&_, _||_}
+use mathlib.Core.Bool.{Bool, true, false, not, _||_}
 use mathlib.Core.List.{List, [], _∷_}
 use mathlib.Core.Option.{Option, none, some}
-use Prim.Native.Nat.{ℕ, zero, suc, _+_, _-_, _*_, _/_, _%_, _<_, _≤_}
+use Prim.Native.Nat.{ℕ, suc, _+_, _-_, _/_, _%_, _<_, _≤_}
 use native.Mathlib.Omega.{arith}
 use native.Mathlib.Decide.{ℕ-discrete, decLt}
 use borrow.Author.Tests.{ne-eqb, eq-eqb}
@@ -15,9 +15,9 @@ use lib.ListN.{length, getD, set, length-set, replicate, length-replicate, getD-
 use lib.Seq.{getD-set-same, getD-set-other}
 use Rattle.planning.specs.Basics.{tally, first}
 use Rattle.planning.specs.Record.{Action}
-use Rattle.planning.specs.Runs.{State, has, holds, step, relaxed}
+use Rattle.planning.specs.Runs.{State, has, holds}
 use Rattle.planning.specs.Relaxed.{adds}
-use Rattle.planning.proofs.Tests.{T→true, F→false, and-l, and-r, and-i, or-l, or-r, or-cases, T-cases}
+use Rattle.planning.proofs.Tests.{and-l, and-r, and-i, or-l, or-r, or-cases}
 use Rattle.planning.proofs.Below.{First, First?, first-is, tally-le, tally-cases}
 use Rattle.planning.proofs.Facts.{_⊆_, holds→sub, sub→holds}
 use Rattle.state.specs.Sets.{setsOf}

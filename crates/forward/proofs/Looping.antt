@@ -2,19 +2,19 @@
 -- definition's next action, else it never will.
 use mathlib.Core.Path.{_≡_, refl, sym, ap, _∙_, subst, fun-ext}
 use mathlib.Core.Logic.{_⊎_, inl, inr, _≢_}
-use mathlib.Core.Bool.{Bool, true, false, not, _&&_}
-use mathlib.Core.List.{List, [], _∷_, _++_}
+use mathlib.Core.Bool.{Bool, true, false, not}
+use mathlib.Core.List.{List, []}
 use mathlib.Core.Option.{Option, none, some}
-use Prim.Native.Nat.{ℕ, zero, suc, _+_, _*_, _-_, _/_, _%_, _<_, _≤_}
+use Prim.Native.Nat.{ℕ, zero, suc, _+_, _*_, _/_, _%_, _<_, _≤_}
 use native.Mathlib.Omega.{arith}
 use lib.Dec.{T, T-not, not-T, eqb, eqb-refl}
 use lib.ListN.{length, getD, set, replicate}
 use Rattle.planning.specs.Basics.{first, tally}
-use Rattle.planning.specs.Record.{Action, Task, taskOf, recordCheck}
+use Rattle.planning.specs.Record.{Task, taskOf, recordCheck}
 use Rattle.planning.specs.Runs.{State, Mode, has, holds, step, relaxed, actions, act, initial, goals}
-use Rattle.planning.specs.Relaxed.{adds, forwardRun, forwardEnd, reachesGoals}
+use Rattle.planning.specs.Relaxed.{adds, reachesGoals}
 use Rattle.planning.proofs.Tests.{and-l, and-r}
-use Rattle.planning.proofs.Below.{tally-le, tally-sub}
+use Rattle.planning.proofs.Below.{tally-le}
 use Rattle.planning.proofs.Facts.{_⊆_, holds→sub, sub→holds}
 use Rattle.planning.proofs.Steps.{step-eff, step-keep, step-cases}
 use Rattle.planning.proofs.Formed.{Formed, formed-of}
@@ -25,7 +25,7 @@ use Rattle.state.proofs.Members.{inSet-empty}
 use Rattle.state.proofs.Tabled.{tabled-action, tabled-listed}
 use Rattle.forward.specs.declared.Ran.{Ran}
 use Rattle.forward.specs.Waiting.{reaches, member, Unmet, Lowest, Without, Noted, Sites}
-use Rattle.forward.specs.Running.{Going, RanOf, Looping}
+use Rattle.forward.specs.Running.{RanOf, Looping}
 use Rattle.forward.proofs.Chains.{tally-fewer, sites-none, sites-first, sites-leave}
 use Rattle.forward.proofs.Running.{going-start, going-on, going-take, going-drop, going-list, going-state, going-steps, going-achieved, ended-met, ended-none, met-more, goals-met, goals-open}
 

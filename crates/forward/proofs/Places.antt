@@ -1,19 +1,18 @@
 -- Facts by their places in a list of numbers: a list of facts has exactly those at its places, so that a test of it is a test at each
 -- place. The loops over facts stand on this.
-use mathlib.Core.Path.{_≡_, refl, sym, ap, _∙_, subst}
+use mathlib.Core.Path.{_≡_, refl, sym, _∙_, subst}
 use mathlib.Core.Logic.{_⊎_, inl, inr, _≢_}
 use mathlib.Core.Bool.{Bool, true, false, not, _&&_, _||_}
-use mathlib.Core.List.{List, [], _∷_, map}
-use Prim.Native.Nat.{ℕ, zero, suc, _+_, _-_, _*_, _/_, _%_, _<_, _≤_}
+use mathlib.Core.List.{List, [], _∷_}
+use Prim.Native.Nat.{ℕ, zero, suc, _+_, _-_, _/_, _%_, _<_, _≤_}
 use native.Mathlib.Omega.{arith}
 use native.Mathlib.Decide.{ℕ-discrete}
 use lib.Dec.{T, eqb, eqb→eq, eqb-refl}
 use lib.ListN.{length, getD, set, length-set}
-use lib.Seq.{slice, slice-cons, slice-empty, getD-set-same, getD-set-other}
-use Rattle.planning.specs.Record.{Fact}
+use lib.Seq.{slice-cons, slice-empty, getD-set-same, getD-set-other}
 use Rattle.planning.specs.Runs.{State, has, holds}
 use Rattle.planning.proofs.Tests.{T→true, F→false, and-l, and-r, and-i, or-l, or-r, or-cases}
-use Rattle.planning.proofs.Facts.{_⊆_, holds→sub, sub→holds}
+use Rattle.planning.proofs.Facts.{holds→sub, sub→holds}
 use Rattle.table.specs.Table.{factOf, factsIn, preAt, effAt}
 use Rattle.state.specs.Sets.{actionOf, Listed}
 use Rattle.forward.specs.Waiting.{reaches, Unmet, Noted}

@@ -1,26 +1,26 @@
 -- The loop of the forward run: what is taken is the definition's run so far, and the rest of that run starts from the present state.
 use mathlib.Core.Path.{_≡_, refl, sym, ap, _∙_, subst}
-use mathlib.Core.Logic.{_⊎_, inl, inr, _≢_}
-use mathlib.Core.Bool.{Bool, true, false, not, _&&_, and-false}
+use mathlib.Core.Logic.{_≢_}
+use mathlib.Core.Bool.{Bool, true, false, not, _&&_}
 use mathlib.Core.List.{List, [], _∷_, _++_, append-assoc, append-nil}
 use mathlib.Core.Option.{Option, none, some}
-use Prim.Native.Nat.{ℕ, zero, suc, _+_, _-_, _/_, _%_, _<_, _≤_, pred}
+use Prim.Native.Nat.{ℕ, zero, suc, _+_, _/_, _%_, _<_, _≤_, pred}
 use native.Mathlib.Numerals.{add-one}
 use native.Mathlib.Omega.{arith}
 use native.Mathlib.Decide.{decLt}
-use lib.Dec.{T, T-not}
+use lib.Dec.{T}
 use lib.ListN.{length, getD, set, take, replicate, length-set, length-append, length-replicate, getD-replicate}
 use lib.Seq.{take-suc-set, length-take-le}
 use Rattle.planning.specs.Basics.{first, total, tally}
 use Rattle.planning.specs.Record.{Fact, Action, Task}
 use Rattle.planning.specs.Runs.{State, has, holds, step, relaxed, run, variables, actions, act, count, variable, initial, goals, size}
-use Rattle.planning.specs.Relaxed.{adds, forward, addable, forwardRun, forwardEnd, reachesGoals, firstAchiever}
-use Rattle.planning.proofs.Tests.{T→true, F→false, and-l, and-r}
+use Rattle.planning.specs.Relaxed.{adds, forward, addable, forwardRun, forwardEnd, firstAchiever}
+use Rattle.planning.proofs.Tests.{T→true, F→false, and-l}
 use Rattle.planning.proofs.Below.{total-le, total-pred, total-one, tally-pos}
-use Rattle.planning.proofs.Facts.{_⊆_, holds→sub, sub→holds}
+use Rattle.planning.proofs.Facts.{_⊆_, holds→sub}
 use Rattle.planning.proofs.Steps.{All, step-eff, step-keep, run-append, run-grows}
 use Rattle.planning.proofs.Formed.{Formed, sorted-has, initial-holds}
-use Rattle.planning.proofs.Forward.{Once, forward-take, forwardRun-ran, forwardRun-length, forwardRun-once}
+use Rattle.planning.proofs.Forward.{Once, forward-take, forwardRun-ran, forwardRun-once}
 use Rattle.table.specs.Table.{factsIn}
 use Rattle.forward.specs.Waiting.{reaches, Each, Unmet, Noted}
 use Rattle.forward.specs.Running.{achiever, Achieved, Going}

@@ -3,15 +3,14 @@
 -- ready. So the lowest action that applies and adds a fact is the lowest ready one that adds a fact.
 use mathlib.Core.Path.{_≡_}
 use mathlib.Core.Logic.{_⊎_, _≢_}
-use mathlib.Core.Bool.{Bool, true, false, not, _&&_, _||_}
+use mathlib.Core.Bool.{Bool, false, not, _&&_, _||_}
 use mathlib.Core.List.{List, [], _∷_}
-use Prim.Native.Nat.{ℕ, zero, suc, _+_, _*_, _/_, _%_, _<_, _≤_}
+use Prim.Native.Nat.{ℕ, _/_, _%_, _<_, _≤_}
 use lib.Dec.{T, eqb}
 use lib.ListN.{length, getD, set}
 use Rattle.planning.specs.Record.{Action}
 use Rattle.planning.specs.Runs.{State, has, holds}
-use Rattle.table.specs.Table.{factsIn, preAt, effAt}
-use Rattle.state.specs.Sets.{inSet, setsOf, actionOf}
+use Rattle.state.specs.Sets.{inSet, setsOf}
 
 -- fact f, 64 × variable + value, is in the state
 unfoldable pub reaches : State → ℕ → Bool

@@ -15,7 +15,7 @@ ghost use Rattle.planning.specs.Record.{taskOf, recordCheck};
 ghost use Rattle.planning.specs.Runs.{has, holds};
 ghost use Rattle.planning.specs.Calls.{capacity, roomCheck, forwardCall, forwardList};
 ghost use Rattle.table.specs.Table.{factsIn, Tabled};
-ghost use Rattle.state.specs.Sets.{singles, setsOf, actionOf, Listed, GoalsOf};
+ghost use Rattle.state.specs.Sets.{singles, setsOf, actionOf, Listed};
 ghost use Rattle.forward.specs.Waiting.{Unmet, member, LowestIn, Lowest, With, Without, Settled, Sites, Noted};
 ghost use Rattle.forward.specs.Running.{RanOf, Looping};
 ghost use Rattle.forward.specs.Answers.{laidOf, laidList, foundOf};

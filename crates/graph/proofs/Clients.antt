@@ -1,31 +1,30 @@
 -- The clients-first order as the loop builds it: `left` is the set of untaken black variables, and what is written with what
 -- the definition still takes is the order.
-use mathlib.Core.Path.{_≡_, refl, sym, ap, _∙_, fun-ext, subst}
-use mathlib.Core.Logic.{_⊎_, inl, inr}
+use mathlib.Core.Path.{_≡_, refl, sym, ap, _∙_, subst}
 use mathlib.Core.Bool.{Bool, true, false, not, _&&_, _||_, and-true, and-comm}
 use mathlib.Core.List.{List, [], _∷_, _++_, append-assoc, append-nil}
 use mathlib.Core.Option.{Option, none, some}
-use Prim.Native.Nat.{ℕ, zero, suc, _+_, _-_, _*_, _/_, _%_, _^_, _<_, _≤_}
+use Prim.Native.Nat.{ℕ, zero, suc, _+_, _-_, _*_, _%_, _^_, _<_, _≤_}
 use native.Mathlib.Numerals.{add-one}
 use native.Mathlib.Omega.{arith}
 use native.Mathlib.Decide.{ℕ-discrete}
 use borrow.Author.Tests.{eq-eqb, ne-eqb}
 use lib.Bits.{bitAnd, bitXor, and-lt}
-use lib.Dec.{T, T-not, not-T, eqb, eqb→eq, eqb-refl}
-use lib.ListN.{length, getD, set, take, replicate, length-set}
+use lib.Dec.{T, eqb, eqb→eq}
+use lib.ListN.{length, set, take, replicate, length-set}
 use lib.Seq.{take-suc-set}
 use Rattle.planning.specs.Basics.{someBelow, first}
 use Rattle.planning.specs.Record.{Task}
 use Rattle.planning.specs.Runs.{variables, black}
 use Rattle.planning.specs.Painting.{blackArc}
 use Rattle.planning.specs.Repair.{ready, clientsFirst, order}
-use Rattle.planning.proofs.Tests.{T→true, true→T, F→false, or-l, or-r, or-cases, and-l, and-r, and-i}
+use Rattle.planning.proofs.Tests.{T→true, true→T, F→false, and-l, and-r, and-i}
 use Rattle.planning.proofs.Below.{First?, first-is, some-intro, some-elim}
 use Rattle.planning.proofs.Painting.{black-inside}
 use Rattle.state.specs.Sets.{inSet, setsOf, modeOf}
 use Rattle.state.proofs.Members.{one-shl, inSet-empty, inSet-single}
 use Rattle.graph.proofs.Bits.{inSet-and, inSet-xor, xor, empty-is}
-use Rattle.graph.proofs.Searches.{both, false-not, first-same, first-found, some-found, some-lacks}
+use Rattle.graph.proofs.Searches.{both, false-not, first-same, some-lacks}
 
 -- one variable's test
 module _ (row left v : ℕ) (small : row < 2 ^ 64) (small′ : left < 2 ^ 64) where

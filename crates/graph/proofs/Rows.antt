@@ -1,7 +1,7 @@
 -- The black causal graph, filled action by action: the rows at action i hold the arcs of the actions below i.
 use mathlib.Core.Path.{_≡_, refl, sym, ap, _∙_, fun-ext, subst}
 use mathlib.Core.Bool.{Bool, true, false, not, _&&_, _||_, or-false, or-assoc, and-false}
-use mathlib.Core.List.{List, [], _∷_, _++_, map, map-append}
+use mathlib.Core.List.{List, [], _∷_, _++_}
 use Prim.Native.Nat.{ℕ, zero, suc, _+_, _-_, _*_, _/_, _%_, _^_, _<_, _≤_}
 use native.Mathlib.Numerals.{add-one}
 use native.Mathlib.Omega.{arith}
@@ -9,13 +9,13 @@ use native.Mathlib.Decide.{ℕ-discrete}
 use borrow.Author.Tests.{eq-eqb, ne-eqb}
 use lib.Bits.{bitAnd, bitOr, bitXor}
 use lib.Dec.{T, eqb}
-use lib.ListN.{length, getD, set, take, drop, replicate, length-set, getD-replicate}
-use lib.Seq.{slice, slice-cons, slice-empty, getD-set-same, getD-set-other}
+use lib.ListN.{length, getD, set, replicate, length-set}
+use lib.Seq.{getD-set-same, getD-set-other}
 use Rattle.planning.specs.Basics.{someBelow}
-use Rattle.planning.specs.Record.{Fact, Action, Task, taskOf, recordCheck}
-use Rattle.planning.specs.Runs.{Mode, touches, actions, act, black}
+use Rattle.planning.specs.Record.{Fact, Task, taskOf}
+use Rattle.planning.specs.Runs.{touches, actions, act, black}
 use Rattle.planning.specs.Painting.{causalArc, blackArc}
-use Rattle.planning.proofs.Tests.{or-l, or-r, and-l, and-r, and-i}
+use Rattle.planning.proofs.Tests.{and-l, and-r, and-i}
 use Rattle.planning.proofs.Formed.{formed-of}
 use Rattle.table.specs.Table.{factOf, factsIn, preAt, effAt, endAt}
 use Rattle.state.specs.Sets.{inSet, setsOf, modeOf, actionOf, Listed}

@@ -1,7 +1,6 @@
 -- The least number that passes a test, as a loop finds it: nothing passed so far, and at the end or at a hit that is the answer.
-use mathlib.Core.Path.{_≡_, refl, sym, ap, _∙_, subst}
-use mathlib.Core.Logic.{_⊎_, inl, inr}
-use mathlib.Core.Bool.{Bool, true, false, not, _&&_, _||_}
+use mathlib.Core.Path.{_≡_, refl, sym, subst}
+use mathlib.Core.Bool.{Bool, true, false}
 use mathlib.Core.Option.{Option, none, some}
 use Prim.Native.Nat.{ℕ, zero, suc, _+_, _<_, _≤_}
 use native.Mathlib.Omega.{arith}
@@ -9,7 +8,7 @@ use native.Mathlib.Decide.{ℕ-discrete, decLt}
 use lib.Dec.{T}
 use Rattle.planning.specs.Basics.{someBelow, first}
 use Rattle.planning.proofs.Tests.{T→true, true→T, F→false}
-use Rattle.planning.proofs.Below.{below-cases, First, First?, first-is, some-intro, some-elim}
+use Rattle.planning.proofs.Below.{First, First?, first-is, some-intro, some-elim}
 
 -- two tests that pass together are the same
 pub both : (a b : Bool) → (T a → T b) → (T b → T a) → a ≡ b

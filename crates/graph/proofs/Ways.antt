@@ -3,20 +3,20 @@
 -- composition (via-closed), so that a node has a way to itself exactly if it lies on a cycle.
 use mathlib.Core.Path.{_≡_, refl, sym, ap, _∙_, fun-ext, subst}
 use mathlib.Core.Logic.{_⊎_, inl, inr}
-use mathlib.Core.Bool.{Bool, true, false, not, _&&_, _||_, or-false, and-false}
+use mathlib.Core.Bool.{Bool, true, false, _&&_, _||_, or-false}
 use mathlib.Core.List.{List}
 use mathlib.Core.Option.{none}
-use Prim.Native.Nat.{ℕ, zero, suc, pred, _+_, _-_, _*_, _/_, _%_, _^_, _<_, _≤_}
+use Prim.Native.Nat.{ℕ, zero, suc, pred, _+_, _<_, _≤_}
 use native.Mathlib.Numerals.{add-one}
 use native.Mathlib.Omega.{arith}
 use native.Mathlib.Decide.{ℕ-discrete, decLt}
 use lib.Bits.{bitOr}
 use lib.Dec.{T}
-use lib.ListN.{length, getD, set, length-set, List·getD-eq-default}
+use lib.ListN.{length, getD, set, length-set}
 use lib.Seq.{getD-set-same, getD-set-other}
 use Rattle.planning.specs.Basics.{someBelow, first, reach}
 use Rattle.planning.specs.Record.{Task, taskOf, recordCheck}
-use Rattle.planning.specs.Runs.{variables, black}
+use Rattle.planning.specs.Runs.{variables}
 use Rattle.planning.specs.Painting.{blackArc, onCycle, cyclic}
 use Rattle.planning.proofs.Tests.{T→true, true→T, F→false, or-l, or-r, or-cases, and-l, and-r, and-i}
 use Rattle.planning.proofs.Below.{below-cases, some-intro, some-elim}
@@ -24,7 +24,7 @@ use Rattle.planning.proofs.Graph.{reach-here, reach-move, reach-cases, reach-ze
 use Rattle.planning.proofs.Formed.{formed-of}
 use Rattle.planning.proofs.Painting.{black-inside}
 use Rattle.state.specs.Sets.{inSet, setsOf, modeOf}
-use Rattle.state.proofs.Members.{inSet-or, inSet-empty}
+use Rattle.state.proofs.Members.{inSet-or}
 use Rattle.graph.specs.Given.{Rows, through, via, StartBelow}
 use Rattle.graph.proofs.Searches.{both, first-same}
 

@@ -6,7 +6,7 @@ use mathlib.Core.Option.{Option, none, some}
 use Prim.Native.Nat.{ℕ, zero, suc, _<_, _≤_}
 use lib.Dec.{eqb}
 use lib.ListN.{length, getD}
-use Rattle.planning.specs.Record.{Fact, Action, Task, taskOf, recordCheck}
+use Rattle.planning.specs.Record.{Action, taskOf, recordCheck}
 use Rattle.planning.specs.Runs.{Mode, touches, actions, black}
 use Rattle.table.specs.Table.{Tabled}
 use Rattle.state.specs.Sets.{setsOf, modeOf}

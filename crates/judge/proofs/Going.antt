@@ -1,15 +1,14 @@
 -- A judged run in the middle: what is left of the list is judged from the present state.
-use mathlib.Core.Path.{_≡_, refl, sym, ap, _∙_}
-use mathlib.Core.Bool.{Bool, true, false, _&&_, and-false}
+use mathlib.Core.Path.{_≡_, refl, _∙_}
+use mathlib.Core.Bool.{Bool, true, false, and-false}
 use mathlib.Core.List.{List, [], _∷_}
-use Prim.Native.Nat.{ℕ, zero, suc, _+_, _-_, _*_, _<_, _≤_}
-use native.Mathlib.Nat.{add-zero}
+use Prim.Native.Nat.{ℕ, suc, _+_, _<_, _≤_}
 use native.Mathlib.Numerals.{add-one}
 use native.Mathlib.Omega.{arith}
 use lib.ListN.{length, getD, drop, drop-of-length-le}
 use lib.Seq.{drop-cons}
 use Rattle.planning.specs.Record.{Action, Task}
-use Rattle.planning.specs.Runs.{State, Mode, holds, step, act, actions, initial, goals, run, runs, stepsRun, isPlan, allBelow, Judged, judged}
+use Rattle.planning.specs.Runs.{State, Mode, holds, step, act, actions, initial, goals, run, runs, stepsRun, isPlan, allBelow, judged}
 use Rattle.judge.proofs.Lists.{allBelow-of}
 
 module _ (act : ℕ → Action) (m : Mode) (i : ℕ) (l : List ℕ) (s : State) where

@@ -1,16 +1,15 @@
 -- A run looks at a mode only at the variables that its actions affect, so that modes that agree on the task's variables judge
 -- alike. The code's mode of all ones is the real run's only below 64.
 use mathlib.Core.Path.{_≡_, refl, sym, ap, _∙_, fun-ext, subst}
-use mathlib.Core.Bool.{Bool, true, false, not, _&&_, _||_, and-false}
+use mathlib.Core.Bool.{Bool, true, false, _&&_, and-false}
 use mathlib.Core.List.{List, [], _∷_}
-use Prim.Native.Nat.{ℕ, zero, suc, _+_, _-_, _*_, _/_, _%_, _^_, _<_, _≤_}
+use Prim.Native.Nat.{ℕ, suc, _+_, _-_, _*_, _/_, _%_, _^_, _<_}
 use native.Mathlib.Omega.{arith}
-use lib.Dec.{T, eqb}
+use lib.Dec.{T}
 use native.Mathlib.Nat.{pow-suc}
 use lib.Pow.{pow-pos, high, ones-lt, ones-split}
-use Rattle.planning.specs.Record.{Fact, Action, Task}
-use Rattle.planning.specs.Runs.{State, Mode, has, touches, holds, step, variables, act, count, relaxed, real, initial, goals, run, runs, stepsRun, allBelow, isPlan, actions, black, Judged, judged, Judgement, judgement}
-use Rattle.planning.proofs.Tests.{T→true, F→false}
+use Rattle.planning.specs.Record.{Task}
+use Rattle.planning.specs.Runs.{State, Mode, touches, holds, step, variables, act, count, relaxed, real, initial, run, runs, stepsRun, isPlan, black, Judged, judged, judgement}
 use Rattle.planning.proofs.Facts.{touches→has}
 use Rattle.planning.proofs.Formed.{Formed, sorted-has}
 use Rattle.judge.proofs.Going.{stepsRun-pass, stepsRun-stop}

@@ -1,5 +1,5 @@
 -- What C reads of the planner's answer: its code, and the result's numbers, 0 after a refusal.
-use Prim.Native.Nat.{ℕ, _+_, _*_}
+use Prim.Native.Nat.{_+_, _*_}
 use mathlib.Core.Bool.{false}
 use Rattle.planning.specs.Basics.{Answer, refused, done}
 use Rattle.planning.specs.Calls.{Planned}

@@ -1,26 +1,22 @@
 -- The arcs of one action: from the value that it needs or from every value, and what is left marked for the next action.
 use mathlib.Core.Path.{_≡_, refl, sym, ap, _∙_, subst}
-use mathlib.Core.Logic.{_⊎_, inl, inr, _≢_}
+use mathlib.Core.Logic.{_⊎_, inl, inr}
 use mathlib.Core.Bool.{Bool, true, false, not, _&&_, _||_}
-use mathlib.Core.List.{List, [], _∷_, _++_}
+use mathlib.Core.List.{List, _++_}
 use mathlib.Core.Option.{Option, none, some}
-use Prim.Native.Nat.{ℕ, zero, suc, _+_, _-_, _*_, _/_, _%_, _<_, _≤_}
+use Prim.Native.Nat.{ℕ, _+_, _-_, _*_, _/_, _%_, _<_, _≤_}
 use native.Mathlib.Omega.{arith}
 use native.Mathlib.Decide.{ℕ-discrete}
-use borrow.Author.Tests.{eq-eqb, ne-eqb, not-true, not-false}
 use lib.Dec.{T, eqb}
-use lib.ListN.{length, getD}
 use Rattle.planning.specs.Basics.{Refusal, Check, someBelow, first, refuseAt, andThen}
 use Rattle.planning.specs.Record.{Fact, Task, taskOf, recordCheck}
 use Rattle.planning.specs.Runs.{State, has, look, variables, actions, act, black, count}
 use Rattle.planning.specs.Painting.{blackArc, onCycle, cyclic, lacksReturn, unreturned, acyclicCheck, returnCheck}
-use Rattle.planning.proofs.Tests.{F→false}
 use Rattle.planning.proofs.Below.{First?, first-is}
 use Rattle.planning.proofs.Facts.{look-some}
 use Rattle.planning.proofs.Formed.{Formed, formed-of, sorted-has}
-use Rattle.planning.proofs.Painting.{black-inside}
 use Rattle.table.specs.Table.{factsIn, preAt, effAt, endAt}
-use Rattle.state.specs.Sets.{modeOf, actionOf, Listed}
+use Rattle.state.specs.Sets.{modeOf, Listed}
 use Rattle.state.proofs.Tabled.{tabled-action}
 use Rattle.graph.proofs.Rows.{factsIn-split}
 use Rattle.graph.proofs.Searches.{some-found, some-lacks, Searched, searched-start, searched-turn, searched-hit, searched-end}
@@ -28,7 +24,7 @@ use Rattle.painting.specs.Chains.{moveOf}
 use Rattle.painting.specs.Returns.{markAll, marked, Unmarked, returned, unreturnedFrom, arcsBy, lacksBy, lacks, asked, Ground, Moved, Lacking}
 use Rattle.painting.proofs.Chains.{Move, NoMove, move-is}
 use Rattle.painting.proofs.Walks.{move-of-act}
-use Rattle.painting.proofs.Marks.{Small, Allows, marks-allow, unmarked-all, unmarked-more}
+use Rattle.painting.proofs.Marks.{Allows, marks-allow, unmarked-all, unmarked-more}
 use Rattle.painting.proofs.Returns.{has-right, facts-small, lacks-is, lacks-none, ground-listed, ground-pre}
 
 -- the fact of the same variable with the value d

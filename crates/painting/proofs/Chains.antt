@@ -1,24 +1,23 @@
 -- The chains, built from the last action to the first: at action i, `head` has the first action from i on that sets each black
 -- fact. An action has one move at most, since 7 passes, so that it stands in one chain.
-use mathlib.Core.Path.{_≡_, refl, sym, ap, _∙_, subst}
-use mathlib.Core.Logic.{_⊎_, inl, inr, _≢_}
-use mathlib.Core.Bool.{Bool, true, false, _&&_}
+use mathlib.Core.Path.{_≡_, refl, sym, _∙_, subst}
+use mathlib.Core.Logic.{_⊎_, inl, inr}
+use mathlib.Core.Bool.{Bool, true, false}
 use mathlib.Core.List.{List, [], _∷_}
 use mathlib.Core.Option.{none}
-use Prim.Native.Nat.{ℕ, zero, suc, _+_, _-_, _*_, _/_, _%_, _<_, _≤_}
+use Prim.Native.Nat.{ℕ, _+_, _-_, _*_, _/_, _%_, _<_, _≤_}
 use native.Mathlib.Omega.{arith}
 use native.Mathlib.Decide.{ℕ-discrete}
 use borrow.Author.Tests.{eq-eqb, ne-eqb}
-use lib.Dec.{T, eqb, eqb→eq, eqb-refl}
+use lib.Dec.{T, eqb}
 use lib.ListN.{length, getD, set, replicate, length-set, length-replicate, getD-replicate}
 use lib.Seq.{getD-set-same, getD-set-other}
 use Rattle.planning.specs.Record.{Fact, Task, taskOf}
 use Rattle.planning.specs.Runs.{Mode, has, variables, actions, act, black, count}
 use Rattle.planning.specs.Painting.{cyclic}
-use Rattle.planning.proofs.Tests.{true→T, or-l, or-r, and-l, and-r, and-i}
 use Rattle.planning.proofs.Facts.{has-here, has-there, has-cases, has→touches}
-use Rattle.planning.proofs.Formed.{Formed, Sorted, formed-of, sorted-func, sorted-has}
-use Rattle.planning.proofs.Painting.{one-black, black-inside}
+use Rattle.planning.proofs.Formed.{Formed, Sorted, formed-of, sorted-func}
+use Rattle.planning.proofs.Painting.{one-black}
 use Rattle.state.specs.Sets.{modeOf, actionOf}
 use Rattle.graph.specs.Given.{Given}
 use Rattle.graph.proofs.Rows.{given-act}

@@ -1,10 +1,10 @@
 -- Marks: after action i has marked its facts, marked i are exactly those that a return of its move v = e may need: v = e itself,
 -- and its own facts on other variables.
-use mathlib.Core.Path.{_≡_, refl, sym, ap, _∙_, subst}
+use mathlib.Core.Path.{_≡_, refl, sym, _∙_, subst}
 use mathlib.Core.Logic.{_⊎_, inl, inr, _≢_}
-use mathlib.Core.Bool.{Bool, true, false, not, _&&_, _||_, or-assoc}
-use mathlib.Core.List.{List, [], _∷_, _++_}
-use Prim.Native.Nat.{ℕ, zero, suc, _+_, _-_, _*_, _/_, _%_, _<_, _≤_}
+use mathlib.Core.Bool.{Bool, true, false, _||_}
+use mathlib.Core.List.{List, [], _∷_}
+use Prim.Native.Nat.{ℕ, _+_, _*_, _/_, _%_, _<_, _≤_}
 use native.Mathlib.Omega.{arith}
 use native.Mathlib.Decide.{ℕ-discrete}
 use borrow.Author.Tests.{eq-eqb, ne-eqb}
@@ -13,7 +13,7 @@ use lib.ListN.{length, getD, set, replicate, length-set, length-replicate, getD-
 use lib.Seq.{getD-set-same, getD-set-other}
 use Rattle.planning.specs.Record.{Fact}
 use Rattle.planning.specs.Runs.{State, has}
-use Rattle.planning.proofs.Tests.{true→T, or-l, or-r, or-cases}
+use Rattle.planning.proofs.Tests.{or-l, or-r, or-cases}
 use Rattle.planning.proofs.Facts.{has-here, has-there, has-nil, has-cases}
 use Rattle.table.specs.Table.{factOf, factsIn}
 use Rattle.state.proofs.Effects.{factsIn-cons, factsIn-none}

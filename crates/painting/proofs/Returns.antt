@@ -2,21 +2,20 @@
 -- return exactly if some action sets v = d and needs marked facts alone.
 use mathlib.Core.Path.{_≡_, refl, sym, ap, _∙_, subst}
 use mathlib.Core.Logic.{_⊎_, inl, inr, _≢_}
-use mathlib.Core.Bool.{Bool, true, false, not, _&&_, _||_}
+use mathlib.Core.Bool.{Bool, true, false, not, _&&_}
 use mathlib.Core.List.{List, [], _∷_, _++_}
 use mathlib.Core.Option.{Option, none, some}
-use Prim.Native.Nat.{ℕ, zero, suc, _+_, _-_, _*_, _/_, _%_, _<_, _≤_}
+use Prim.Native.Nat.{ℕ, _+_, _*_, _/_, _%_, _<_, _≤_}
 use native.Mathlib.Omega.{arith}
 use native.Mathlib.Decide.{ℕ-discrete, decLt}
-use borrow.Author.Tests.{eq-eqb, ne-eqb, not-true, not-false}
 use lib.Dec.{T, T-not, not-T, eqb, eqb→eq, eqb-refl}
-use lib.ListN.{length, getD}
-use Rattle.planning.specs.Basics.{Check, someBelow, first, refuseAt, andThen}
-use Rattle.planning.specs.Record.{Fact, Action, Task, taskOf, recordCheck}
-use Rattle.planning.specs.Runs.{State, has, look, holds, touches, variables, actions, act, black, count}
-use Rattle.planning.specs.Painting.{arcFrom, target, orZero, outside, returnBy, lacksReturn, cyclic, unreturned, acyclicCheck, returnCheck}
-use Rattle.planning.proofs.Tests.{T→true, true→T, F→false, or-l, or-r, or-cases, and-l, and-r, and-i}
-use Rattle.planning.proofs.Below.{First?, first-is, some-intro, some-elim}
+use lib.ListN.{getD}
+use Rattle.planning.specs.Basics.{someBelow}
+use Rattle.planning.specs.Record.{Fact, Task, taskOf}
+use Rattle.planning.specs.Runs.{State, has, look, holds, variables, actions, act, black, count}
+use Rattle.planning.specs.Painting.{arcFrom, target, orZero, outside, returnBy, lacksReturn, cyclic}
+use Rattle.planning.proofs.Tests.{T→true, true→T, F→false, and-l, and-r, and-i}
+use Rattle.planning.proofs.Below.{some-intro, some-elim}
 use Rattle.planning.proofs.Facts.{has-cases, has-here, has-there, has-nil, has-++, holds→sub, sub→holds, has→touches, Func, look-some, look-none, look-is}
 use Rattle.planning.proofs.Arcs.{Arc, arcFrom-elim, arcFrom-intro}
 use Rattle.planning.proofs.Formed.{Formed, Sorted, formed-of, sorted-func, sorted-has}
@@ -24,11 +23,10 @@ use Rattle.planning.proofs.Painting.{black-inside, has-outside, outside-has, on
 use Rattle.table.specs.Table.{factsIn, preAt, effAt}
 use Rattle.state.specs.Sets.{Listed}
 use Rattle.state.proofs.Tabled.{tabled-listed}
-use Rattle.graph.proofs.Searches.{both, false-not, first-same, some-same, some-found, some-lacks}
+use Rattle.graph.proofs.Searches.{both, false-not, some-same, some-found, some-lacks}
 use Rattle.state.specs.Chains.{Next, Sets, Chained}
-use Rattle.painting.specs.Chains.{moveOf}
-use Rattle.painting.specs.Returns.{returned, unreturnedFrom, arcsBy, lacksBy, lacks, asked, Ground}
-use Rattle.painting.proofs.Chains.{Move, NoMove}
+use Rattle.painting.specs.Returns.{returned, unreturnedFrom, arcsBy, lacksBy, lacks, Ground}
+use Rattle.painting.proofs.Chains.{NoMove}
 use Rattle.painting.proofs.Marks.{Small, Allows}
 
 has-left : (fs gs : List Fact) (u x : ℕ) → T (has fs u x) → T (has (fs ++ gs) u x)

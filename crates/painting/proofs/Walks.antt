@@ -4,14 +4,12 @@ use mathlib.Core.Path.{_≡_, refl, sym, ap, _∙_}
 use mathlib.Core.Logic.{_⊎_, inl, inr}
 use mathlib.Core.Bool.{Bool, true, false}
 use mathlib.Core.List.{List, [], _∷_}
-use mathlib.Core.Option.{Option, none, some}
 use Prim.Native.Nat.{ℕ, zero, suc, _+_, _-_, _*_, _/_, _%_, _<_, _≤_}
 use native.Mathlib.Omega.{arith}
 use borrow.Author.Tests.{eq-eqb, ne-eqb}
-use lib.Dec.{eqb}
-use lib.ListN.{length, getD, set}
+use lib.ListN.{getD, set}
 use Rattle.planning.specs.Record.{Fact}
-use Rattle.planning.specs.Runs.{Mode, State, look, holds}
+use Rattle.planning.specs.Runs.{Mode, look, holds}
 use Rattle.table.specs.Table.{factOf, factsIn, effAt, endAt}
 use Rattle.state.specs.Sets.{inSet, modeOf, actionOf, Listed}
 use Rattle.state.proofs.Effects.{factsIn-cons, factsIn-none}

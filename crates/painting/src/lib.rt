@@ -8,17 +8,17 @@ ghost use mathlib.Core.Option.{none, some};
 ghost use mathlib.Core.Bool.{true, _||_};
 ghost use Prim.Native.Nat.{ℕ, _+_, _-_, _*_, _/_, _%_, _<_, _≤_};
 ghost use lib.Dec.{T, eqb};
-ghost use lib.ListN.{length, getD, replicate};
-ghost use Rattle.planning.specs.Basics.{andThen, refuseAt};
-ghost use Rattle.planning.specs.Record.{taskOf, recordCheck};
+ghost use lib.ListN.{length, replicate};
+ghost use Rattle.planning.specs.Basics.{refuseAt};
+ghost use Rattle.planning.specs.Record.{taskOf};
 ghost use Rattle.planning.specs.Runs.{look, holds, variables, actions, black, count};
-ghost use Rattle.planning.specs.Painting.{blackArc, cyclic, unreturned, acyclicCheck, returnCheck};
+ghost use Rattle.planning.specs.Painting.{blackArc, cyclic, unreturned};
 ghost use Rattle.table.specs.Table.{factsIn};
 ghost use Rattle.state.specs.Sets.{modeOf, setsOf, actionOf, Listed};
 ghost use Rattle.graph.specs.Given.{Given, Facts, foundOf};
 ghost use Rattle.state.specs.Chains.{Chained};
-ghost use Rattle.painting.specs.Chains.{Linked, Room, moveOf};
-ghost use Rattle.painting.specs.Returns.{place, markAll, marked, Unmarked, returned, unreturnedFrom, lacksBy, lacks, asked, Ground, Moved, Lacking};
+ghost use Rattle.painting.specs.Chains.{Linked, moveOf};
+ghost use Rattle.painting.specs.Returns.{place, markAll, marked, Unmarked, returned, unreturnedFrom, lacksBy, asked, Ground, Moved, Lacking};
 ghost use Rattle.painting.specs.Answers.{paintedOf, refusalOf, Checked};
 
 fn wide(x: u16) -> usize

@@ -1,8 +1,7 @@
 -- A pass in the middle: what is written, and the pass over the rest of the list from the present value, are the whole pass.
 use mathlib.Core.Path.{_≡_, refl, sym, ap, _∙_, subst}
-use mathlib.Core.List.{List, [], _∷_, _++_, append-assoc, append-nil}
-use mathlib.Core.Option.{Option, none, some}
-use Prim.Native.Nat.{ℕ, _+_, _-_, _*_, _<_, _≤_}
+use mathlib.Core.List.{List, [], _∷_, _++_, append-assoc}
+use Prim.Native.Nat.{ℕ, _+_, _<_, _≤_}
 use native.Mathlib.Numerals.{add-one}
 use native.Mathlib.Omega.{arith}
 use lib.ListN.{length, getD, take, drop, length-append}
@@ -16,7 +15,7 @@ use Rattle.paths.proofs.Arriving.{ground-formed, ground-listed, ground-act}
 use Rattle.state.specs.Sets.{actionOf, Listed}
 use Rattle.paths.specs.declared.Written.{Written}
 use Rattle.paths.specs.declared.Written.the-variants.{Upto, Long}
-use Rattle.passes.specs.Passes.{pathsOf, askedBy, Fitting, Entries}
+use Rattle.passes.specs.Passes.{pathsOf, askedBy, Entries}
 use Rattle.passes.proofs.Putting.{asked-is, asked-fits, pre-fitting, after-fits}
 
 pub record Passing (t : Task) (K : State) (v start : ℕ) (l₀ : List ℕ) (w : List Fact) (out₀ out memo : List ℕ) (c e j : ℕ) : Type 0 where

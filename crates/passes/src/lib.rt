@@ -3,11 +3,11 @@
 use paths::Written;
 ghost use mathlib.Core.Path.{_≡_};
 ghost use mathlib.Core.List.{_++_, _∷_, []};
-ghost use Prim.Native.Nat.{ℕ, _+_, _<_, _≤_};
+ghost use Prim.Native.Nat.{_+_, _<_, _≤_};
 ghost use lib.Dec.{T};
-ghost use lib.ListN.{length, getD};
+ghost use lib.ListN.{length};
 ghost use Rattle.planning.specs.Record.{taskOf};
-ghost use Rattle.planning.specs.Runs.{look, actions, count, act, black};
+ghost use Rattle.planning.specs.Runs.{look, count, act, black};
 ghost use Rattle.planning.specs.Repair.{toward, after, pass};
 ghost use Rattle.table.specs.Table.{factsIn};
 ghost use Rattle.state.specs.Sets.{setsOf, actionOf, Listed};

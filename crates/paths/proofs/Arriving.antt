@@ -2,7 +2,7 @@
 use mathlib.Core.Path.{_≡_, refl, sym, ap, _∙_, subst}
 use mathlib.Core.Logic.{_⊎_, inl, inr}
 use mathlib.Core.Bool.{Bool, true, false, not, _&&_}
-use mathlib.Core.List.{List, [], _∷_}
+use mathlib.Core.List.{List}
 use Prim.Native.Nat.{ℕ, zero, suc, _+_, _-_, _*_, _/_, _%_, _^_, _<_, _≤_}
 use native.Mathlib.Numerals.{add-one}
 use native.Mathlib.Omega.{arith}
@@ -12,16 +12,16 @@ use lib.Dec.{T, eqb, ltb, lt→ltb, eqb→eq}
 use lib.ListN.{length, getD, replicate}
 use lib.Pow.{high, ones-split, ones-lt}
 use Rattle.planning.specs.Record.{Task, taskOf}
-use Rattle.planning.specs.Runs.{State, look, holds, variables, actions, count, act, black}
+use Rattle.planning.specs.Runs.{State, look, holds, actions, count, act, black}
 use Rattle.planning.specs.Painting.{fits}
 use Rattle.planning.specs.Repair.{usableArc}
-use Rattle.planning.proofs.Tests.{and-l, and-r, and-i, T→true, true→T}
+use Rattle.planning.proofs.Tests.{and-l, and-r, and-i}
 use Rattle.planning.proofs.Formed.{Formed, formed-of}
-use Rattle.state.specs.Sets.{inSet, setsOf, actionOf, Listed}
+use Rattle.state.specs.Sets.{inSet, actionOf, Listed}
 use Rattle.state.proofs.Members.{inSet-single, one-shl}
 use Rattle.state.proofs.Tabled.{tabled-listed, tabled-action}
-use Rattle.state.specs.Chains.{Next, Sets, Chained}
-use Rattle.paths.specs.Paths.{Ground, Member, lower, Found, Enters, Marks, Kept, Apart, Leads}
+use Rattle.state.specs.Chains.{Next, Sets}
+use Rattle.paths.specs.Paths.{Ground, Member, lower, Enters, Marks, Kept, Apart, Leads}
 use Rattle.paths.proofs.Sets.{inSet-xor, either, inSet-all}
 use Rattle.paths.proofs.Leads.{marks-turn, marks-map, usableArc-is, usableArc-fits, Layered, layered-start, layered-turn, layered-stop}
 

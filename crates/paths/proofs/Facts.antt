@@ -1,9 +1,9 @@
 -- The loop that looks a variable up among facts, and the sources of an arc.
-use mathlib.Core.Path.{_≡_, refl, sym, ap, _∙_, subst}
+use mathlib.Core.Path.{_≡_, refl, sym, ap, _∙_}
 use mathlib.Core.Bool.{Bool, true, false, _&&_, and-true, and-false}
-use mathlib.Core.List.{List, [], _∷_}
+use mathlib.Core.List.{List, _∷_}
 use mathlib.Core.Option.{Option, none, some}
-use Prim.Native.Nat.{ℕ, zero, suc, _+_, _-_, _*_, _/_, _%_, _^_, _<_, _≤_}
+use Prim.Native.Nat.{ℕ, _+_, _*_, _/_, _%_, _^_, _<_, _≤_}
 use native.Mathlib.Numerals.{add-one}
 use native.Mathlib.Omega.{arith}
 use native.Mathlib.Decide.{ℕ-discrete}
@@ -11,8 +11,7 @@ use borrow.Author.Tests.{eq-eqb, ne-eqb}
 use lib.Bits.{bitAnd}
 use lib.Dec.{eqb}
 use lib.ListN.{length, getD}
-use lib.Seq.{slice, slice-cons, slice-empty}
-use Rattle.planning.specs.Record.{Fact}
+use lib.Seq.{slice-cons, slice-empty}
 use Rattle.planning.specs.Runs.{look, holds}
 use Rattle.planning.specs.Painting.{fits}
 use Rattle.table.specs.Table.{factOf, factsIn, preAt, effAt, endAt}

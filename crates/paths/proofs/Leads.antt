@@ -4,31 +4,31 @@
 use mathlib.Core.Path.{_≡_, refl, sym, ap, _∙_, subst}
 use mathlib.Core.Logic.{_⊎_, inl, inr}
 use mathlib.Core.Bool.{Bool, true, false, not, _&&_}
-use mathlib.Core.List.{List, [], _∷_}
+use mathlib.Core.List.{List}
 use mathlib.Core.Option.{Option, none, some}
-use Prim.Native.Nat.{ℕ, zero, suc, _+_, _-_, _*_, _^_, _<_, _≤_, min}
+use Prim.Native.Nat.{ℕ, zero, suc, _+_, _-_, _<_, _≤_, min}
 use native.Mathlib.Omega.{arith}
 use native.Mathlib.Nat.{min-eq-left, min-eq-right}
-use native.Mathlib.Decide.{ℕ-discrete, decLt}
+use native.Mathlib.Decide.{decLt}
 use lib.Bits.{bitOr, bitXor}
-use lib.Dec.{T, T-not, not-T, eqb, ltb, lt→ltb, ltb→lt, eqb→eq, eqb-refl}
+use lib.Dec.{T, T-not, not-T, eqb, ltb, lt→ltb, ltb→lt, eqb→eq}
 use lib.ListN.{length, getD}
 use Rattle.planning.specs.Basics.{first, reach}
 use Rattle.planning.specs.Record.{Task}
 use Rattle.planning.specs.Runs.{State, has, look, holds, variables, actions, count, act}
 use Rattle.planning.specs.Painting.{target, fits, leaves, arcFrom}
-use Rattle.planning.specs.Repair.{usableArc, adjacent, pathIn, shortest}
-use Rattle.planning.proofs.Tests.{T→true, true→T, or-l, or-r, or-cases, and-l, and-r, and-i, T-cases}
-use Rattle.planning.proofs.Below.{First, First?, first-is}
-use Rattle.planning.proofs.Graph.{reach-here, reach-move, reach-cases, reach-zero, reach-suc, reach-stable}
+use Rattle.planning.specs.Repair.{usableArc, adjacent}
+use Rattle.planning.proofs.Tests.{or-l, or-r, or-cases, and-l, and-r, and-i, T-cases}
+use Rattle.planning.proofs.Below.{First?, first-is}
+use Rattle.planning.proofs.Graph.{reach-here, reach-move, reach-cases, reach-suc, reach-stable}
 use Rattle.planning.proofs.Facts.{Func, look-is}
 use Rattle.planning.proofs.Formed.{Formed, sorted-has, sorted-func}
 use Rattle.planning.proofs.Short.{usableArc-elim, adjacent-elim, usableArc→adjacent}
 use Rattle.state.specs.Sets.{inSet}
-use Rattle.state.proofs.Members.{inSet-empty, inSet-or, inSet-single}
+use Rattle.state.proofs.Members.{inSet-empty, inSet-or}
 use Rattle.state.specs.Chains.{Next, Sets}
-use Rattle.paths.specs.Paths.{Member, lower, leadIn, lead, numberOf, Leads, Found, Enters, Marks, Kept, Apart}
-use Rattle.paths.proofs.Sets.{inSet-xor, either, inSet-all}
+use Rattle.paths.specs.Paths.{lower, leadIn, lead, numberOf, Leads, Enters, Marks, Kept, Apart}
+use Rattle.paths.proofs.Sets.{inSet-xor, either}
 
 -- the least number, and the definition's
 pub next-first : (A : ℕ) (p : ℕ → Bool) (x : ℕ) → A ≤ 1024 → Next A (λ i. T (p i)) 0 x → x ≡ numberOf (first A p)

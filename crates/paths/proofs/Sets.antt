@@ -1,18 +1,18 @@
 -- Sets of values as numbers, digit by digit: the least member from a place on, intersection, removal, and the set of all values below n.
-use mathlib.Core.Path.{_≡_, refl, sym, ap, _∙_, subst}
-use mathlib.Core.Bool.{Bool, true, false, not, _&&_, _||_, and-false, and-true}
-use Prim.Native.Nat.{ℕ, zero, suc, _+_, _-_, _*_, _/_, _%_, _^_, _<_, _≤_, min, max}
-use native.Mathlib.Nat.{pow-suc, div-eq-of-lt, mod-eq-of-lt}
+use mathlib.Core.Path.{_≡_, refl, sym, _∙_}
+use mathlib.Core.Bool.{Bool, true, false, not, _&&_}
+use Prim.Native.Nat.{ℕ, zero, suc, _+_, _-_, _/_, _%_, _^_, _<_, _≤_}
+use native.Mathlib.Nat.{pow-suc}
 use native.Mathlib.Numerals.{one-add}
 use native.Mathlib.Omega.{arith}
 use native.Mathlib.Decide.{decLt}
 use borrow.Author.Tests.{lt-ltb, le-ltb}
-use lib.Bits.{bitAnd, bitXor, differ, and-shr, and-mod, xor-shr, xor-mod}
+use lib.Bits.{bitAnd, bitXor, and-shr, and-mod, xor-shr, xor-mod}
 use lib.Count.{trailingZeros, under}
 use lib.Dec.{T, eqb, ltb}
 use lib.Pow.{shr-shr, pow-pos}
 use Rattle.state.specs.Sets.{inSet}
-use Rattle.state.proofs.Members.{inSet-empty, inSet-single}
+use Rattle.state.proofs.Members.{inSet-empty}
 use Rattle.paths.specs.Paths.{Member}
 
 inSet-zero : (m : ℕ) → inSet m 0 ≡ eqb (m % 2) 1

@@ -1,31 +1,29 @@
 -- The path read off a row of leads: each lead comes one move closer, so the path is the definition's.
-use mathlib.Core.Path.{_≡_, refl, sym, ap, _∙_, subst}
-use mathlib.Core.Logic.{_⊎_, inl, inr}
-use mathlib.Core.Bool.{Bool, true, false, not, _&&_}
+use mathlib.Core.Path.{_≡_, refl, sym, ap, _∙_}
+use mathlib.Core.Bool.{Bool, _&&_}
 use mathlib.Core.List.{List, [], _∷_, _++_, append-assoc, append-nil}
 use mathlib.Core.Option.{Option, none, some}
-use Prim.Native.Nat.{ℕ, zero, suc, _+_, _-_, _*_, _<_, _≤_}
+use Prim.Native.Nat.{ℕ, zero, suc, _+_, _<_, _≤_}
 use native.Mathlib.Numerals.{add-one}
 use native.Mathlib.Omega.{arith}
 use lib.Dec.{T}
-use lib.ListN.{length, getD, set, take, length-set, length-append}
-use lib.Seq.{take-suc-set, length-take-le}
+use lib.ListN.{length, getD, set, take, length-set}
+use lib.Seq.{take-suc-set}
 use Rattle.planning.specs.Basics.{first, reach}
 use Rattle.planning.specs.Record.{Task, taskOf, recordCheck}
-use Rattle.planning.specs.Runs.{State, look, variables, actions, count, act}
+use Rattle.planning.specs.Runs.{State, look, actions, count, act}
 use Rattle.planning.specs.Painting.{target, orZero}
 use Rattle.planning.specs.Repair.{usableArc, adjacent, pathIn, shortest}
 use Rattle.planning.proofs.Tests.{and-l, and-r}
 use Rattle.planning.proofs.Facts.{look-is}
-use Rattle.planning.proofs.Below.{First, First?, first-is}
+use Rattle.planning.proofs.Below.{First?, first-is}
 use Rattle.planning.proofs.Graph.{reach-move}
 use Rattle.planning.proofs.Formed.{Formed, formed-of}
 use Rattle.table.specs.Table.{Tabled}
 use Rattle.state.proofs.Tabled.{tabled-listed, tabled-action}
 use Rattle.state.specs.Sets.{actionOf, Listed}
-use Rattle.state.specs.Chains.{Sets}
 use Rattle.paths.specs.Paths.{Asked, leadIn, lead, numberOf, Leads, Put}
-use Rattle.paths.specs.declared.Written.the-variants.{Upto, Long}
+use Rattle.paths.specs.declared.Written.the-variants.{Upto}
 use Rattle.paths.proofs.Leads.{first-at, range, usableArc-sets, usableArc-adj, effs}
 
 -- the path of the definition

@@ -1,17 +1,16 @@
 -- Rows of leads: the first action of the path to one value, from each value.
 use mathlib.Core.Path.{_≡_}
-use mathlib.Core.Logic.{_⊎_}
 use mathlib.Core.Bool.{Bool, true, false, _&&_}
-use mathlib.Core.List.{List, [], _∷_, _++_}
+use mathlib.Core.List.{List, _++_}
 use mathlib.Core.Option.{Option, none, some}
 use Prim.Native.Nat.{ℕ, zero, suc, _+_, _*_, _<_, _≤_, min}
 use lib.Dec.{T}
 use lib.ListN.{length, getD, take}
 use Rattle.planning.specs.Basics.{first, reach}
 use Rattle.planning.specs.Record.{Action, Task, taskOf, recordCheck}
-use Rattle.planning.specs.Runs.{State, has, variables, actions, count, act, black}
+use Rattle.planning.specs.Runs.{State, actions, count, act}
 use Rattle.planning.specs.Painting.{target}
-use Rattle.planning.specs.Repair.{usableArc, adjacent, shortest}
+use Rattle.planning.specs.Repair.{usableArc, adjacent}
 use Rattle.table.specs.Table.{Tabled}
 use Rattle.state.specs.Sets.{singles, inSet}
 use Rattle.state.specs.Chains.{Next, Sets, Chained}

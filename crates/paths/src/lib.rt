@@ -1,19 +1,17 @@
 // Shortest paths of one black variable along usable arcs. Breadth first backwards from the wanted value, one layer of equal
 // distance after another; the row of leads that it leaves gives, for each value, the smallest action that comes one move closer.
 ghost use mathlib.Core.Path.{_≡_};
-ghost use mathlib.Core.Bool.{_&&_, true};
-ghost use mathlib.Core.List.{_++_};
+ghost use mathlib.Core.Bool.{_&&_};
 ghost use Prim.Native.Nat.{ℕ, _+_, _-_, _*_, _^_, _<_, _≤_, min};
 ghost use lib.Dec.{T};
 ghost use lib.ListN.{length, getD};
 ghost use Rattle.planning.specs.Record.{taskOf, recordCheck};
-ghost use Rattle.planning.specs.Runs.{look, holds, variables, actions, count, act, black};
+ghost use Rattle.planning.specs.Runs.{look, holds, actions, count, act, black};
 ghost use Rattle.planning.specs.Painting.{fits};
 ghost use Rattle.planning.specs.Repair.{shortest};
 ghost use Rattle.table.specs.Table.{factsIn, Tabled};
 ghost use mathlib.Core.Option.{none};
 ghost use Rattle.state.specs.Sets.{inSet, setsOf, actionOf, Listed, singles};
-ghost use Rattle.state.specs.Chains.{Next, Sets};
 ghost use Rattle.paths.specs.Paths.{Ground, Member, Asked, lower, Leads, Enters, Marks, Kept, Apart, Memo, Put};
 
 // Where a list ends after more was written, or that it does not fit.

@@ -1,27 +1,25 @@
 -- The repair of a relaxed plan on the way to an answer: its entries are actions, it is refused or assessed by its length, and the
 -- checks before it pass.
 use mathlib.Core.Path.{_≡_, refl, sym, ap, _∙_, subst}
-use mathlib.Core.Bool.{Bool, true, false}
+use mathlib.Core.Bool.{Bool, true}
 use mathlib.Core.List.{List, [], _∷_, _++_}
-use mathlib.Core.Option.{Option, none, some}
-use Prim.Native.Nat.{ℕ, zero, suc, _+_, _-_, _*_, _<_, _≤_}
+use mathlib.Core.Option.{none}
+use Prim.Native.Nat.{ℕ, zero, suc, _<_, _≤_}
 use native.Mathlib.Omega.{arith}
 use borrow.Author.Tests.{lt-ltb, le-leb, lt-leb}
-use lib.Dec.{leb, ltb}
 use lib.ListN.{length, getD, take}
-use Rattle.planning.specs.Basics.{Check, refuse, check, andThen, inOrder, Answer, answer, refused, done, refuseAt}
+use Rattle.planning.specs.Basics.{Check, refuse, check, andThen, inOrder, Answer, answer, done, refuseAt}
 use Rattle.planning.specs.Record.{Task, taskOf, recordCheck}
 use Rattle.planning.specs.Runs.{actions, relaxed, real, black, isPlan, costOf, stepsRun, act, initial, Judged, judged}
-use Rattle.planning.specs.Relaxed.{reachesGoals, factsReached, relaxedPlan}
+use Rattle.planning.specs.Relaxed.{reachesGoals, relaxedPlan}
 use Rattle.planning.specs.Painting.{cyclic, unreturned, acyclicCheck, returnCheck}
 use Rattle.planning.specs.Repair.{order, repaired}
 use Rattle.planning.specs.Calls.{capacity, capacityOf, roomCheck, goalsCheck, notBelow, entriesCheck, Planned as Result, lengthCheck, relaxedCheck, planned, planOf, planCall, repairCall}
 use Rattle.planning.proofs.Steps.{All}
 use Rattle.planning.proofs.Plans.{isPlan-elim}
-use Rattle.planning.proofs.Formed.{Formed, formed-of}
+use Rattle.planning.proofs.Formed.{formed-of}
 use Rattle.planning.proofs.Painting.{repaired-is-plan}
-use Rattle.planning.proofs.Achievers.{relaxedPlan-is-plan}
-use Rattle.planning.proofs.Checks.{Passed, andThen-none, andThen-assoc, refuseAt-none, inOrder-passed, inOrder-last, inOrder-++}
+use Rattle.planning.proofs.Checks.{andThen-none, andThen-assoc, refuseAt-none, inOrder-passed, inOrder-last, inOrder-++}
 use Rattle.planning.proofs.Calls.{planCall-none}
 use Rattle.painting.specs.declared.Painted.{Painted}
 use Rattle.painting.specs.declared.Painted.the-variants.{Accepted}
@@ -46,7 +44,7 @@ use Rattle.repair.specs.Repairs.{Setting}
 use Rattle.planner.specs.declared.Planned.{Planned}
 use Rattle.planner.specs.declared.Planned.the-variants.{Plan, Refused}
 use Rattle.planner.specs.Answers.{answerOf}
-use Rattle.planner.specs.Drafts.{Grounded, InFront, Drafted}
+use Rattle.planner.specs.Drafts.{Grounded, Drafted}
 
 -- entries below a bound
 all-entries : (n : ℕ) (l : List ℕ) → All (λ i. i < n) l → (k : ℕ) → k < length l → getD l k 0 < n

@@ -1,21 +1,21 @@
 -- The cost of a list in the middle, and the front part of a list.
-use mathlib.Core.Path.{_≡_, refl, sym, ap, _∙_, subst}
+use mathlib.Core.Path.{_≡_, refl, sym, _∙_}
 use mathlib.Core.Bool.{Bool}
-use mathlib.Core.List.{List, [], _∷_}
+use mathlib.Core.List.{List}
 use mathlib.Core.Option.{none}
-use Prim.Native.Nat.{ℕ, zero, suc, _+_, _*_, _<_, _≤_}
+use Prim.Native.Nat.{ℕ, _+_, _*_, _<_, _≤_}
 use native.Mathlib.Numerals.{add-one}
 use native.Mathlib.Omega.{arith}
 use lib.ListN.{length, getD, take, drop}
 use lib.Seq.{drop-cons, drop-length, take-all}
 use Rattle.planning.specs.Record.{Task, taskOf, recordCheck}
-use Rattle.planning.specs.Runs.{actions, act, costOf}
-use Rattle.planning.proofs.Formed.{Formed, formed-of}
-use Rattle.table.specs.Table.{Tabled, costAt}
+use Rattle.planning.specs.Runs.{act, costOf}
+use Rattle.planning.proofs.Formed.{formed-of}
+use Rattle.table.specs.Table.{Tabled}
 use Rattle.planning.specs.Calls.{runnable}
 use Rattle.passes.specs.Passes.{Entries}
 use Rattle.planner.specs.declared.Planned.{Planned}
-use Rattle.planner.specs.declared.Planned.the-variants.{Plan, Refused}
+use Rattle.planner.specs.declared.Planned.the-variants.{Plan}
 use Rattle.planner.specs.Answers.{answerOf}
 
 pub record Summing (t : Task) (l : List ℕ) (sum k : ℕ) : Type 0 where

@@ -1,11 +1,11 @@
 -- The lists when a call ends: the plan stays in front, 65,535 behind it, and what demand 3 says of the plan it says of the list.
 use mathlib.Core.Path.{_≡_, refl, sym, ap, _∙_, subst}
 use mathlib.Core.List.{List, _++_}
-use Prim.Native.Nat.{ℕ, _-_, _≤_, sub·zero}
+use Prim.Native.Nat.{ℕ, _-_, sub·zero}
 use native.Mathlib.Omega.{arith}
 use lib.ListN.{length, take, replicate, length-take}
 use lib.Seq.{length-take-le, take-append-seam}
-use Rattle.planning.specs.Basics.{Answer, refused, done}
+use Rattle.planning.specs.Basics.{Answer}
 use Rattle.planning.specs.Record.{Task, taskOf}
 use Rattle.planning.specs.Calls.{lent, planIn, Planned as Result, planOf, planCall, planList, repairCall, repairList, workList}
 use Rattle.planning.specs.Existence.{ReturnsPlan, Complete, Demand3, Bounded}
@@ -15,7 +15,7 @@ use Rattle.planning.proofs.Demand3.{demand3}
 use Rattle.planner.specs.declared.Planned.{Planned}
 use Rattle.planner.specs.declared.Planned.the-variants.{Plan, Refused}
 use Rattle.planner.specs.Answers.{answerOf, stepsOf}
-use Rattle.planner.specs.Drafts.{InFront, Drafted}
+use Rattle.planner.specs.Drafts.{Drafted}
 
 pub finished : (a : Planned) (n : ℕ) (l l′ : List ℕ) → n ≡ stepsOf a → l′ ≡ take n l ++ replicate (length l - n) 65535 → l′ ≡ lent (answerOf a) (length l) (planIn (answerOf a) l)
 unfolding lent planIn

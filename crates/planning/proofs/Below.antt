@@ -10,7 +10,7 @@ use native.Mathlib.Omega.{arith}
 use native.Mathlib.Decide.{ℕ-discrete}
 use native.Mathlib.Nat.{mul-assoc}
 use Rattle.planning.specs.Basics.{someBelow, oneIf, tally, first, total, times}
-use Rattle.planning.proofs.Tests.{or-l, or-r, or-cases, and-l, and-r, and-i}
+use Rattle.planning.proofs.Tests.{or-l, or-r, or-cases}
 
 -- below a successor
 pub below-cases : (i n : ℕ) → i < suc n → (i < n) ⊎ (i ≡ n)

@@ -1,8 +1,8 @@
 -- The checks of a record, case by case: what each test in the code says of the definition's checks.
 use mathlib.Core.Path.{_≡_, refl, sym, ap, _∙_}
-use mathlib.Core.Bool.{Bool, true, false, _&&_, and-false}
-use mathlib.Core.List.{List, [], _∷_, _++_}
-use mathlib.Core.Option.{Option, none, some}
+use mathlib.Core.Bool.{Bool, true, false, _&&_}
+use mathlib.Core.List.{List, _∷_, _++_}
+use mathlib.Core.Option.{none}
 use Prim.Native.Nat.{ℕ, zero, suc, _+_, _-_, _*_, _/_, _%_, _^_, _≤_, _<_}
 use native.Mathlib.Nat.{lt-of-lt-of-le}
 use lib.Pow.{pow-mono}
@@ -12,7 +12,7 @@ use native.Mathlib.Decide.{ℕ-discrete, decLt}
 use lib.Dec.{eqb, leb, ltb}
 use lib.ListN.{length, getD, set, replicate, length-set}
 use lib.Seq.{getD-set-same, getD-set-other}
-use Rattle.planning.specs.Basics.{Check, refuse, check, andThen, inOrder, Answer, answer, refused, done, bitsAt, holdsField}
+use Rattle.planning.specs.Basics.{refuse, check, andThen, inOrder, Answer, answer, refused, done, bitsAt, holdsField}
 use Rattle.planning.specs.Record.{variablesIn, actionsIn, countIn, headerChecks, recordChecks, recordCheck, preconditionsIn, effectsIn, effectsFrom, actionEnd, actionsEnd, fieldCheck, goalFits, variableChecks, variablesChecks, endsAt, recordEnd, factChecks, factsChecks, actionChecks, actionsChecks}
 use Rattle.planning.proofs.Fields.{actionEnd-le, actionsEnd-le}
 use Rattle.bits.proofs.Window.{bitsAt-lt, bitsAt-add}
@@ -20,7 +20,7 @@ use Rattle.bits.proofs.Stages.{stage-passes, skip, skip-stage, stops-stage, pas
 use Rattle.bits.specs.Windows.{Leading}
 use Rattle.bits.specs.declared.Refusal.{Refusal}
 use Rattle.bits.specs.declared.Read.{Read}
-use Rattle.bits.specs.declared.Read.the-variants.{Value, Refused}
+use Rattle.bits.specs.declared.Read.the-variants.{Refused}
 use Rattle.bits.specs.Answers.{readOf}
 use Rattle.record.specs.Stages.{Counts, Sound, Few, SoundVariable, fromEnd, fromActions, fromVariables, fromActionCount, fromVariableCount, actionFactsChecks, initialChecks, goalChecks}
 

@@ -1,10 +1,10 @@
 -- The checks of a record from a place on, as the functions of the check take them up, and what their answers say.
 use mathlib.Core.Path.{_≡_}
-use mathlib.Core.Bool.{Bool, _&&_}
+use mathlib.Core.Bool.{_&&_}
 use mathlib.Core.List.{List, [], _∷_, _++_}
 use mathlib.Core.Option.{none}
 use Prim.Native.Nat.{ℕ, _+_, _*_, _/_, _%_, _≤_, _<_}
-use lib.Dec.{eqb, leb, ltb}
+use lib.Dec.{leb, ltb}
 use lib.ListN.{length, getD}
 use Rattle.planning.specs.Basics.{Check, refuse, check, inOrder, bitsAt}
 use Rattle.planning.specs.Record.{variablesIn, actionsIn, countIn, preconditionsIn, effectsIn, effectsFrom, fieldCheck, goalFits, variablesChecks, factsChecks, actionsChecks, endsAt, recordEnd}

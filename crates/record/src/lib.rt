@@ -8,7 +8,7 @@ ghost use mathlib.Core.Path.{_≡_};
 ghost use mathlib.Core.Bool.{true};
 ghost use mathlib.Core.Option.{none};
 ghost use Prim.Native.Nat.{_+_, _*_, _<_, _≤_};
-ghost use lib.ListN.{length, drop};
+ghost use lib.ListN.{length};
 ghost use Rattle.planning.specs.Basics.{answer, done, inOrder, bitsAt};
 ghost use Rattle.planning.specs.Record.{variablesIn, actionsIn, preconditionsIn, effectsIn, actionEnd, actionsEnd, recordEnd, fieldCheck, variableChecks, variablesChecks, factChecks, factsChecks, actionChecks, actionsChecks, recordCheck};
 ghost use Rattle.bits.specs.Answers.{readOf};

@@ -1,16 +1,16 @@
 -- The relaxed plan's answer and its list, at each end.
-use mathlib.Core.Path.{_≡_, refl, sym, ap, _∙_, fun-ext}
-use mathlib.Core.Bool.{Bool, true, false, _||_, or-false}
-use mathlib.Core.List.{List, [], _∷_, _++_}
-use mathlib.Core.Option.{Option, none, some}
-use Prim.Native.Nat.{ℕ, _+_, _-_, _<_, _≤_}
+use mathlib.Core.Path.{_≡_, refl, sym, _∙_, fun-ext}
+use mathlib.Core.Bool.{true, false, _||_, or-false}
+use mathlib.Core.List.{List, _++_}
+use mathlib.Core.Option.{none}
+use Prim.Native.Nat.{ℕ, _-_, _≤_}
 use native.Mathlib.Omega.{arith}
 use Rattle.forward.proofs.Chains.{zeros}
-use lib.ListN.{length, take, drop, replicate, length-drop, length-append}
+use lib.ListN.{length, drop, replicate, length-drop, length-append}
 use lib.Seq.{take-at}
-use Rattle.planning.specs.Basics.{Check, refuse, Answer, refused, done}
+use Rattle.planning.specs.Basics.{refuse, refused, done}
 use Rattle.planning.specs.Record.{Task, taskOf, recordCheck}
-use Rattle.planning.specs.Runs.{State, has}
+use Rattle.planning.specs.Runs.{State}
 use Rattle.planning.specs.Relaxed.{reachesGoals, factsReached, relaxedPlan}
 use Rattle.planning.specs.Calls.{capacity, roomCheck, relaxCall, relaxList}
 use Rattle.state.specs.Sets.{setsOf}

@@ -1,8 +1,8 @@
 -- The loops of the relaxed plan: facts that join sets, the test whether an action is kept, and the way back over the run.
 use mathlib.Core.Path.{_≡_, refl, sym, ap, _∙_, subst, fun-ext}
-use mathlib.Core.Logic.{_⊎_, inl, inr, _≢_}
-use mathlib.Core.Bool.{Bool, true, false, not, _&&_, _||_}
-use mathlib.Core.List.{List, [], _∷_, _++_}
+use mathlib.Core.Logic.{_≢_}
+use mathlib.Core.Bool.{Bool, true, false, _&&_, _||_}
+use mathlib.Core.List.{List, [], _∷_}
 use mathlib.Core.Option.{Option, none, some}
 use Prim.Native.Nat.{ℕ, zero, suc, _+_, _-_, _*_, _/_, _%_, _^_, _<_, _≤_}
 use native.Mathlib.Numerals.{add-one}
@@ -11,16 +11,16 @@ use native.Mathlib.Decide.{ℕ-discrete}
 use borrow.Author.Tests.{eq-eqb, ne-eqb}
 use lib.Bits.{bitOr}
 use lib.Dec.{T, eqb, eqb-refl}
-use lib.ListN.{length, getD, set, take, drop, length-set}
-use lib.Seq.{getD-set-same, getD-set-other, getD-take, drop-cons, drop-length, set-split, drop-set-lt, length-take-le}
+use lib.ListN.{length, getD, set, drop, length-set}
+use lib.Seq.{getD-set-same, getD-set-other, getD-take, drop-cons, drop-length, drop-set-lt, length-take-le}
 use Rattle.planning.specs.Record.{Fact, Action, Task, taskOf}
-use Rattle.planning.specs.Runs.{State, has, holds, actions, act, variables, count, initial, goals}
+use Rattle.planning.specs.Runs.{State, has, actions, act, variables, count, initial, goals}
 use Rattle.planning.specs.Relaxed.{forwardRun, firstAchiever, is, reachedNeeded, keep, relaxedPlan}
-use Rattle.planning.proofs.Tests.{or-l, or-r, and-l, and-r, and-i}
+use Rattle.planning.proofs.Tests.{or-l, or-r, and-i}
 use Rattle.planning.proofs.Steps.{All}
 use Rattle.planning.proofs.Formed.{Formed, formed-of, sorted-has}
 use Rattle.planning.proofs.Forward.{forwardRun-ran}
-use Rattle.table.specs.Table.{factOf, factsIn, preAt, effAt, endAt}
+use Rattle.table.specs.Table.{factOf, factsIn}
 use Rattle.state.specs.Sets.{inSet, setsOf, actionOf, Listed}
 use Rattle.state.proofs.Members.{inSet-or, inSet-single}
 use Rattle.state.proofs.Tabled.{tabled-action, tabled-listed}

@@ -1,13 +1,13 @@
 -- The relaxed plan on the way: the run is gone through from its last action, the kept ones stand at the end of a list, and the
 -- needed facts are sets.
 use mathlib.Core.Path.{_≡_}
-use mathlib.Core.Bool.{Bool, true, false}
+use mathlib.Core.Bool.{true, false}
 use mathlib.Core.List.{List}
 use mathlib.Core.Option.{Option, none, some}
-use Prim.Native.Nat.{ℕ, _+_, _*_, _<_, _≤_}
+use Prim.Native.Nat.{ℕ, _+_, _*_, _≤_}
 use lib.ListN.{length, getD, take, drop}
 use Rattle.planning.specs.Record.{Task, taskOf, recordCheck}
-use Rattle.planning.specs.Runs.{State, act, initial, goals}
+use Rattle.planning.specs.Runs.{act, initial, goals}
 use Rattle.planning.specs.Relaxed.{forwardRun, reachesGoals, factsReached, firstAchiever, keep, relaxedPlan}
 use Rattle.bits.specs.declared.Refusal.{Refusal}
 use Rattle.table.specs.Table.{Tabled}

@@ -1,10 +1,10 @@
 -- Moves for wanted facts, and an action behind them: the facts are a part of the table, the action's preconditions.
 use mathlib.Core.Path.{_≡_, refl, sym, ap, _∙_, subst}
 use mathlib.Core.Bool.{Bool, true, false}
-use mathlib.Core.List.{List, [], _∷_, _++_, append-nil, map}
+use mathlib.Core.List.{List, [], append-nil, map}
 use Prim.Native.Nat.{ℕ, _+_, _-_, _<_, _≤_}
 use native.Mathlib.Omega.{arith}
-use lib.ListN.{length, getD, take, drop, length-drop}
+use lib.ListN.{length, take, drop, length-drop}
 use lib.Seq.{take-length, take-add, drop-at, getD-take, getD-drop, length-take-le}
 use Rattle.planning.specs.Record.{Fact, Action, Task, taskOf}
 use Rattle.planning.specs.Runs.{State, Mode, actions, act, black}
@@ -13,9 +13,8 @@ use Rattle.table.specs.Table.{factOf, factsIn, preAt, effAt}
 use Rattle.state.specs.Sets.{Listed, actionOf}
 use Rattle.paths.specs.Paths.{Put, Ground}
 use Rattle.paths.specs.declared.Written.{Written}
-use Rattle.paths.specs.declared.Written.the-variants.{Upto, Long}
+use Rattle.paths.specs.declared.Written.the-variants.{Upto}
 use Rattle.paths.proofs.Arriving.{ground-formed, ground-listed, ground-act}
-use Rattle.passes.specs.Passes.{Fitting}
 use Rattle.passes.proofs.Putting.{pre-fitting}
 use Rattle.repair.specs.Repairs.{Wanted, filled, movesFor}
 

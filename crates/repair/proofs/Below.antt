@@ -1,12 +1,12 @@
 -- Entries of the lists that passes build are actions; parts of a list that was written.
 use mathlib.Core.Path.{_≡_, refl, sym, ap, _∙_, subst, fun-ext}
 use mathlib.Core.Bool.{Bool, true, false, _&&_, _||_}
-use mathlib.Core.List.{List, [], _∷_, _++_, append-assoc}
+use mathlib.Core.List.{List, [], _∷_, _++_}
 use mathlib.Core.Option.{Option, none, some}
 use Prim.Native.Nat.{ℕ, zero, suc, _+_, _-_, _<_, _≤_}
 use native.Mathlib.Omega.{arith}
 use lib.Dec.{T, eqb}
-use lib.ListN.{length, getD, take, drop, length-append, length-take, length-drop}
+use lib.ListN.{length, getD, take, drop}
 use lib.Seq.{take-add, take-at, drop-at, length-take-le}
 use Rattle.planning.specs.Basics.{first, reach}
 use Rattle.planning.specs.Record.{Fact, Action, Task}
@@ -14,7 +14,7 @@ use Rattle.planning.specs.Runs.{State, Mode, relaxed, run, look, variables, act
 use Rattle.planning.specs.Painting.{target}
 use Rattle.planning.specs.Repair.{usableArc, adjacent, pathIn, shortest, toward, after, pass, fill, ready, clientsFirst, order, value, blackMet}
 use Rattle.planning.proofs.Tests.{and-l}
-use Rattle.planning.proofs.Below.{First, First?, first-is}
+use Rattle.planning.proofs.Below.{First?, first-is}
 use Rattle.planning.proofs.Steps.{All, all-append}
 use Rattle.passes.specs.Passes.{pathsOf, Entries}
 use Rattle.state.specs.Sets.{setsOf, modeOf}

@@ -1,18 +1,16 @@
 -- The goals as a front part of a list of facts; the capacity; and the answer from the front parts of both lists.
 use mathlib.Core.Path.{_≡_, refl, sym, ap, _∙_, subst}
-use mathlib.Core.List.{List, [], _∷_, _++_, map}
-use Prim.Native.Nat.{ℕ, _+_, _-_, _<_, _≤_, min}
+use mathlib.Core.List.{List, [], _++_, map}
+use Prim.Native.Nat.{ℕ, _<_, _≤_, min}
 use native.Mathlib.Omega.{arith}
-use lib.ListN.{length, getD, take, drop}
+use lib.ListN.{length, getD, take}
 use lib.Seq.{take-length, getD-take, length-take-le, take-append-le}
-use Rattle.planning.specs.Record.{Fact, Task}
+use Rattle.planning.specs.Record.{Task}
 use Rattle.planning.specs.Runs.{variables, count, goals}
 use Rattle.planning.specs.Calls.{capacity, capacityOf}
 use Rattle.planning.proofs.Facts.{look-some}
 use Rattle.planning.proofs.Formed.{Formed, sorted-has, goals-sorted}
 use Rattle.table.specs.Table.{factOf, factsIn}
-use Rattle.state.specs.Sets.{GoalsOf}
-use Rattle.state.specs.declared.Goals.{Goals}
 use Rattle.paths.specs.Paths.{Put}
 use Rattle.paths.specs.declared.Written.{Written}
 use Rattle.paths.specs.declared.Written.the-variants.{Upto, Long}

@@ -1,14 +1,14 @@
 -- The passes in the middle: the moves so far stand in the plan from place a up to e, and the passes of the variables left, over
 -- them, are all the passes.
-use mathlib.Core.Path.{_≡_, refl, sym, ap, _∙_, subst}
-use mathlib.Core.List.{List, [], _∷_, _++_}
+use mathlib.Core.Path.{_≡_, refl, ap, _∙_, subst}
+use mathlib.Core.List.{List, []}
 use Prim.Native.Nat.{ℕ, _+_, _-_, _<_, _≤_}
 use native.Mathlib.Numerals.{add-one}
 use native.Mathlib.Omega.{arith}
 use lib.Dec.{T}
 use lib.ListN.{length, getD, take, drop, length-drop}
 use lib.Seq.{drop-cons, drop-length, take-add, length-take-le}
-use Rattle.planning.specs.Record.{Fact, Task, taskOf}
+use Rattle.planning.specs.Record.{Fact, Task}
 use Rattle.planning.specs.Runs.{State, variables, count, act, black}
 use Rattle.planning.specs.Repair.{pass, fill, value, order}
 use Rattle.planning.proofs.Fill.{fill-grows}

@@ -2,23 +2,23 @@
 -- whatever it is, and the code needs only what is known of it.
 use mathlib.Core.Path.{_≡_, refl, sym, ap, _∙_, subst, fun-ext}
 use mathlib.Core.Bool.{Bool, true, false}
-use mathlib.Core.List.{List, [], _∷_, _++_, append-assoc, append-nil}
-use Prim.Native.Nat.{ℕ, zero, suc, _+_, _-_, _<_, _≤_}
+use mathlib.Core.List.{List, _++_, append-assoc}
+use Prim.Native.Nat.{ℕ, _+_, _<_, _≤_}
 use native.Mathlib.Numerals.{add-one}
 use native.Mathlib.Omega.{arith}
 use lib.Dec.{T}
 use lib.ListN.{length, getD, take, drop, length-append}
 use lib.Seq.{drop-cons, drop-length, length-take-le}
 use Rattle.planning.specs.Record.{Fact, Task}
-use Rattle.planning.specs.Runs.{State, Mode, relaxed, run, initial, goals, actions, count, act, black}
-use Rattle.planning.specs.Repair.{known, everAfter, moves, order, fill, value, blackMet, repairFrom, repaired}
+use Rattle.planning.specs.Runs.{State, relaxed, run, initial, goals, actions, count, act, black}
+use Rattle.planning.specs.Repair.{known, everAfter, moves, order, repairFrom, repaired}
 use Rattle.planning.proofs.Facts.{_⊆_}
 use Rattle.planning.proofs.Known.{_≈_, known-start, known-run, everAfter-now}
 use Rattle.state.specs.Sets.{setsOf}
 use Rattle.paths.specs.Paths.{Put}
 use Rattle.paths.specs.declared.Written.{Written}
 use Rattle.paths.specs.declared.Written.the-variants.{Upto, Long}
-use Rattle.repair.specs.Repairs.{movesFor, stepsFor, Ran, filled}
+use Rattle.repair.specs.Repairs.{movesFor, stepsFor, Ran}
 
 bool-same : (a b : Bool) → (T a → T b) → (T b → T a) → a ≡ b
 bool-same true true f g = refl

@@ -1,23 +1,23 @@
 -- The small loops of the repair: the present value, the copy back, the test of black facts, actions applied in place.
-use mathlib.Core.Path.{_≡_, refl, sym, ap, _∙_, subst}
+use mathlib.Core.Path.{_≡_, refl, sym, _∙_, subst}
 use mathlib.Core.Bool.{Bool, true, false, not, _&&_, _||_}
-use mathlib.Core.List.{List, [], _∷_, _++_, append-assoc, append-nil}
+use mathlib.Core.List.{List, _∷_}
 use mathlib.Core.Option.{Option, none, some}
-use Prim.Native.Nat.{ℕ, zero, suc, _+_, _-_, _*_, _/_, _%_, _^_, _<_, _≤_}
+use Prim.Native.Nat.{ℕ, _+_, _/_, _%_, _^_, _<_, _≤_}
 use native.Mathlib.Numerals.{add-one}
 use native.Mathlib.Omega.{arith}
 use native.Mathlib.Decide.{decLt}
 use borrow.Author.Tests.{eq-eqb, ne-eqb}
 use lib.Count.{trailingZeros}
-use lib.Dec.{T, eqb}
-use lib.ListN.{length, getD, take, drop, set}
-use lib.Seq.{slice, slice-cons, slice-empty, drop-cons, drop-length, paste, paste-zero, paste-suc, length-paste}
+use lib.Dec.{T}
+use lib.ListN.{length, getD, drop, set}
+use lib.Seq.{slice-cons, slice-empty, drop-cons, drop-length, paste, paste-suc, length-paste}
 use Rattle.planning.specs.Basics.{first}
-use Rattle.planning.specs.Record.{Fact, Task, taskOf, recordCheck}
-use Rattle.planning.specs.Runs.{State, Mode, step, run, actions, act}
+use Rattle.planning.specs.Record.{Task, taskOf, recordCheck}
+use Rattle.planning.specs.Runs.{State, Mode, step, run, act}
 use Rattle.planning.specs.Painting.{orZero}
 use Rattle.planning.specs.Repair.{value, blackMet}
-use Rattle.planning.proofs.Below.{First, First?, first-is}
+use Rattle.planning.proofs.Below.{First?, first-is}
 use Rattle.planning.proofs.Formed.{formed-of}
 use Rattle.table.specs.Table.{factOf, factsIn, Tabled}
 use Rattle.state.specs.Sets.{inSet, setsOf, modeOf, actionOf, Listed}

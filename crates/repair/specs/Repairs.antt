@@ -1,11 +1,11 @@
 -- What the repair is handed, and its parts over the facts held ever: those of R and B (planning/proofs/Known.antt).
 use mathlib.Core.Path.{_≡_}
-use mathlib.Core.Bool.{Bool, true, false}
+use mathlib.Core.Bool.{true, false}
 use mathlib.Core.List.{List, [], _∷_, _++_}
-use Prim.Native.Nat.{ℕ, _+_, _<_, _≤_}
+use Prim.Native.Nat.{ℕ, _<_, _≤_}
 use lib.ListN.{length, getD, take}
 use Rattle.planning.specs.Record.{Fact, Task, taskOf}
-use Rattle.planning.specs.Runs.{State, relaxed, run, actions, count, act, black}
+use Rattle.planning.specs.Runs.{State, relaxed, run, count, act, black}
 use Rattle.planning.specs.Repair.{order, fill, value, blackMet}
 use Rattle.state.specs.Sets.{setsOf, modeOf}
 use Rattle.paths.specs.Paths.{Ground}

@@ -9,7 +9,7 @@ ghost use lib.ListN.{length, getD};
 ghost use Rattle.planning.specs.Record.{taskOf, recordCheck};
 ghost use Rattle.planning.specs.Runs.{holds, step, initial, goals, black, size};
 ghost use Rattle.table.specs.Table.{factsIn};
-ghost use Rattle.state.specs.Sets.{singles, inSet, mixed, setsOf, modeOf, actionOf, Listed, GoalsOf};
+ghost use Rattle.state.specs.Sets.{singles, mixed, setsOf, modeOf, actionOf, Listed, GoalsOf};
 
 // The 64 single-value sets. They serve membership, in `holds` alone. An index into the constant itself would copy the table
 // each time, so that it is lent.

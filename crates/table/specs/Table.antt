@@ -1,11 +1,11 @@
 -- The action table: what the layers above the record read instead of bits. Four numbers for each action (its cost, where its
 -- preconditions start, where its effects start, where they end), then the facts of all actions, each 64 × variable + value.
 use mathlib.Core.Path.{_≡_}
-use mathlib.Core.List.{List, [], _∷_, map}
+use mathlib.Core.List.{List, map}
 use Prim.Native.Nat.{ℕ, _+_, _*_, _/_, _%_, _<_, _≤_}
 use lib.ListN.{length, getD}
 use lib.Seq.{slice}
-use Rattle.planning.specs.Record.{Fact, Action, Task}
+use Rattle.planning.specs.Record.{Fact, Task}
 use Rattle.planning.specs.Runs.{actions, act}
 
 unfoldable pub factOf : ℕ → Fact

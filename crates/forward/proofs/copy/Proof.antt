@@ -2,14 +2,12 @@ use mathlib.Core.List.{_++_}
 use Rattle.forward.proofs.Answers.{copy-turn, copy-end}
 use lib.ListN.{length-set}
 use borrow.Author.Needs.{needs}
-use mathlib.Core.Path.{_≡_, refl, sym, ap, _∙_}
-use Prim.Native.Nat.{ℕ, _+_, _*_, _/_, _^_, _-_, _≤_, _<_}
+use mathlib.Core.Path.{_≡_, refl, _∙_}
+use Prim.Native.Nat.{_-_, _≤_}
 use native.Mathlib.Omega.{arith}
-use lib.ListN.{length, getD, take, drop, set, replicate}
+use lib.ListN.{length, take, drop}
 use Rattle.forward.proofs.copy.Statement.{statement}
 use Rattle.forward.proofs.copy.Tie as tie
-use Rattle.forward.proofs.copy.Reads as reads
-use Rattle.forward.proofs.copy.Lts as lts
 
 abbrev Inv-loop : tie.InvT-loop
 Inv-loop from to₀ k₀ to k = (k ≤ length from) × (length to ≡ length to₀) × (to ≡ take k from ++ drop k to₀)

@@ -1,15 +1,10 @@
-use mathlib.Core.Path.{_≡_, refl, sym, ap, _∙_}
+use mathlib.Core.Path.{sym, ap, _∙_}
 use lib.ListN.{length}
 use Rattle.record.specs.Stages.{checkedOf}
 use Rattle.forward.proofs.Answers.{forward-refused}
 use borrow.Author.Needs.{needs}
 use Rattle.forward.proofs.forward.Statement.{statement}
 use Rattle.forward.proofs.forward.Tie as tie
-use Rattle.forward.proofs.forward.Reads as reads
-use Rattle.forward.proofs.forward.Lts as lts
-use Rattle.forward.proofs.forward_accepted.Reads as forward-accepted-reads
-use Rattle.lists.proofs.blank.Reads as blank-reads
-use Rattle.record.proofs.check.Reads as check-reads
 
 check-requires : tie.Need-check-requires
 check-requires c κs = search needs

@@ -11,13 +11,6 @@ use Rattle.forward.proofs.Answers.{reached-facts, table-room, forward-u
 use borrow.Author.Needs.{needs}
 use Rattle.forward.proofs.forward_accepted.Statement.{statement}
 use Rattle.forward.proofs.forward_accepted.Tie as tie
-use Rattle.forward.proofs.forward_accepted.Reads as reads
-use Rattle.forward.proofs.forward_accepted.Lts as lts
-use Rattle.forward.proofs.lay.Reads as lay-reads
-use Rattle.forward.proofs.run_forward.Reads as run-forward-reads
-use Rattle.lists.proofs.blank.Reads as blank-reads
-use Rattle.state.proofs.State.reached.Reads as reached-reads
-use Rattle.table.proofs.load.Reads as load-reads
 
 slice-aggregate-load : tie.Need-slice-aggregate-load
 slice-aggregate-load c = search needs

@@ -1,16 +1,10 @@
-use mathlib.Core.Path.{_≡_, refl, sym, ap, _∙_}
+use mathlib.Core.Path.{sym, _∙_}
 use native.Mathlib.Omega.{arith}
 use lib.ListN.{length}
 use Rattle.forward.proofs.Answers.{room-short, room-fits, laid-short, laid-whole, capacity-le}
 use borrow.Author.Needs.{needs}
 use Rattle.forward.proofs.lay.Statement.{statement}
 use Rattle.forward.proofs.lay.Tie as tie
-use Rattle.forward.proofs.lay.Reads as reads
-use Rattle.forward.proofs.lay.Lts as lts
-use Rattle.forward.proofs.capacity.Reads as capacity-reads
-use Rattle.forward.proofs.copy.Reads as copy-reads
-use Rattle.lists.proofs.blank.Reads as blank-reads
-use Rattle.lists.proofs.blank_from.Reads as blank-from-reads
 
 capacity-requires : tie.Need-capacity-requires
 capacity-requires c κs = search needs

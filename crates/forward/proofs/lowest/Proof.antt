@@ -1,14 +1,9 @@
 use Rattle.forward.proofs.Bits.{Searching, searching-turn, searching-end, searching-found}
 use borrow.Author.Needs.{needs}
-use mathlib.Core.Path.{_≡_, refl, sym, ap, _∙_}
-use Prim.Native.Nat.{ℕ, _+_, _*_, _/_, _^_, _-_, _≤_, _<_}
+use Prim.Native.Nat.{_-_}
 use native.Mathlib.Omega.{arith}
-use lib.ListN.{length, getD, take, drop, set, replicate}
 use Rattle.forward.proofs.lowest.Statement.{statement}
 use Rattle.forward.proofs.lowest.Tie as tie
-use Rattle.forward.proofs.lowest.Reads as reads
-use Rattle.forward.proofs.lowest.Lts as lts
-use Rattle.forward.proofs.lowest_in.Reads as lowest-in-reads
 
 abbrev Inv-loop : tie.InvT-loop
 Inv-loop ready w₀ w = Searching ready w

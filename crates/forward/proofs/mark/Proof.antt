@@ -1,13 +1,11 @@
-use mathlib.Core.Path.{_≡_, refl, sym, ap, _∙_}
-use lib.ListN.{length, getD}
+use mathlib.Core.Path.{ap}
+use lib.ListN.{getD}
 use lib.Bits.{bitOr}
 use Rattle.state.proofs.Members.{one-shl}
 use Rattle.forward.proofs.Bits.{marked}
 use borrow.Author.Needs.{needs}
 use Rattle.forward.proofs.mark.Statement.{statement}
 use Rattle.forward.proofs.mark.Tie as tie
-use Rattle.forward.proofs.mark.Reads as reads
-use Rattle.forward.proofs.mark.Lts as lts
 
 mul-ready : tie.Need-mul-ready
 mul-ready c = search needs

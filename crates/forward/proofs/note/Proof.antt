@@ -1,20 +1,14 @@
 use mathlib.Core.Logic.{⊎-elim}
-use mathlib.Core.Bool.{not}
 use borrow.Author.Tests.{not-true, not-false}
 use Rattle.table.specs.Table.{effAt, endAt}
 use Rattle.state.specs.Sets.{setsOf, actionOf}
 use Rattle.forward.proofs.Places.{Noting, noting-start, noting-new, noting-old, noting-end, noting-answer}
 use borrow.Author.Needs.{needs}
-use mathlib.Core.Path.{_≡_, refl, sym, ap, _∙_}
-use Prim.Native.Nat.{ℕ, _+_, _*_, _/_, _^_, _-_, _≤_, _<_}
+use mathlib.Core.Path.{_≡_, sym, _∙_}
+use Prim.Native.Nat.{_-_, _<_}
 use native.Mathlib.Omega.{arith}
-use lib.ListN.{length, getD, take, drop, set, replicate}
 use Rattle.forward.proofs.note.Statement.{statement}
 use Rattle.forward.proofs.note.Tie as tie
-use Rattle.forward.proofs.note.Reads as reads
-use Rattle.forward.proofs.note.Lts as lts
-use Rattle.forward.proofs.wide.Reads as wide-reads
-use Rattle.state.proofs.holds.Reads as holds-reads
 
 abbrev Inv-loop : tie.InvT-loop
 Inv-loop masks sets table i first₀ to k₀ new₀ first k new = (to ≡ endAt table i) × Noting (setsOf sets) table (effAt table i) (endAt table i) i first₀ first k new

@@ -1,4 +1,4 @@
-use mathlib.Core.Path.{_≡_, refl, sym}
+use mathlib.Core.Path.{refl}
 use native.Mathlib.Omega.{arith}
 use Rattle.planning.proofs.Formed.{formed-of}
 use Rattle.state.proofs.Tabled.{tabled-listed}
@@ -6,14 +6,6 @@ use Rattle.forward.proofs.Looping.{looping-start}
 use borrow.Author.Needs.{needs}
 use Rattle.forward.proofs.run_forward.Statement.{statement}
 use Rattle.forward.proofs.run_forward.Tie as tie
-use Rattle.forward.proofs.run_forward.Reads as reads
-use Rattle.forward.proofs.run_forward.Lts as lts
-use Rattle.forward.proofs.run_on.Reads as run-on-reads
-use Rattle.forward.proofs.settle_each.Reads as settle-each-reads
-use Rattle.state.proofs.Goals.load.Reads as load-reads
-use Rattle.state.proofs.State.initial.Reads as initial-reads
-use Rattle.state.proofs.single_sets.Reads as single-sets-reads
-use Rattle.table.proofs.actions.Reads as actions-reads
 
 single-sets-requires : tie.Need-single-sets-requires
 single-sets-requires c κs = search needs

@@ -1,24 +1,15 @@
 use borrow.Author.Tests.{not-true, not-false}
-use mathlib.Core.Bool.{true, false}
+use mathlib.Core.Bool.{false}
 use Rattle.planning.specs.Runs.{holds}
 use Rattle.state.specs.Sets.{setsOf, actionOf}
 use Rattle.forward.specs.Running.{Looping}
 use Rattle.forward.proofs.Looping.{left, looping-listed, looping-solved, looping-none, chosen-listed, looping-drop, drop-less, take-room, take-sites, looping-take, take-less}
 use borrow.Author.Needs.{needs}
-use mathlib.Core.Path.{_≡_, refl, sym, ap, _∙_}
-use Prim.Native.Nat.{ℕ, _+_, _*_, _/_, _^_, _-_, _≤_, _<_}
+use mathlib.Core.Path.{_≡_, refl, sym, _∙_}
+use Prim.Native.Nat.{_<_}
 use native.Mathlib.Omega.{arith}
-use lib.ListN.{length, getD, take, drop, set, replicate}
 use Rattle.forward.proofs.run_on.Statement.{statement}
 use Rattle.forward.proofs.run_on.Tie as tie
-use Rattle.forward.proofs.run_on.Reads as reads
-use Rattle.forward.proofs.run_on.Lts as lts
-use Rattle.forward.proofs.lowest.Reads as lowest-reads
-use Rattle.forward.proofs.note.Reads as note-reads
-use Rattle.forward.proofs.unmark.Reads as unmark-reads
-use Rattle.forward.proofs.unmet.Reads as unmet-reads
-use Rattle.forward.proofs.wake.Reads as wake-reads
-use Rattle.state.proofs.State.step.Reads as step-reads
 
 abbrev Inv-loop : tie.InvT-loop
 Inv-loop bytes table masks actions head₀ next₀ ready₀ first₀ plan₀ goals count s₀ steps₀ g₀ head next ready first plan s steps g =

@@ -1,20 +1,12 @@
-use mathlib.Core.Path.{_≡_, refl, sym, ap, _∙_}
-use Prim.Native.Nat.{ℕ, _+_, _*_, _<_, _≤_}
+use mathlib.Core.Path.{_≡_, refl, _∙_}
 use native.Mathlib.Omega.{arith}
-use lib.ListN.{length, getD}
 use Rattle.table.specs.Table.{preAt, effAt}
-use Rattle.state.specs.Sets.{setsOf, actionOf}
-use Rattle.forward.specs.Waiting.{Unmet, With, goes, waits}
+use Rattle.state.specs.Sets.{setsOf}
+use Rattle.forward.specs.Waiting.{Unmet, goes, waits}
 use Rattle.forward.proofs.Places.{Waits, unmet-waits, unmet-goes}
 use borrow.Author.Needs.{needs}
 use Rattle.forward.proofs.settle.Statement.{statement}
 use Rattle.forward.proofs.settle.Tie as tie
-use Rattle.forward.proofs.settle.Reads as reads
-use Rattle.forward.proofs.settle.Lts as lts
-use Rattle.forward.proofs.hang.Reads as hang-reads
-use Rattle.forward.proofs.mark.Reads as mark-reads
-use Rattle.forward.proofs.unmet.Reads as unmet-reads
-use Rattle.forward.proofs.wide.Reads as wide-reads
 
 wide-requires : tie.Need-wide-requires
 wide-requires c κs = search needs

@@ -4,15 +4,9 @@ use Rattle.state.specs.Sets.{setsOf, actionOf}
 use Rattle.forward.specs.Waiting.{Sites}
 use Rattle.forward.proofs.Chains.{sites-ended, sites-spent, front, sites-settled}
 use borrow.Author.Needs.{needs}
-use mathlib.Core.Path.{_≡_, refl, sym, ap, _∙_}
-use Prim.Native.Nat.{ℕ, _+_, _*_, _/_, _^_, _-_, _≤_, _<_}
 use native.Mathlib.Omega.{arith}
-use lib.ListN.{length, getD, take, drop, set, replicate}
 use Rattle.forward.proofs.settle_all.Statement.{statement}
 use Rattle.forward.proofs.settle_all.Tie as tie
-use Rattle.forward.proofs.settle_all.Reads as reads
-use Rattle.forward.proofs.settle_all.Lts as lts
-use Rattle.forward.proofs.settle.Reads as settle-reads
 
 abbrev Inv-loop : tie.InvT-loop
 Inv-loop masks sets table actions head₀ next₀ ready₀ h from to j₀ left₀ head next ready j left = Sites (actionOf table) actions (setsOf sets) (has (factsIn table from to)) head next ready j left

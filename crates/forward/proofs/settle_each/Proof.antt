@@ -3,15 +3,11 @@ use Rattle.planning.specs.Runs.{has}
 use Rattle.state.specs.Sets.{setsOf, actionOf}
 use Rattle.forward.proofs.Chains.{Entered, entered-start, entered-turn}
 use borrow.Author.Needs.{needs}
-use mathlib.Core.Path.{_≡_, refl, sym, ap, _∙_}
-use Prim.Native.Nat.{ℕ, _+_, _*_, _/_, _^_, _-_, _≤_, _<_}
+use mathlib.Core.Path.{_≡_}
+use Prim.Native.Nat.{_-_, _≤_}
 use native.Mathlib.Omega.{arith}
-use lib.ListN.{length, getD, take, drop, set, replicate}
 use Rattle.forward.proofs.settle_each.Statement.{statement}
 use Rattle.forward.proofs.settle_each.Tie as tie
-use Rattle.forward.proofs.settle_each.Reads as reads
-use Rattle.forward.proofs.settle_each.Lts as lts
-use Rattle.forward.proofs.settle.Reads as settle-reads
 
 abbrev Inv-loop : tie.InvT-loop
 Inv-loop masks sets table actions head₀ next₀ ready₀ j₀ head next ready j = (j ≤ actions) × Entered (actionOf table) (setsOf sets) (has []) head next ready j

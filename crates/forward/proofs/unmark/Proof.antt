@@ -1,15 +1,13 @@
 use Rattle.state.specs.Sets.{setsOf}
 use Rattle.forward.specs.Waiting.{member}
-use mathlib.Core.Path.{_≡_, refl, sym, ap, _∙_}
+use mathlib.Core.Path.{ap}
 use Prim.Native.Nat.{_-_, _/_, _%_}
-use lib.ListN.{length, getD}
+use lib.ListN.{getD}
 use Rattle.state.proofs.Members.{one-shl}
 use Rattle.forward.proofs.Bits.{unmarked, inSet-le}
 use borrow.Author.Needs.{needs}
 use Rattle.forward.proofs.unmark.Statement.{statement}
 use Rattle.forward.proofs.unmark.Tie as tie
-use Rattle.forward.proofs.unmark.Reads as reads
-use Rattle.forward.proofs.unmark.Lts as lts
 
 mul-ready : tie.Need-mul-ready
 mul-ready c = search needs

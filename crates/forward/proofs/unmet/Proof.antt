@@ -1,19 +1,12 @@
-use Prim.Native.Nat.{_%_}
 use borrow.Author.Tests.{not-true, not-false}
 use Rattle.state.specs.Sets.{setsOf}
-use Rattle.forward.specs.Waiting.{reaches}
 use Rattle.forward.proofs.Places.{Passing, passing-turn, open-at}
 use borrow.Author.Needs.{needs}
-use mathlib.Core.Path.{_≡_, refl, sym, ap, _∙_}
-use Prim.Native.Nat.{ℕ, _+_, _*_, _/_, _^_, _-_, _≤_, _<_}
+use mathlib.Core.Path.{sym, _∙_}
+use Prim.Native.Nat.{_-_, _<_}
 use native.Mathlib.Omega.{arith}
-use lib.ListN.{length, getD, take, drop, set, replicate}
 use Rattle.forward.proofs.unmet.Statement.{statement}
 use Rattle.forward.proofs.unmet.Tie as tie
-use Rattle.forward.proofs.unmet.Reads as reads
-use Rattle.forward.proofs.unmet.Lts as lts
-use Rattle.forward.proofs.wide.Reads as wide-reads
-use Rattle.state.proofs.holds.Reads as holds-reads
 
 abbrev Inv-loop : tie.InvT-loop
 Inv-loop masks sets facts from to k₀ k = Passing (setsOf sets) facts from to k

@@ -1,4 +1,3 @@
-use mathlib.Core.List.{[]}
 use Rattle.planning.specs.Runs.{has}
 use Rattle.table.specs.Table.{factsIn, effAt, endAt}
 use Rattle.state.specs.Sets.{setsOf, actionOf}
@@ -6,16 +5,11 @@ use Rattle.forward.specs.Waiting.{Sites}
 use Rattle.forward.proofs.Places.{has-less, factsIn-none}
 use Rattle.forward.proofs.Chains.{sites-off}
 use borrow.Author.Needs.{needs}
-use mathlib.Core.Path.{_≡_, refl, sym, ap, _∙_}
-use Prim.Native.Nat.{ℕ, _+_, _*_, _/_, _^_, _-_, _≤_, _<_}
+use mathlib.Core.Path.{_≡_}
+use Prim.Native.Nat.{_-_, _≤_, _<_}
 use native.Mathlib.Omega.{arith}
-use lib.ListN.{length, getD, take, drop, set, replicate}
 use Rattle.forward.proofs.wake.Statement.{statement}
 use Rattle.forward.proofs.wake.Tie as tie
-use Rattle.forward.proofs.wake.Reads as reads
-use Rattle.forward.proofs.wake.Lts as lts
-use Rattle.forward.proofs.settle_all.Reads as settle-all-reads
-use Rattle.forward.proofs.wide.Reads as wide-reads
 
 abbrev Inv-loop : tie.InvT-loop
 Inv-loop masks sets table actions head₀ next₀ ready₀ i to k₀ head next ready k = (to ≡ endAt table i) × (effAt table i ≤ k) × (k ≤ to) × Sites (actionOf table) actions (setsOf sets) (has (factsIn table k to)) head next ready 65535 0

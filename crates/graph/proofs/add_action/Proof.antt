@@ -1,13 +1,8 @@
-use mathlib.Core.Path.{_∙_, refl}
+use mathlib.Core.Path.{_∙_}
 use Rattle.graph.proofs.Rows.{listed-effects, listed-facts, action-arcs, action-none}
 use borrow.Author.Needs.{needs}
 use Rattle.graph.proofs.add_action.Statement.{statement}
 use Rattle.graph.proofs.add_action.Tie as tie
-use Rattle.graph.proofs.add_action.Reads as reads
-use Rattle.graph.proofs.add_action.Lts as lts
-use Rattle.graph.proofs.add_arcs.Reads as add-arcs-reads
-use Rattle.graph.proofs.touched.Reads as touched-reads
-use Rattle.graph.proofs.wide.Reads as wide-reads
 
 mul-wide : tie.Need-mul-wide
 mul-wide c = search needs

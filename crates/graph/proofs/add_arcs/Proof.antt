@@ -1,15 +1,10 @@
 use Rattle.graph.proofs.Rows.{Adding, adding-end, adding-start, adding-turn, fact-variable}
 use borrow.Author.Needs.{needs}
-use mathlib.Core.Path.{_≡_, refl, sym, ap, _∙_}
-use Prim.Native.Nat.{ℕ, _+_, _*_, _/_, _^_, _-_, _≤_, _<_}
+use mathlib.Core.Path.{refl}
+use Prim.Native.Nat.{_-_}
 use native.Mathlib.Omega.{arith}
-use lib.ListN.{length, getD, take, drop, set, replicate}
 use Rattle.graph.proofs.add_arcs.Statement.{statement}
 use Rattle.graph.proofs.add_arcs.Tie as tie
-use Rattle.graph.proofs.add_arcs.Reads as reads
-use Rattle.graph.proofs.add_arcs.Lts as lts
-use Rattle.graph.proofs.joined.Reads as joined-reads
-use Rattle.graph.proofs.wide.Reads as wide-reads
 
 abbrev Inv-loop : tie.InvT-loop
 Inv-loop rows₀ table from to affected paint k₀ rows k = Adding table from to affected paint rows₀ rows k

@@ -1,14 +1,9 @@
 use Rattle.graph.proofs.Ways.{Closing, closing-start, closing-turn, closing-end}
 use borrow.Author.Needs.{needs}
-use mathlib.Core.Path.{_≡_, refl, sym, ap, _∙_}
-use Prim.Native.Nat.{ℕ, _+_, _*_, _/_, _^_, _-_, _≤_, _<_}
+use Prim.Native.Nat.{_-_}
 use native.Mathlib.Omega.{arith}
-use lib.ListN.{length, getD, take, drop, set, replicate}
 use Rattle.graph.proofs.closure.Statement.{statement}
 use Rattle.graph.proofs.closure.Tie as tie
-use Rattle.graph.proofs.closure.Reads as reads
-use Rattle.graph.proofs.closure.Lts as lts
-use Rattle.graph.proofs.join_at.Reads as join-at-reads
 
 abbrev Inv-loop : tie.InvT-loop
 Inv-loop n rows₀ k₀ rows k = Closing n rows₀ rows k

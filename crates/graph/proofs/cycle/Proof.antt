@@ -2,10 +2,6 @@ use Rattle.graph.proofs.Ways.{few-variables, blackArc-starts, cycle-fou
 use mathlib.Core.Path.{_∙_}
 use Rattle.graph.proofs.cycle.Statement.{statement}
 use Rattle.graph.proofs.cycle.Tie as tie
-use Rattle.graph.proofs.cycle.Reads as reads
-use Rattle.graph.proofs.cycle.Lts as lts
-use Rattle.graph.proofs.closure.Reads as closure-reads
-use Rattle.graph.proofs.lowest_on_cycle.Reads as lowest-on-cycle-reads
 
 closure-requires : tie.Need-closure-requires
 closure-requires c κs = let p = c .before .pre in (few-variables _ _ (p .0) (p .2), blackArc-starts _ _ _ (p .1) (p .2))

@@ -4,8 +4,6 @@ use Rattle.graph.proofs.Ways.{extended-row, same-row}
 use borrow.Author.Needs.{needs}
 use Rattle.graph.proofs.extended.Statement.{statement}
 use Rattle.graph.proofs.extended.Tie as tie
-use Rattle.graph.proofs.extended.Reads as reads
-use Rattle.graph.proofs.extended.Lts as lts
 
 shr-if1 : tie.Need-shr-if1
 shr-if1 c = search needs

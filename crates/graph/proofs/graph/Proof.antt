@@ -1,14 +1,9 @@
 use Rattle.graph.proofs.Rows.{Drawing, drawing-start, drawing-turn, drawing-end, given-listed}
 use borrow.Author.Needs.{needs}
-use mathlib.Core.Path.{_≡_, refl, sym, ap, _∙_}
-use Prim.Native.Nat.{ℕ, _+_, _*_, _/_, _^_, _-_, _≤_, _<_}
+use Prim.Native.Nat.{_-_}
 use native.Mathlib.Omega.{arith}
-use lib.ListN.{length, getD, take, drop, set, replicate}
 use Rattle.graph.proofs.graph.Statement.{statement}
 use Rattle.graph.proofs.graph.Tie as tie
-use Rattle.graph.proofs.graph.Reads as reads
-use Rattle.graph.proofs.graph.Lts as lts
-use Rattle.graph.proofs.add_action.Reads as add-action-reads
 
 abbrev Inv-loop : tie.InvT-loop
 Inv-loop bytes table paint actions rows₀ i₀ rows i = Drawing bytes actions rows i

@@ -4,8 +4,6 @@ use Rattle.graph.proofs.Clients.{ready-of, unready-of}
 use borrow.Author.Needs.{needs}
 use Rattle.graph.proofs.is_ready.Statement.{statement}
 use Rattle.graph.proofs.is_ready.Tie as tie
-use Rattle.graph.proofs.is_ready.Reads as reads
-use Rattle.graph.proofs.is_ready.Lts as lts
 
 shr-if1 : tie.Need-shr-if1
 shr-if1 c = search needs

@@ -1,14 +1,10 @@
 use Rattle.graph.proofs.Ways.{Joining, joining-start, joining-turn, joining-end}
 use borrow.Author.Needs.{needs}
-use mathlib.Core.Path.{_≡_, refl, sym, ap, _∙_}
-use Prim.Native.Nat.{ℕ, _+_, _*_, _/_, _^_, _-_, _≤_, _<_}
+use mathlib.Core.Path.{refl}
+use Prim.Native.Nat.{_-_}
 use native.Mathlib.Omega.{arith}
-use lib.ListN.{length, getD, take, drop, set, replicate}
 use Rattle.graph.proofs.join_at.Statement.{statement}
 use Rattle.graph.proofs.join_at.Tie as tie
-use Rattle.graph.proofs.join_at.Reads as reads
-use Rattle.graph.proofs.join_at.Lts as lts
-use Rattle.graph.proofs.extended.Reads as extended-reads
 
 abbrev Inv-loop : tie.InvT-loop
 Inv-loop rows₀ n k onward u₀ rows u = Joining n k rows₀ onward rows u

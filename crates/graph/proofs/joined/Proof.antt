@@ -4,8 +4,6 @@ use Rattle.graph.proofs.Rows.{joined-row, kept-row}
 use borrow.Author.Needs.{needs}
 use Rattle.graph.proofs.joined.Statement.{statement}
 use Rattle.graph.proofs.joined.Tie as tie
-use Rattle.graph.proofs.joined.Reads as reads
-use Rattle.graph.proofs.joined.Lts as lts
 
 shr-if1 : tie.Need-shr-if1
 shr-if1 c = search needs

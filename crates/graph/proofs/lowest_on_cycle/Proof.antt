@@ -2,14 +2,10 @@ use borrow.Author.Tests.{eq-eqb, ne-eqb}
 use Rattle.state.specs.Sets.{inSet, setsOf}
 use Rattle.graph.proofs.Searches.{Searched, searched-start, searched-turn, searched-hit, searched-end}
 use borrow.Author.Needs.{needs}
-use mathlib.Core.Path.{_≡_, refl, sym, ap, _∙_}
-use Prim.Native.Nat.{ℕ, _+_, _*_, _/_, _^_, _-_, _≤_, _<_}
+use Prim.Native.Nat.{_-_}
 use native.Mathlib.Omega.{arith}
-use lib.ListN.{length, getD, take, drop, set, replicate}
 use Rattle.graph.proofs.lowest_on_cycle.Statement.{statement}
 use Rattle.graph.proofs.lowest_on_cycle.Tie as tie
-use Rattle.graph.proofs.lowest_on_cycle.Reads as reads
-use Rattle.graph.proofs.lowest_on_cycle.Lts as lts
 
 abbrev Inv-loop : tie.InvT-loop
 Inv-loop rows n v₀ v = Searched n (λ u. setsOf rows u u) v

@@ -3,15 +3,11 @@ use Rattle.planning.specs.Basics.{someBelow}
 use Rattle.state.specs.Sets.{inSet, setsOf}
 use Rattle.graph.proofs.Searches.{Searched, searched-start, searched-turn, searched-hit, searched-end}
 use borrow.Author.Needs.{needs}
-use mathlib.Core.Path.{_≡_, refl, sym, ap, _∙_}
-use Prim.Native.Nat.{ℕ, _+_, _*_, _/_, _^_, _-_, _≤_, _<_}
+use mathlib.Core.Path.{sym, _∙_}
+use Prim.Native.Nat.{_-_}
 use native.Mathlib.Omega.{arith}
-use lib.ListN.{length, getD, take, drop, set, replicate}
 use Rattle.graph.proofs.lowest_ready.Statement.{statement}
 use Rattle.graph.proofs.lowest_ready.Tie as tie
-use Rattle.graph.proofs.lowest_ready.Reads as reads
-use Rattle.graph.proofs.lowest_ready.Lts as lts
-use Rattle.graph.proofs.is_ready.Reads as is-ready-reads
 
 abbrev Inv-loop : tie.InvT-loop
 Inv-loop rows left n v₀ v = Searched n (λ w. inSet left w && not (someBelow 64 (λ u. inSet left u && setsOf rows w u))) v

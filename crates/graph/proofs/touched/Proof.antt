@@ -1,14 +1,10 @@
 use Rattle.graph.proofs.Rows.{Touching, fact-variable, touching-end, touching-start, touching-turn}
 use borrow.Author.Needs.{needs}
-use mathlib.Core.Path.{_≡_, refl, sym, ap, _∙_}
-use Prim.Native.Nat.{ℕ, _+_, _*_, _/_, _^_, _-_, _≤_, _<_}
+use Prim.Native.Nat.{_-_}
 use native.Mathlib.Omega.{arith}
-use lib.ListN.{length, getD, take, drop, set, replicate}
+use lib.ListN.{set}
 use Rattle.graph.proofs.touched.Statement.{statement}
 use Rattle.graph.proofs.touched.Tie as tie
-use Rattle.graph.proofs.touched.Reads as reads
-use Rattle.graph.proofs.touched.Lts as lts
-use Rattle.graph.proofs.wide.Reads as wide-reads
 
 abbrev Inv-loop : tie.InvT-loop
 Inv-loop table from to set₀ k₀ set k = Touching table from to set k

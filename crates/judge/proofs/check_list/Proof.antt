@@ -9,10 +9,6 @@ use Rattle.judge.specs.Answers.{leading}
 use Rattle.judge.proofs.Lists.{long-refused, list-refused, list-passed}
 use Rattle.judge.proofs.check_list.Statement.{statement}
 use Rattle.judge.proofs.check_list.Tie as tie
-use Rattle.judge.proofs.check_list.Reads as reads
-use Rattle.judge.proofs.check_list.Lts as lts
-use Rattle.judge.proofs.leading.Reads as leading-reads
-use Rattle.table.proofs.actions.Reads as actions-reads
 
 returns : tie.Need-returns
 returns c = let a = c .before .before .before .args in long-refused (entriesCheck (taskOf (a .bytes .now)) (a .list .now)) (a .list .now) (omega arith)

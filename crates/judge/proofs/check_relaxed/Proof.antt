@@ -12,12 +12,6 @@ use Rattle.judge.proofs.Lists.{long-refused}
 use Rattle.judge.proofs.Relaxed.{front-entries, relaxed-passed, relaxed-refused}
 use Rattle.judge.proofs.check_relaxed.Statement.{statement}
 use Rattle.judge.proofs.check_relaxed.Tie as tie
-use Rattle.judge.proofs.check_relaxed.Reads as reads
-use Rattle.judge.proofs.check_relaxed.Lts as lts
-use Rattle.judge.proofs.judge_one.Reads as judge-one-reads
-use Rattle.judge.proofs.leading.Reads as leading-reads
-use Rattle.state.proofs.single_sets.Reads as single-sets-reads
-use Rattle.table.proofs.actions.Reads as actions-reads
 
 returns : tie.Need-returns
 returns c = let a = c .before .before .before .before .args in long-refused (relaxedCheck (taskOf (a .bytes .now)) (a .list .now)) (a .list .now) (omega arith)

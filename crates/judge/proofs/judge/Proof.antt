@@ -2,10 +2,6 @@ use borrow.Author.Needs.{needs}
 use Rattle.judge.proofs.Entry.{accepted, handed-on, judge-refused}
 use Rattle.judge.proofs.judge.Statement.{statement}
 use Rattle.judge.proofs.judge.Tie as tie
-use Rattle.judge.proofs.judge.Reads as reads
-use Rattle.judge.proofs.judge.Lts as lts
-use Rattle.judge.proofs.judge_accepted.Reads as judge-accepted-reads
-use Rattle.record.proofs.check.Reads as check-reads
 
 check-requires : tie.Need-check-requires
 check-requires c κs = search needs

@@ -6,10 +6,6 @@ use Rattle.bits.proofs.Stages.{passed, handed-on}
 use Rattle.judge.proofs.Entry.{listCheck, judge-list, judge-done, list-ready}
 use Rattle.judge.proofs.judge_accepted.Statement.{statement}
 use Rattle.judge.proofs.judge_accepted.Tie as tie
-use Rattle.judge.proofs.judge_accepted.Reads as reads
-use Rattle.judge.proofs.judge_accepted.Lts as lts
-use Rattle.judge.proofs.check_list.Reads as check-list-reads
-use Rattle.judge.proofs.judge_loaded.Reads as judge-loaded-reads
 
 check-list-requires : tie.Need-check-list-requires
 check-list-requires c κs = search needs

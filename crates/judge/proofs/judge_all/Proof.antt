@@ -4,11 +4,6 @@ use Rattle.planning.proofs.Formed.{formed-of}
 use Rattle.judge.proofs.Modes.{judgement-of}
 use Rattle.judge.proofs.judge_all.Statement.{statement}
 use Rattle.judge.proofs.judge_all.Tie as tie
-use Rattle.judge.proofs.judge_all.Reads as reads
-use Rattle.judge.proofs.judge_all.Lts as lts
-use Rattle.judge.proofs.judge_one.Reads as judge-one-reads
-use Rattle.state.proofs.painted.Reads as painted-reads
-use Rattle.state.proofs.single_sets.Reads as single-sets-reads
 
 single-sets-requires : tie.Need-single-sets-requires
 single-sets-requires c κs = search needs

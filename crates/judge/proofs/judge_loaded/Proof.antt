@@ -3,10 +3,6 @@ use native.Mathlib.Omega.{arith}
 use Rattle.table.proofs.Size.{tableSize-bytes, tableSize-max}
 use Rattle.judge.proofs.judge_loaded.Statement.{statement}
 use Rattle.judge.proofs.judge_loaded.Tie as tie
-use Rattle.judge.proofs.judge_loaded.Reads as reads
-use Rattle.judge.proofs.judge_loaded.Lts as lts
-use Rattle.judge.proofs.judge_all.Reads as judge-all-reads
-use Rattle.table.proofs.load.Reads as load-reads
 
 slice-aggregate-load : tie.Need-slice-aggregate-load
 slice-aggregate-load c = search needs

@@ -1,11 +1,10 @@
 use borrow.Author.Needs.{needs}
 use mathlib.Core.Path.{_≡_, refl, sym, ap, _∙_}
-use Prim.Native.Nat.{ℕ, _+_, _*_, _/_, _^_, _-_, _≤_, _<_}
+use Prim.Native.Nat.{ℕ, _-_}
 use native.Mathlib.Omega.{arith}
-use lib.ListN.{length, getD, take, drop, set, replicate}
+use lib.ListN.{length, getD}
 use borrow.Author.Tests.{not-true, not-false}
-use Rattle.planning.specs.Record.{Action}
-use Rattle.planning.specs.Runs.{act, holds, step}
+use Rattle.planning.specs.Runs.{act, holds}
 use Rattle.state.specs.Sets.{actionOf, Listed}
 use Rattle.planning.specs.Record.{taskOf}
 use Rattle.state.specs.Sets.{setsOf, modeOf}
@@ -15,13 +14,6 @@ use Rattle.judge.proofs.Lists.{entries-below}
 use Rattle.judge.proofs.Going.{Going, going-start, going-turn, going-stop, going-end}
 use Rattle.judge.proofs.judge_one.Statement.{statement}
 use Rattle.judge.proofs.judge_one.Tie as tie
-use Rattle.judge.proofs.judge_one.Reads as reads
-use Rattle.judge.proofs.judge_one.Lts as lts
-use Rattle.state.proofs.Goals.load.Reads as load-reads
-use Rattle.state.proofs.State.initial.Reads as initial-reads
-use Rattle.state.proofs.all_hold.Reads as all-hold-reads
-use Rattle.state.proofs.applies.Reads as applies-reads
-use Rattle.state.proofs.apply.Reads as apply-reads
 
 abbrev Inv-loop : tie.InvT-loop
 Inv-loop masks bytes table list mode s₀ k₀ s k = Going (taskOf bytes) (modeOf mode) list (setsOf (s .sets)) k × (length (s .sets) ≡ 64)

@@ -7,8 +7,6 @@ use Rattle.judge.specs.Answers.{leading}
 use Rattle.judge.proofs.Lists.{leading-turn, leading-stop, leading-end}
 use Rattle.judge.proofs.leading.Statement.{statement}
 use Rattle.judge.proofs.leading.Tie as tie
-use Rattle.judge.proofs.leading.Reads as reads
-use Rattle.judge.proofs.leading.Lts as lts
 
 abbrev Inv-loop : tie.InvT-loop
 Inv-loop list n k₀ k = (k ≤ length list) × (leading n list ≡ k + leading n (drop k list))

@@ -3,8 +3,6 @@ use mathlib.Core.Path.{sym, ap}
 use Rattle.judge.specs.Answers.{refusalOf}
 use Rattle.judge.proofs.refusal_of.Statement.{statement}
 use Rattle.judge.proofs.refusal_of.Tie as tie
-use Rattle.judge.proofs.refusal_of.Reads as reads
-use Rattle.judge.proofs.refusal_of.Lts as lts
 
 enum-known-j : tie.Need-enum-known-j
 enum-known-j c = search needs

@@ -3,9 +3,6 @@ use native.Mathlib.Nat.{sub-zero}
 use borrow.Author.Needs.{needs}
 use Rattle.lists.proofs.blank.Statement.{statement}
 use Rattle.lists.proofs.blank.Tie as tie
-use Rattle.lists.proofs.blank.Reads as reads
-use Rattle.lists.proofs.blank.Lts as lts
-use Rattle.lists.proofs.blank_from.Reads as blank-from-reads
 
 blank-from-requires : tie.Need-blank-from-requires
 blank-from-requires c κs = search needs

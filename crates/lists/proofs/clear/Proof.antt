@@ -3,9 +3,6 @@ use native.Mathlib.Nat.{sub-zero}
 use borrow.Author.Needs.{needs}
 use Rattle.lists.proofs.clear.Statement.{statement}
 use Rattle.lists.proofs.clear.Tie as tie
-use Rattle.lists.proofs.clear.Reads as reads
-use Rattle.lists.proofs.clear.Lts as lts
-use Rattle.lists.proofs.clear_from.Reads as clear-from-reads
 
 clear-from-requires : tie.Need-clear-from-requires
 clear-from-requires c κs = search needs

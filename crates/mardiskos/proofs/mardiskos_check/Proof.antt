@@ -4,9 +4,6 @@ use mathlib.Core.Path.{sym, ap, _∙_}
 use borrow.Author.Needs.{needs}
 use Rattle.mardiskos.proofs.mardiskos_check.Statement.{statement}
 use Rattle.mardiskos.proofs.mardiskos_check.Tie as tie
-use Rattle.mardiskos.proofs.mardiskos_check.Reads as reads
-use Rattle.mardiskos.proofs.mardiskos_check.Lts as lts
-use Rattle.record.proofs.check.Reads as check-reads
 
 check-requires : tie.Need-check-requires
 check-requires c κs = search needs

@@ -2,10 +2,6 @@ use borrow.Author.Needs.{needs}
 use Rattle.mardiskos.proofs.Laws.{judged-refused, judged-done}
 use Rattle.mardiskos.proofs.mardiskos_judge.Statement.{statement}
 use Rattle.mardiskos.proofs.mardiskos_judge.Tie as tie
-use Rattle.mardiskos.proofs.mardiskos_judge.Reads as reads
-use Rattle.mardiskos.proofs.mardiskos_judge.Lts as lts
-use Rattle.judge.proofs.judge.Reads as judge-reads
-use Rattle.judge.proofs.refusal_of.Reads as refusal-of-reads
 
 judge-requires : tie.Need-judge-requires
 judge-requires c κs = search needs

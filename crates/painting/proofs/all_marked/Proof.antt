@@ -3,15 +3,10 @@ use Rattle.painting.specs.Returns.{marked}
 use Rattle.planning.specs.Runs.{holds}
 use mathlib.Core.Bool.{Bool}
 use borrow.Author.Needs.{needs}
-use mathlib.Core.Path.{_≡_, refl, sym, ap, _∙_}
-use Prim.Native.Nat.{ℕ, _+_, _*_, _/_, _^_, _-_, _≤_, _<_}
+use Prim.Native.Nat.{_-_}
 use native.Mathlib.Omega.{arith}
-use lib.ListN.{length, getD, take, drop, set, replicate}
 use Rattle.painting.proofs.all_marked.Statement.{statement}
 use Rattle.painting.proofs.all_marked.Tie as tie
-use Rattle.painting.proofs.all_marked.Reads as reads
-use Rattle.painting.proofs.all_marked.Lts as lts
-use Rattle.painting.proofs.wide.Reads as wide-reads
 
 abbrev Inv-loop : tie.InvT-loop
 Inv-loop table from to marks i k₀ k = Walking Bool (holds (marked i marks)) table from to k

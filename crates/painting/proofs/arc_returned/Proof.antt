@@ -1,17 +1,10 @@
 use Rattle.painting.proofs.Arcs.{fact-var, fact-val}
-use Rattle.planning.specs.Runs.{black}
-use Rattle.planning.specs.Record.{taskOf}
-use Prim.Native.Nat.{ℕ}
-use lib.Dec.{T}
 use borrow.Author.Tests.{eq-eqb, ne-eqb}
 use native.Mathlib.Omega.{arith}
-use mathlib.Core.Path.{refl, sym, _∙_, subst}
+use mathlib.Core.Path.{refl, _∙_}
 use borrow.Author.Needs.{needs}
 use Rattle.painting.proofs.arc_returned.Statement.{statement}
 use Rattle.painting.proofs.arc_returned.Tie as tie
-use Rattle.painting.proofs.arc_returned.Reads as reads
-use Rattle.painting.proofs.arc_returned.Lts as lts
-use Rattle.painting.proofs.is_returned.Reads as is-returned-reads
 
 returns : tie.Need-returns
 returns c = rw (eq-eqb _ _ (c .if1 .taken)) refl

@@ -1,16 +1,11 @@
-use Rattle.painting.proofs.Walks.{Walking, walking-start, walking-turn, walking-hit, walking-end, walking-small, asked-hit, asked-skip, asked-none}
+use Rattle.painting.proofs.Walks.{Walking, walking-start, walking-turn, walking-hit, walking-end, asked-hit, asked-skip, asked-none}
 use Rattle.painting.specs.Returns.{asked}
 use Rattle.planning.specs.Runs.{look}
 use borrow.Author.Needs.{needs}
-use mathlib.Core.Path.{_≡_, refl, sym, ap, _∙_}
-use Prim.Native.Nat.{ℕ, _+_, _*_, _/_, _^_, _-_, _≤_, _<_}
+use Prim.Native.Nat.{ℕ, _-_}
 use native.Mathlib.Omega.{arith}
-use lib.ListN.{length, getD, take, drop, set, replicate}
 use Rattle.painting.proofs.asked_of.Statement.{statement}
 use Rattle.painting.proofs.asked_of.Tie as tie
-use Rattle.painting.proofs.asked_of.Reads as reads
-use Rattle.painting.proofs.asked_of.Lts as lts
-use Rattle.painting.proofs.wide.Reads as wide-reads
 
 abbrev Inv-loop : tie.InvT-loop
 Inv-loop table from to v k₀ k = Walking ℕ (λ fs. asked (look fs v)) table from to k

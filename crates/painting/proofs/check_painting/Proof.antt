@@ -5,12 +5,6 @@ use mathlib.Core.Path.{ap}
 use borrow.Author.Needs.{needs}
 use Rattle.painting.proofs.check_painting.Statement.{statement}
 use Rattle.painting.proofs.check_painting.Tie as tie
-use Rattle.painting.proofs.check_painting.Reads as reads
-use Rattle.painting.proofs.check_painting.Lts as lts
-use Rattle.graph.proofs.cycle.Reads as cycle-reads
-use Rattle.painting.proofs.link_all.Reads as link-all-reads
-use Rattle.painting.proofs.lowest_lacking.Reads as lowest-lacking-reads
-use Rattle.painting.proofs.refused_at.Reads as refused-at-reads
 
 cycle-requires : tie.Need-cycle-requires
 cycle-requires c κs = search needs

@@ -5,12 +5,6 @@ use Rattle.graph.proofs.Rows.{listed-effects, listed-facts}
 use native.Mathlib.Omega.{arith}
 use Rattle.painting.proofs.is_lacking.Statement.{statement}
 use Rattle.painting.proofs.is_lacking.Tie as tie
-use Rattle.painting.proofs.is_lacking.Reads as reads
-use Rattle.painting.proofs.is_lacking.Lts as lts
-use Rattle.painting.proofs.lacks_marked.Reads as lacks-marked-reads
-use Rattle.painting.proofs.mark.Reads as mark-reads
-use Rattle.painting.proofs.move_of.Reads as move-of-reads
-use Rattle.painting.proofs.wide.Reads as wide-reads
 
 mul-wide : tie.Need-mul-wide
 mul-wide c = let p = c .before .before .pre in omega (arith, p .1, ground-few _ _ _ _ (p .0 .ground))

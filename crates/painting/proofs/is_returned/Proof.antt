@@ -4,16 +4,11 @@ use Rattle.graph.proofs.Rows.{listed-preconditions}
 use Rattle.state.specs.Sets.{Listed}
 use Rattle.planning.specs.Record.{taskOf}
 use borrow.Author.Needs.{needs}
-use mathlib.Core.Path.{_≡_, refl, sym, ap, _∙_}
-use Prim.Native.Nat.{ℕ, _+_, _*_, _/_, _%_, _^_, _-_, _≤_, _<_}
+use mathlib.Core.Path.{sym, _∙_}
+use Prim.Native.Nat.{_/_, _%_, _-_, _<_}
 use native.Mathlib.Omega.{arith}
-use lib.ListN.{length, getD, take, drop, set, replicate}
 use Rattle.painting.proofs.is_returned.Statement.{statement}
 use Rattle.painting.proofs.is_returned.Tie as tie
-use Rattle.painting.proofs.is_returned.Reads as reads
-use Rattle.painting.proofs.is_returned.Lts as lts
-use Rattle.painting.proofs.all_marked.Reads as all-marked-reads
-use Rattle.painting.proofs.wide.Reads as wide-reads
 
 abbrev Inv-loop : tie.InvT-loop
 Inv-loop bytes table head chain marks i f j₀ j = Chasing (taskOf bytes) (marked i marks) (f / 64) (f % 64) j

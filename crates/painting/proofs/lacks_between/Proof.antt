@@ -3,15 +3,10 @@ use Rattle.painting.specs.Returns.{marked}
 use Rattle.planning.specs.Record.{taskOf}
 use borrow.Author.Tests.{not-true, not-false}
 use borrow.Author.Needs.{needs}
-use mathlib.Core.Path.{_≡_, refl, sym, ap, _∙_}
-use Prim.Native.Nat.{ℕ, _+_, _*_, _/_, _%_, _^_, _-_, _≤_, _<_}
+use Prim.Native.Nat.{_/_, _%_, _-_}
 use native.Mathlib.Omega.{arith}
-use lib.ListN.{length, getD, take, drop, set, replicate}
 use Rattle.painting.proofs.lacks_between.Statement.{statement}
 use Rattle.painting.proofs.lacks_between.Tie as tie
-use Rattle.painting.proofs.lacks_between.Reads as reads
-use Rattle.painting.proofs.lacks_between.Lts as lts
-use Rattle.painting.proofs.arc_returned.Reads as arc-returned-reads
 
 abbrev Inv-loop : tie.InvT-loop
 Inv-loop bytes table head chain marks i f from to d₀ d = Trying (taskOf bytes) (marked i marks) (f / 64) (f % 64) from to d

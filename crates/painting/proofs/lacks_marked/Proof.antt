@@ -3,17 +3,10 @@ use Rattle.painting.proofs.Arcs.{asked-all, asked-one, few-values}
 use Rattle.painting.proofs.Returns.{ground-few, ground-listed}
 use Rattle.graph.proofs.Rows.{listed-preconditions}
 use Rattle.planning.proofs.Painting.{black-inside}
-use Rattle.planning.proofs.Formed.{formed-of}
 use native.Mathlib.Omega.{arith}
 use mathlib.Core.Path.{_∙_}
 use Rattle.painting.proofs.lacks_marked.Statement.{statement}
 use Rattle.painting.proofs.lacks_marked.Tie as tie
-use Rattle.painting.proofs.lacks_marked.Reads as reads
-use Rattle.painting.proofs.lacks_marked.Lts as lts
-use Rattle.painting.proofs.asked_of.Reads as asked-of-reads
-use Rattle.painting.proofs.lacks_between.Reads as lacks-between-reads
-use Rattle.painting.proofs.wide.Reads as wide-reads
-use Rattle.table.proofs.count.Reads as count-reads
 
 mul-wide : tie.Need-mul-wide
 mul-wide c = let p = c .before .before .pre in omega (arith, p .3, ground-few _ _ _ _ (p .0))

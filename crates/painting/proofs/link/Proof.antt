@@ -4,10 +4,6 @@ use native.Mathlib.Omega.{arith}
 use borrow.Author.Needs.{needs}
 use Rattle.painting.proofs.link.Statement.{statement}
 use Rattle.painting.proofs.link.Tie as tie
-use Rattle.painting.proofs.link.Reads as reads
-use Rattle.painting.proofs.link.Lts as lts
-use Rattle.painting.proofs.move_of.Reads as move-of-reads
-use Rattle.painting.proofs.wide.Reads as wide-reads
 
 mul-wide : tie.Need-mul-wide
 mul-wide c = search needs

@@ -2,15 +2,10 @@ use Rattle.painting.proofs.Chains.{Linking, linking-back, linking-end, 
 use Rattle.planning.proofs.Formed.{formed-of}
 use Rattle.graph.proofs.Rows.{given-listed}
 use borrow.Author.Needs.{needs}
-use mathlib.Core.Path.{_≡_, refl, sym, ap, _∙_}
-use Prim.Native.Nat.{ℕ, _+_, _*_, _/_, _^_, _-_, _≤_, _<_}
+use mathlib.Core.Path.{refl}
 use native.Mathlib.Omega.{arith}
-use lib.ListN.{length, getD, take, drop, set, replicate}
 use Rattle.painting.proofs.link_all.Statement.{statement}
 use Rattle.painting.proofs.link_all.Tie as tie
-use Rattle.painting.proofs.link_all.Reads as reads
-use Rattle.painting.proofs.link_all.Lts as lts
-use Rattle.painting.proofs.link.Reads as link-reads
 
 abbrev Inv-loop : tie.InvT-loop
 Inv-loop bytes table paint acts head₀ chain₀ i₀ head chain i = Linking bytes head chain i

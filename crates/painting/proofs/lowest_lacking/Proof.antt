@@ -2,15 +2,10 @@ use Rattle.painting.proofs.Arcs.{Scanning, scanning-start, scanning-tur
 use Rattle.painting.proofs.Marks.{unmarked-start}
 use Rattle.planning.specs.Record.{taskOf}
 use borrow.Author.Needs.{needs}
-use mathlib.Core.Path.{_≡_, refl, sym, ap, _∙_}
-use Prim.Native.Nat.{ℕ, _+_, _*_, _/_, _^_, _-_, _≤_, _<_}
+use Prim.Native.Nat.{_-_}
 use native.Mathlib.Omega.{arith}
-use lib.ListN.{length, getD, take, drop, set, replicate}
 use Rattle.painting.proofs.lowest_lacking.Statement.{statement}
 use Rattle.painting.proofs.lowest_lacking.Tie as tie
-use Rattle.painting.proofs.lowest_lacking.Reads as reads
-use Rattle.painting.proofs.lowest_lacking.Lts as lts
-use Rattle.painting.proofs.is_lacking.Reads as is-lacking-reads
 
 abbrev Inv-loop : tie.InvT-loop
 Inv-loop bytes table paint acts head chain marks₀ i₀ marks i = Scanning (taskOf bytes) acts marks i

@@ -1,15 +1,9 @@
 use Rattle.painting.proofs.Marks.{Marking, marking-start, marking-small, marking-turn, marking-end}
 use borrow.Author.Needs.{needs}
-use mathlib.Core.Path.{_≡_, refl, sym, ap, _∙_}
-use Prim.Native.Nat.{ℕ, _+_, _*_, _/_, _^_, _-_, _≤_, _<_}
+use Prim.Native.Nat.{_-_}
 use native.Mathlib.Omega.{arith}
-use lib.ListN.{length, getD, take, drop, set, replicate}
 use Rattle.painting.proofs.mark.Statement.{statement}
 use Rattle.painting.proofs.mark.Tie as tie
-use Rattle.painting.proofs.mark.Reads as reads
-use Rattle.painting.proofs.mark.Lts as lts
-use Rattle.painting.proofs.place_of.Reads as place-of-reads
-use Rattle.painting.proofs.wide.Reads as wide-reads
 
 abbrev Inv-loop : tie.InvT-loop
 Inv-loop table from to f marks₀ i k₀ marks k = Marking table from to f i marks₀ marks k

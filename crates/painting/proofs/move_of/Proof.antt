@@ -3,15 +3,10 @@ use Rattle.painting.specs.Chains.{moveOf}
 use Rattle.state.specs.Sets.{inSet, modeOf}
 use borrow.Author.Tests.{eq-eqb, ne-eqb}
 use borrow.Author.Needs.{needs}
-use mathlib.Core.Path.{_≡_, refl, sym, ap, _∙_}
-use Prim.Native.Nat.{ℕ, _+_, _*_, _/_, _^_, _-_, _≤_, _<_}
+use Prim.Native.Nat.{ℕ, _-_}
 use native.Mathlib.Omega.{arith}
-use lib.ListN.{length, getD, take, drop, set, replicate}
 use Rattle.painting.proofs.move_of.Statement.{statement}
 use Rattle.painting.proofs.move_of.Tie as tie
-use Rattle.painting.proofs.move_of.Reads as reads
-use Rattle.painting.proofs.move_of.Lts as lts
-use Rattle.painting.proofs.wide.Reads as wide-reads
 
 abbrev Inv-loop : tie.InvT-loop
 Inv-loop table from to paint k₀ k = Walking ℕ (moveOf (modeOf paint)) table from to k

@@ -2,8 +2,6 @@ use Rattle.painting.proofs.Marks.{place-own, place-other}
 use mathlib.Core.Path.{sym}
 use Rattle.painting.proofs.place_of.Statement.{statement}
 use Rattle.painting.proofs.place_of.Tie as tie
-use Rattle.painting.proofs.place_of.Reads as reads
-use Rattle.painting.proofs.place_of.Lts as lts
 
 returns : tie.Need-returns
 returns c = sym (place-own _ _ (c .if1 .taken))

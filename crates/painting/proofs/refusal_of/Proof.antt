@@ -1,10 +1,8 @@
-use mathlib.Core.Path.{_≡_, sym, refl, ap, _∙_}
+use mathlib.Core.Path.{sym, ap}
 use Rattle.painting.specs.Answers.{refusalOf}
 use borrow.Author.Needs.{needs}
 use Rattle.painting.proofs.refusal_of.Statement.{statement}
 use Rattle.painting.proofs.refusal_of.Tie as tie
-use Rattle.painting.proofs.refusal_of.Reads as reads
-use Rattle.painting.proofs.refusal_of.Lts as lts
 
 enum-known-p : tie.Need-enum-known-p
 enum-known-p c = search needs

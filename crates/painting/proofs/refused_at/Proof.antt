@@ -1,12 +1,10 @@
 use Rattle.graph.specs.Given.{foundOf}
 use Rattle.planning.specs.Basics.{refuseAt}
 use native.Mathlib.Omega.{arith}
-use mathlib.Core.Path.{sym, ap, refl}
+use mathlib.Core.Path.{ap, refl}
 use borrow.Author.Needs.{needs}
 use Rattle.painting.proofs.refused_at.Statement.{statement}
 use Rattle.painting.proofs.refused_at.Tie as tie
-use Rattle.painting.proofs.refused_at.Reads as reads
-use Rattle.painting.proofs.refused_at.Lts as lts
 
 enum-known-found : tie.Need-enum-known-found
 enum-known-found c = search needs

@@ -1,13 +1,10 @@
 use borrow.Author.Needs.{needs}
-use mathlib.Core.Path.{_≡_, refl, sym, ap, _∙_}
-use Prim.Native.Nat.{ℕ, _+_, _*_, _/_, _^_, _-_, _≤_, _<_}
+use mathlib.Core.Path.{sym, _∙_}
+use Prim.Native.Nat.{_-_}
 use native.Mathlib.Omega.{arith}
-use lib.ListN.{length, getD, take, drop, set, replicate}
 use Rattle.passes.proofs.Putting.{Forgetting, forgetting-turn, forgetting-end}
 use Rattle.passes.proofs.forget.Statement.{statement}
 use Rattle.passes.proofs.forget.Tie as tie
-use Rattle.passes.proofs.forget.Reads as reads
-use Rattle.passes.proofs.forget.Lts as lts
 
 abbrev Inv-loop : tie.InvT-loop
 Inv-loop memo₀ k₀ memo k = Forgetting memo k

@@ -7,9 +7,6 @@ use Rattle.passes.specs.Passes.{pathsOf, askedBy}
 use Rattle.passes.proofs.Putting.{put-long, put-full, put-more}
 use Rattle.passes.proofs.insert.Statement.{statement}
 use Rattle.passes.proofs.insert.Tie as tie
-use Rattle.passes.proofs.insert.Reads as reads
-use Rattle.passes.proofs.insert.Lts as lts
-use Rattle.passes.proofs.lead_to.Reads as lead-to-reads
 
 lead-to-requires : tie.Need-lead-to-requires
 lead-to-requires c κs = search needs

@@ -6,9 +6,6 @@ use Rattle.passes.specs.Passes.{pathsOf}
 use Rattle.passes.proofs.Putting.{lead-none, lead-some}
 use Rattle.passes.proofs.lead_to.Statement.{statement}
 use Rattle.passes.proofs.lead_to.Tie as tie
-use Rattle.passes.proofs.lead_to.Reads as reads
-use Rattle.passes.proofs.lead_to.Lts as lts
-use Rattle.paths.proofs.path.Reads as path-reads
 
 returns : tie.Need-returns
 returns c = let a = c .before .before .before .before .before .args in let p = c .before .before .before .before .before .pre in (lead-none (pathsOf (taskOf (a .bytes .now)) (setsOf (a .ever .now)) (a .v)) (a .c) (a .d) (a .list .now) (a .at) (omega arith) (p .1 .4), p .0 .3)

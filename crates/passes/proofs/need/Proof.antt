@@ -2,10 +2,6 @@ use borrow.Author.Needs.{needs}
 use Rattle.passes.proofs.Putting.{asked-pre}
 use Rattle.passes.proofs.need.Statement.{statement}
 use Rattle.passes.proofs.need.Tie as tie
-use Rattle.passes.proofs.need.Reads as reads
-use Rattle.passes.proofs.need.Lts as lts
-use Rattle.passes.proofs.wide.Reads as wide-reads
-use Rattle.paths.proofs.asked.Reads as asked-reads
 
 mul-wide : tie.Need-mul-wide
 mul-wide c = search needs

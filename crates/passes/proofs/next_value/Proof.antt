@@ -2,8 +2,6 @@ use native.Mathlib.Omega.{arith}
 use Rattle.passes.proofs.Putting.{after-some, after-none}
 use Rattle.passes.proofs.next_value.Statement.{statement}
 use Rattle.passes.proofs.next_value.Tie as tie
-use Rattle.passes.proofs.next_value.Reads as reads
-use Rattle.passes.proofs.next_value.Lts as lts
 
 returns : tie.Need-returns
 returns c = after-some _ _ (omega arith)

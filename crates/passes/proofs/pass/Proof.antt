@@ -1,8 +1,8 @@
 use borrow.Author.Needs.{needs}
-use mathlib.Core.Path.{_≡_, refl, sym, ap, _∙_}
-use Prim.Native.Nat.{ℕ, _+_, _*_, _/_, _^_, _-_, _≤_, _<_}
+use mathlib.Core.Path.{sym, _∙_}
+use Prim.Native.Nat.{_-_}
 use native.Mathlib.Omega.{arith}
-use lib.ListN.{length, getD, take, drop, set, replicate}
+use lib.ListN.{length}
 use Rattle.planning.specs.Record.{taskOf}
 use Rattle.table.specs.Table.{factsIn}
 use Rattle.state.specs.Sets.{setsOf}
@@ -11,14 +11,6 @@ use Rattle.passes.proofs.Putting.{asked-fits}
 use Rattle.passes.proofs.Passing.{Passing, passing-start, passing-end, pass-listed, pass-fits, pass-turn, pass-long}
 use Rattle.passes.proofs.pass.Statement.{statement}
 use Rattle.passes.proofs.pass.Tie as tie
-use Rattle.passes.proofs.pass.Reads as reads
-use Rattle.passes.proofs.pass.Lts as lts
-use Rattle.passes.proofs.insert.Reads as insert-reads
-use Rattle.passes.proofs.lead_to.Reads as lead-to-reads
-use Rattle.passes.proofs.need.Reads as need-reads
-use Rattle.passes.proofs.next_value.Reads as next-value-reads
-use Rattle.passes.proofs.wide.Reads as wide-reads
-use Rattle.paths.proofs.asked.Reads as asked-reads
 
 abbrev Inv-loop : tie.InvT-loop
 Inv-loop bytes table head chain masks ever memo₀ v n start list wanted out₀ c₀ e₀ j₀ memo out c e j = Passing (taskOf bytes) (setsOf ever) v start list (factsIn wanted 0 (length wanted)) out₀ out memo c e j

@@ -1,18 +1,12 @@
 use borrow.Author.Needs.{needs}
-use mathlib.Core.Path.{_≡_, refl, sym, ap, _∙_}
-use Prim.Native.Nat.{ℕ, _+_, _*_, _/_, _^_, _-_, _≤_, _<_}
+use mathlib.Core.Path.{sym, _∙_}
+use Prim.Native.Nat.{_-_}
 use native.Mathlib.Omega.{arith}
-use lib.ListN.{length, getD, take, drop, set, replicate}
 use Rattle.planning.specs.Record.{taskOf}
 use Rattle.state.specs.Sets.{setsOf}
 use Rattle.paths.proofs.Arriving.{Arriving, arrive-start, arrive-listed, arrive-above, arrive-turn, arrive-end}
 use Rattle.paths.proofs.arrive.Statement.{statement}
 use Rattle.paths.proofs.arrive.Tie as tie
-use Rattle.paths.proofs.arrive.Reads as reads
-use Rattle.paths.proofs.arrive.Lts as lts
-use Rattle.paths.proofs.mark.Reads as mark-reads
-use Rattle.paths.proofs.usable_sources.Reads as usable-sources-reads
-use Rattle.paths.proofs.wide.Reads as wide-reads
 
 abbrev Inv-loop : tie.InvT-loop
 Inv-loop bytes table head chain masks ever row₀ v front e rest grow i₀ g₀ row i g = Arriving (taskOf bytes) (setsOf ever) v front e rest row₀ row g i

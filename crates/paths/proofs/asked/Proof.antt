@@ -1,16 +1,12 @@
 use borrow.Author.Needs.{needs}
-use mathlib.Core.Path.{_≡_, refl, sym, ap, _∙_}
-use Prim.Native.Nat.{ℕ, _+_, _*_, _/_, _^_, _-_, _≤_, _<_}
+use mathlib.Core.Path.{_≡_, refl, _∙_}
+use Prim.Native.Nat.{_-_, _≤_}
 use native.Mathlib.Omega.{arith}
-use lib.ListN.{length, getD, take, drop, set, replicate}
 use Rattle.planning.specs.Runs.{look}
 use Rattle.table.specs.Table.{factsIn}
 use Rattle.paths.proofs.Facts.{look-here, look-later, look-end}
 use Rattle.paths.proofs.asked.Statement.{statement}
 use Rattle.paths.proofs.asked.Tie as tie
-use Rattle.paths.proofs.asked.Reads as reads
-use Rattle.paths.proofs.asked.Lts as lts
-use Rattle.paths.proofs.wide.Reads as wide-reads
 
 abbrev Inv-loop : tie.InvT-loop
 Inv-loop facts from to v k₀ k = (from ≤ k) × (k ≤ to) × (look (factsIn facts from to) v ≡ look (factsIn facts k to) v)

@@ -1,17 +1,12 @@
 use borrow.Author.Needs.{needs}
-use mathlib.Core.Path.{_≡_, refl, sym, ap, _∙_}
-use Prim.Native.Nat.{ℕ, _+_, _*_, _/_, _^_, _-_, _≤_, _<_}
+use mathlib.Core.Path.{sym, _∙_}
+use Prim.Native.Nat.{_-_}
 use native.Mathlib.Omega.{arith}
-use lib.ListN.{length, getD, take, drop, set, replicate}
 use Rattle.planning.specs.Record.{taskOf}
 use Rattle.state.specs.Sets.{setsOf}
 use Rattle.paths.proofs.Arriving.{Laying, laying-start, laying-turn, laying-end}
 use Rattle.paths.proofs.layer.Statement.{statement}
 use Rattle.paths.proofs.layer.Tie as tie
-use Rattle.paths.proofs.layer.Reads as reads
-use Rattle.paths.proofs.layer.Lts as lts
-use Rattle.paths.proofs.arrive.Reads as arrive-reads
-use Rattle.paths.proofs.next_member.Reads as next-member-reads
 
 abbrev Inv-loop : tie.InvT-loop
 Inv-loop bytes table head chain masks ever row₀ v front rest g₀ e₀ row g e = Laying (taskOf bytes) (setsOf ever) v front rest row₀ row g e

@@ -1,15 +1,10 @@
 use borrow.Author.Needs.{needs}
-use mathlib.Core.Path.{_≡_, refl, sym, ap, _∙_}
-use Prim.Native.Nat.{ℕ, _+_, _*_, _/_, _^_, _-_, _≤_, _<_}
+use Prim.Native.Nat.{_-_}
 use native.Mathlib.Omega.{arith}
-use lib.ListN.{length, getD, take, drop, set, replicate}
+use lib.ListN.{set}
 use Rattle.paths.proofs.Marking.{Marking, marking-start, marking-turn, marking-end}
 use Rattle.paths.proofs.mark.Statement.{statement}
 use Rattle.paths.proofs.mark.Tie as tie
-use Rattle.paths.proofs.mark.Reads as reads
-use Rattle.paths.proofs.mark.Lts as lts
-use Rattle.paths.proofs.lesser.Reads as lesser-reads
-use Rattle.paths.proofs.next_member.Reads as next-member-reads
 
 abbrev Inv-loop : tie.InvT-loop
 Inv-loop row₀ set i c₀ row c = Marking row₀ row set i c

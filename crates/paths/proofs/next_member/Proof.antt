@@ -5,9 +5,6 @@ use native.Mathlib.Omega.{arith}
 use Rattle.paths.proofs.Sets.{member-end, member-found, member-none}
 use Rattle.paths.proofs.next_member.Statement.{statement}
 use Rattle.paths.proofs.next_member.Tie as tie
-use Rattle.paths.proofs.next_member.Reads as reads
-use Rattle.paths.proofs.next_member.Lts as lts
-use Rattle.paths.proofs.wider.Reads as wider-reads
 
 returns : tie.Need-returns
 returns c = member-end _ _ (c .if1 .taken)

@@ -1,7 +1,6 @@
 use borrow.Author.Needs.{needs}
 use Prim.Native.Nat.{_*_}
 use native.Mathlib.Omega.{arith}
-use mathlib.Core.Path.{_∙_}
 use Prim.Native.Nat.{_+_, _-_}
 use Rattle.planning.specs.Record.{taskOf}
 use Rattle.planning.proofs.Formed.{formed-of}
@@ -10,10 +9,6 @@ use Rattle.paths.proofs.Memos.{memo-part}
 use Rattle.paths.proofs.Memos.{part-long}
 use Rattle.paths.proofs.path.Statement.{statement}
 use Rattle.paths.proofs.path.Tie as tie
-use Rattle.paths.proofs.path.Reads as reads
-use Rattle.paths.proofs.path.Lts as lts
-use Rattle.paths.proofs.prepare.Reads as prepare-reads
-use Rattle.paths.proofs.walk.Reads as walk-reads
 
 prepare-requires : tie.Need-prepare-requires
 prepare-requires c κs = search needs

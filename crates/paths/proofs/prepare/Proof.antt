@@ -12,9 +12,6 @@ use Rattle.paths.proofs.Memos.{memo-filled}
 use Rattle.paths.proofs.Memos.{part-long}
 use Rattle.paths.proofs.prepare.Statement.{statement}
 use Rattle.paths.proofs.prepare.Tie as tie
-use Rattle.paths.proofs.prepare.Reads as reads
-use Rattle.paths.proofs.prepare.Lts as lts
-use Rattle.paths.proofs.towards.Reads as towards-reads
 
 add-if1 : tie.Need-add-if1
 add-if1 c = search needs

@@ -3,10 +3,6 @@ use native.Mathlib.Omega.{arith}
 use Rattle.paths.proofs.Facts.{sources-at, sources-all}
 use Rattle.paths.proofs.sources.Statement.{statement}
 use Rattle.paths.proofs.sources.Tie as tie
-use Rattle.paths.proofs.sources.Reads as reads
-use Rattle.paths.proofs.sources.Lts as lts
-use Rattle.paths.proofs.asked.Reads as asked-reads
-use Rattle.paths.proofs.wide.Reads as wide-reads
 
 mul-wide : tie.Need-mul-wide
 mul-wide c = search needs

@@ -2,10 +2,6 @@ use borrow.Author.Needs.{needs}
 use Rattle.paths.proofs.Facts.{asked-eff}
 use Rattle.paths.proofs.target.Statement.{statement}
 use Rattle.paths.proofs.target.Tie as tie
-use Rattle.paths.proofs.target.Reads as reads
-use Rattle.paths.proofs.target.Lts as lts
-use Rattle.paths.proofs.asked.Reads as asked-reads
-use Rattle.paths.proofs.wide.Reads as wide-reads
 
 mul-wide : tie.Need-mul-wide
 mul-wide c = search needs

@@ -1,18 +1,13 @@
 use borrow.Author.Needs.{needs}
-use mathlib.Core.Path.{_≡_, refl, sym, ap, _∙_}
-use Prim.Native.Nat.{ℕ, _+_, _*_, _/_, _^_, _-_, _≤_, _<_}
+use mathlib.Core.Path.{refl, sym, _∙_}
+use Prim.Native.Nat.{_-_}
 use native.Mathlib.Omega.{arith}
-use lib.ListN.{length, getD, take, drop, set, replicate}
 use Rattle.planning.specs.Record.{taskOf}
 use Rattle.state.specs.Sets.{setsOf}
 use Rattle.paths.proofs.Leads.{Layered, layered-apart, layered-marks, layered-end}
 use Rattle.paths.proofs.Arriving.{ground-formed, searching-start, searching-turn, searching-stop}
 use Rattle.paths.proofs.towards.Statement.{statement}
 use Rattle.paths.proofs.towards.Tie as tie
-use Rattle.paths.proofs.towards.Reads as reads
-use Rattle.paths.proofs.towards.Lts as lts
-use Rattle.lists.proofs.blank.Reads as blank-reads
-use Rattle.paths.proofs.layer.Reads as layer-reads
 
 abbrev Inv-loop : tie.InvT-loop
 Inv-loop bytes table head chain masks ever row₀ v n d front₀ rest₀ k₀ row front rest k = Layered (taskOf bytes) (setsOf ever) v d k front rest row

@@ -3,10 +3,6 @@ use mathlib.Core.Path.{sym, _∙_}
 use Rattle.paths.proofs.Facts.{usable-empty, usable-yes, usable-no}
 use Rattle.paths.proofs.usable_sources.Statement.{statement}
 use Rattle.paths.proofs.usable_sources.Tie as tie
-use Rattle.paths.proofs.usable_sources.Reads as reads
-use Rattle.paths.proofs.usable_sources.Lts as lts
-use Rattle.paths.proofs.sources.Reads as sources-reads
-use Rattle.state.proofs.applies.Reads as applies-reads
 
 sources-requires : tie.Need-sources-requires
 sources-requires c κs = search needs

@@ -1,18 +1,13 @@
 use borrow.Author.Needs.{needs}
-use mathlib.Core.Path.{_≡_, refl, sym, ap, _∙_}
-use Prim.Native.Nat.{ℕ, _+_, _*_, _/_, _^_, _-_, _≤_, _<_}
+use mathlib.Core.Path.{refl}
 use native.Mathlib.Omega.{arith}
-use lib.ListN.{length, getD, take, drop, set, replicate}
+use lib.ListN.{length}
 use Rattle.planning.specs.Record.{taskOf}
 use Rattle.planning.proofs.Formed.{formed-of}
 use Rattle.state.specs.Sets.{setsOf}
 use Rattle.paths.proofs.Walking.{PathTo, Walking, walking-start, walking-long, walking-end, walk-listed, walk-inside, walk-less, walk-turn}
 use Rattle.paths.proofs.walk.Statement.{statement}
 use Rattle.paths.proofs.walk.Tie as tie
-use Rattle.paths.proofs.walk.Reads as reads
-use Rattle.paths.proofs.walk.Lts as lts
-use Rattle.paths.proofs.target.Reads as target-reads
-use Rattle.paths.proofs.wide.Reads as wide-reads
 
 abbrev Inv-loop : tie.InvT-loop
 Inv-loop bytes table ever row v c d list₀ at x₀ e₀ i₀ list x e i = Walking (taskOf bytes) (setsOf ever) v d c at row list₀ list x e i

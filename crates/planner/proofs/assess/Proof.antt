@@ -4,10 +4,6 @@ use Rattle.planner.proofs.Drafts.{assessed}
 use borrow.Author.Needs.{needs}
 use Rattle.planner.proofs.assess.Statement.{statement}
 use Rattle.planner.proofs.assess.Tie as tie
-use Rattle.planner.proofs.assess.Reads as reads
-use Rattle.planner.proofs.assess.Lts as lts
-use Rattle.judge.proofs.judge_one.Reads as judge-one-reads
-use Rattle.planner.proofs.cost.Reads as cost-reads
 
 cost-requires : tie.Need-cost-requires
 cost-requires c κs = let R = c .before .before .before .pre .0 in (R .accepted, R .tabled, entries-below _ _ (R .entries), R .short)

@@ -1,15 +1,11 @@
 use borrow.Author.Needs.{needs}
-use mathlib.Core.Path.{_≡_, refl, sym, ap, _∙_, subst}
-use Prim.Native.Nat.{ℕ, _+_, _*_, _/_, _%_, _^_, _-_, _≤_, _<_}
+use Prim.Native.Nat.{_*_, _-_}
 use native.Mathlib.Omega.{arith}
-use lib.ListN.{length, getD, take, drop, set, replicate}
+use lib.ListN.{length}
 use Rattle.planning.specs.Record.{taskOf}
 use Rattle.planner.proofs.Laws.{Summing, entry-room, summing-turn, summing-end}
 use Rattle.planner.proofs.cost.Statement.{statement}
 use Rattle.planner.proofs.cost.Tie as tie
-use Rattle.planner.proofs.cost.Reads as reads
-use Rattle.planner.proofs.cost.Lts as lts
-use Rattle.planner.proofs.wide.Reads as wide-reads
 
 abbrev Inv-loop : tie.InvT-loop
 Inv-loop bytes table list sum₀ k₀ sum k = Summing (taskOf bytes) list sum k

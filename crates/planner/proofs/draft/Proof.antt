@@ -1,4 +1,4 @@
-use mathlib.Core.Path.{_≡_, refl, sym, ap, _∙_, subst}
+use mathlib.Core.Path.{refl, sym, ap, _∙_, subst}
 use lib.ListN.{length, take}
 use Rattle.planning.specs.Record.{taskOf}
 use Rattle.planning.specs.Runs.{relaxed}
@@ -14,15 +14,6 @@ use Rattle.planner.proofs.Drafts.{plan-entries, setting, repaired-ready
 use borrow.Author.Needs.{needs}
 use Rattle.planner.proofs.draft.Statement.{statement}
 use Rattle.planner.proofs.draft.Tie as tie
-use Rattle.planner.proofs.draft.Reads as reads
-use Rattle.planner.proofs.draft.Lts as lts
-use Rattle.graph.proofs.Order.clients_first.Reads as clients-first-reads
-use Rattle.planner.proofs.assess.Reads as assess-reads
-use Rattle.planner.proofs.order_of.Reads as order-of-reads
-use Rattle.repair.proofs.capacity.Reads as capacity-reads
-use Rattle.repair.proofs.repair.Reads as repair-reads
-use Rattle.state.proofs.single_sets.Reads as single-sets-reads
-use Rattle.table.proofs.variables.Reads as variables-reads
 
 single-sets-requires : tie.Need-single-sets-requires
 single-sets-requires c κs = search needs

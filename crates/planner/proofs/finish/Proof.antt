@@ -3,11 +3,6 @@ use Rattle.planner.proofs.Settled.{finished, blanked}
 use borrow.Author.Needs.{needs}
 use Rattle.planner.proofs.finish.Statement.{statement}
 use Rattle.planner.proofs.finish.Tie as tie
-use Rattle.planner.proofs.finish.Reads as reads
-use Rattle.planner.proofs.finish.Lts as lts
-use Rattle.lists.proofs.blank.Reads as blank-reads
-use Rattle.lists.proofs.blank_from.Reads as blank-from-reads
-use Rattle.planner.proofs.steps_of.Reads as steps-of-reads
 
 steps-of-requires : tie.Need-steps-of-requires
 steps-of-requires c κs = search needs

@@ -1,14 +1,10 @@
-use mathlib.Core.Path.{sym, ap, _∙_}
+use mathlib.Core.Path.{ap, _∙_}
 use lib.ListN.{length}
 use Rattle.planning.specs.Calls.{workList}
 use Rattle.planner.proofs.Settled.{plan-settled}
 use borrow.Author.Needs.{needs}
 use Rattle.planner.proofs.plan.Statement.{statement}
 use Rattle.planner.proofs.plan.Tie as tie
-use Rattle.planner.proofs.plan.Reads as reads
-use Rattle.planner.proofs.plan.Lts as lts
-use Rattle.planner.proofs.finish.Reads as finish-reads
-use Rattle.planner.proofs.plan_checked.Reads as plan-checked-reads
 
 plan-checked-requires : tie.Need-plan-checked-requires
 plan-checked-requires c κs = search needs

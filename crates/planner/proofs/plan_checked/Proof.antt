@@ -5,10 +5,6 @@ use Rattle.planner.proofs.Drafts.{plan-unread}
 use borrow.Author.Needs.{needs}
 use Rattle.planner.proofs.plan_checked.Statement.{statement}
 use Rattle.planner.proofs.plan_checked.Tie as tie
-use Rattle.planner.proofs.plan_checked.Reads as reads
-use Rattle.planner.proofs.plan_checked.Lts as lts
-use Rattle.planner.proofs.plan_accepted.Reads as plan-accepted-reads
-use Rattle.record.proofs.check.Reads as check-reads
 
 check-requires : tie.Need-check-requires
 check-requires c κs = search needs

@@ -1,4 +1,4 @@
-use mathlib.Core.Path.{_≡_, refl, sym, subst}
+use mathlib.Core.Path.{_≡_, sym, subst}
 use mathlib.Core.Option.{none}
 use Prim.Native.Nat.{_≤_}
 use native.Mathlib.Omega.{arith}
@@ -13,17 +13,6 @@ use Rattle.planner.proofs.Drafts.{painting-passes, plan-unpainted, plan
 use borrow.Author.Needs.{needs}
 use Rattle.planner.proofs.plan_loaded.Statement.{statement}
 use Rattle.planner.proofs.plan_loaded.Tie as tie
-use Rattle.planner.proofs.plan_loaded.Reads as reads
-use Rattle.planner.proofs.plan_loaded.Lts as lts
-use Rattle.graph.proofs.graph.Reads as graph-reads
-use Rattle.painting.proofs.check_painting.Reads as check-painting-reads
-use Rattle.painting.proofs.refusal_of.Reads as refusal-of-reads
-use Rattle.planner.proofs.draft.Reads as draft-reads
-use Rattle.relax.proofs.refusal_of.Reads as refusal-of-reads′
-use Rattle.relax.proofs.relaxed_plan.Reads as relaxed-plan-reads
-use Rattle.state.proofs.painted.Reads as painted-reads
-use Rattle.table.proofs.actions.Reads as actions-reads
-use Rattle.table.proofs.variables.Reads as variables-reads
 
 painted-requires : tie.Need-painted-requires
 painted-requires c κs = search needs

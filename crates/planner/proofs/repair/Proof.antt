@@ -1,14 +1,10 @@
-use mathlib.Core.Path.{sym, ap, _∙_}
+use mathlib.Core.Path.{ap, _∙_}
 use lib.ListN.{length}
 use Rattle.planning.specs.Calls.{workList}
 use Rattle.planner.proofs.Settled.{repair-settled}
 use borrow.Author.Needs.{needs}
 use Rattle.planner.proofs.repair.Statement.{statement}
 use Rattle.planner.proofs.repair.Tie as tie
-use Rattle.planner.proofs.repair.Reads as reads
-use Rattle.planner.proofs.repair.Lts as lts
-use Rattle.planner.proofs.finish.Reads as finish-reads
-use Rattle.planner.proofs.repair_checked.Reads as repair-checked-reads
 
 repair-checked-requires : tie.Need-repair-checked-requires
 repair-checked-requires c κs = search needs

@@ -3,10 +3,6 @@ use Rattle.table.proofs.Size.{tableSize-bytes, tableSize-max}
 use borrow.Author.Needs.{needs}
 use Rattle.planner.proofs.repair_accepted.Statement.{statement}
 use Rattle.planner.proofs.repair_accepted.Tie as tie
-use Rattle.planner.proofs.repair_accepted.Reads as reads
-use Rattle.planner.proofs.repair_accepted.Lts as lts
-use Rattle.planner.proofs.repair_loaded.Reads as repair-loaded-reads
-use Rattle.table.proofs.load.Reads as load-reads
 
 slice-aggregate-load : tie.Need-slice-aggregate-load
 slice-aggregate-load c = search needs

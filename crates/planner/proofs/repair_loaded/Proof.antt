@@ -9,17 +9,6 @@ use Rattle.planner.proofs.Drafts.{painting-passes, list-passes, repair-
 use borrow.Author.Needs.{needs}
 use Rattle.planner.proofs.repair_loaded.Statement.{statement}
 use Rattle.planner.proofs.repair_loaded.Tie as tie
-use Rattle.planner.proofs.repair_loaded.Reads as reads
-use Rattle.planner.proofs.repair_loaded.Lts as lts
-use Rattle.bits.proofs.refusal_of.Reads as refusal-of-reads
-use Rattle.graph.proofs.graph.Reads as graph-reads
-use Rattle.judge.proofs.check_relaxed.Reads as check-relaxed-reads
-use Rattle.painting.proofs.check_painting.Reads as check-painting-reads
-use Rattle.painting.proofs.refusal_of.Reads as refusal-of-reads′
-use Rattle.planner.proofs.draft.Reads as draft-reads
-use Rattle.state.proofs.painted.Reads as painted-reads
-use Rattle.table.proofs.actions.Reads as actions-reads
-use Rattle.table.proofs.variables.Reads as variables-reads
 
 painted-requires : tie.Need-painted-requires
 painted-requires c κs = search needs

@@ -1,15 +1,11 @@
 use borrow.Author.Needs.{needs}
-use mathlib.Core.Path.{_≡_, refl, sym, ap, _∙_, subst}
-use Prim.Native.Nat.{ℕ, _+_, _*_, _/_, _%_, _^_, _-_, _≤_, _<_}
+use mathlib.Core.Path.{sym}
 use native.Mathlib.Omega.{arith}
-use lib.ListN.{length, getD, take, drop, set, replicate}
 use lib.Seq.{length-take-le}
 use Rattle.planning.specs.Calls.{runnable}
 use Rattle.planner.proofs.Laws.{runnable-front, runnable-whole}
 use Rattle.planner.proofs.runnable.Statement.{statement}
 use Rattle.planner.proofs.runnable.Tie as tie
-use Rattle.planner.proofs.runnable.Reads as reads
-use Rattle.planner.proofs.runnable.Lts as lts
 
 enum-known-answer : tie.Need-enum-known-answer
 enum-known-answer c = search needs

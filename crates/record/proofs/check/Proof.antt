@@ -4,9 +4,6 @@ use mathlib.Core.Path.{sym, ap}
 use borrow.Author.Needs.{needs}
 use Rattle.record.proofs.check.Statement.{statement}
 use Rattle.record.proofs.check.Tie as tie
-use Rattle.record.proofs.check.Reads as reads
-use Rattle.record.proofs.check.Lts as lts
-use Rattle.record.proofs.check_record.Reads as check-record-reads
 
 check-record-requires : tie.Need-check-record-requires
 check-record-requires c κs = search needs

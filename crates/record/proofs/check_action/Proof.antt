@@ -5,10 +5,6 @@ use native.Mathlib.Omega.{arith}
 use borrow.Author.Needs.{needs}
 use Rattle.record.proofs.check_action.Statement.{statement}
 use Rattle.record.proofs.check_action.Tie as tie
-use Rattle.record.proofs.check_action.Reads as reads
-use Rattle.record.proofs.check_action.Lts as lts
-use Rattle.record.proofs.check_action_fields.Reads as check-action-fields-reads
-use Rattle.record.proofs.sound_action.Reads as sound-action-reads
 
 sound-action-requires : tie.Need-sound-action-requires
 sound-action-requires c κs = (search needs, counts-as _ _ _ _ (c .before .pre .1) (c .before .pre .3))

@@ -1,17 +1,9 @@
 use Rattle.record.proofs.Laws.{pre-refused, eff-answer}
-use Rattle.bits.proofs.Window.{bitsAt-lt}
-use Rattle.bits.proofs.Stages.{passed, skip, skip-stage, hit, stops, stops-stage}
-use Rattle.record.specs.Stages.{goalChecks, initialChecks, actionFactsChecks}
-use Rattle.planning.specs.Record.{factsChecks, variableChecks, actionChecks, preconditionsIn, effectsIn, effectsFrom, actionEnd}
-use Rattle.planning.specs.Basics.{inOrder, answer, done, bitsAt}
+use Rattle.bits.proofs.Stages.{passed}
 use native.Mathlib.Omega.{arith}
-use mathlib.Core.Path.{_≡_, refl, sym, ap, _∙_}
 use borrow.Author.Needs.{needs}
 use Rattle.record.proofs.check_action_facts.Statement.{statement}
 use Rattle.record.proofs.check_action_facts.Tie as tie
-use Rattle.record.proofs.check_action_facts.Reads as reads
-use Rattle.record.proofs.check_action_facts.Lts as lts
-use Rattle.record.proofs.check_facts.Reads as check-facts-reads
 
 add-check-facts : tie.Need-add-check-facts
 add-check-facts c = search needs

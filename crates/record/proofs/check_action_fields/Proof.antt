@@ -1,18 +1,13 @@
 use Prim.Native.Nat.{_+_}
 use Rattle.bits.proofs.Window.{bitsAt-lt}
-use Rattle.bits.proofs.Stages.{passed, skip, skip-stage, hit, stops, stops-stage}
-use Rattle.record.specs.Stages.{goalChecks, initialChecks, actionFactsChecks}
-use Rattle.planning.specs.Record.{factsChecks, variableChecks, actionChecks, preconditionsIn, effectsIn, effectsFrom, actionEnd}
-use Rattle.planning.specs.Basics.{inOrder, answer, done, bitsAt}
+use Rattle.bits.proofs.Stages.{passed, skip, stops}
+use Rattle.record.specs.Stages.{actionFactsChecks}
+use Rattle.planning.specs.Record.{actionChecks, preconditionsIn, effectsIn}
 use native.Mathlib.Omega.{arith}
-use mathlib.Core.Path.{_≡_, refl, sym, ap, _∙_}
+use mathlib.Core.Path.{sym}
 use borrow.Author.Needs.{needs}
 use Rattle.record.proofs.check_action_fields.Statement.{statement}
 use Rattle.record.proofs.check_action_fields.Tie as tie
-use Rattle.record.proofs.check_action_fields.Reads as reads
-use Rattle.record.proofs.check_action_fields.Lts as lts
-use Rattle.record.proofs.check_action_facts.Reads as check-action-facts-reads
-use Rattle.record.proofs.take.Reads as take-reads
 
 take-requires : tie.Need-take-requires
 take-requires c κs = search needs

@@ -1,19 +1,10 @@
 use Rattle.record.proofs.Laws.{Behind, actions-start, action-stops, actions-turn, actions-done}
-use Rattle.bits.proofs.Window.{bitsAt-lt}
-use Rattle.bits.proofs.Stages.{passed, skip, skip-stage, hit, stops, stops-stage}
-use Rattle.record.specs.Stages.{goalChecks, initialChecks, actionFactsChecks}
-use Rattle.planning.specs.Record.{factsChecks, variableChecks, actionChecks, preconditionsIn, effectsIn, effectsFrom, actionEnd}
-use Rattle.planning.specs.Basics.{inOrder, answer, done, bitsAt}
+use Rattle.bits.proofs.Stages.{passed}
 use borrow.Author.Needs.{needs}
-use mathlib.Core.Path.{_≡_, refl, sym, ap, _∙_}
-use Prim.Native.Nat.{ℕ, _+_, _*_, _/_, _^_, _-_, _≤_, _<_}
+use Prim.Native.Nat.{_+_, _*_, _-_}
 use native.Mathlib.Omega.{arith}
-use lib.ListN.{length, getD, take, drop, set, replicate}
 use Rattle.record.proofs.check_actions.Statement.{statement}
 use Rattle.record.proofs.check_actions.Tie as tie
-use Rattle.record.proofs.check_actions.Reads as reads
-use Rattle.record.proofs.check_actions.Lts as lts
-use Rattle.record.proofs.check_action.Reads as check-action-reads
 
 abbrev Inv-loop : tie.InvT-loop
 Inv-loop bytes count variables counts at₀ i₀ at i = Behind bytes (22 + 20 * variables) count at i

@@ -3,9 +3,6 @@ use native.Mathlib.Omega.{arith}
 use borrow.Author.Needs.{needs}
 use Rattle.record.proofs.check_end.Statement.{statement}
 use Rattle.record.proofs.check_end.Tie as tie
-use Rattle.record.proofs.check_end.Reads as reads
-use Rattle.record.proofs.check_end.Lts as lts
-use Rattle.bits.proofs.read_bits.Reads as read-bits-reads
 
 add-size : tie.Need-add-size
 add-size c = search needs

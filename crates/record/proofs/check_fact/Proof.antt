@@ -7,9 +7,6 @@ use mathlib.Core.Path.{sym, ap, _∙_}
 use borrow.Author.Needs.{needs}
 use Rattle.record.proofs.check_fact.Statement.{statement}
 use Rattle.record.proofs.check_fact.Tie as tie
-use Rattle.record.proofs.check_fact.Reads as reads
-use Rattle.record.proofs.check_fact.Lts as lts
-use Rattle.record.proofs.take.Reads as take-reads
 
 take-requires : tie.Need-take-requires
 take-requires c κs = search needs

@@ -1,19 +1,14 @@
 use Rattle.record.proofs.Laws.{facts-start, facts-step, facts-turn, facts-none}
 use Rattle.bits.proofs.Window.{bitsAt-lt}
-use Rattle.bits.proofs.Stages.{passed, skip, skip-stage, hit, stops, stops-stage}
-use Rattle.record.specs.Stages.{goalChecks, initialChecks, actionFactsChecks}
-use Rattle.planning.specs.Record.{factsChecks, variableChecks, actionChecks, preconditionsIn, effectsIn, effectsFrom, actionEnd}
-use Rattle.planning.specs.Basics.{inOrder, answer, done, bitsAt}
+use Rattle.bits.proofs.Stages.{passed, stops-stage}
+use Rattle.planning.specs.Record.{factsChecks}
+use Rattle.planning.specs.Basics.{inOrder, answer}
 use borrow.Author.Needs.{needs}
-use mathlib.Core.Path.{_≡_, refl, sym, ap, _∙_}
-use Prim.Native.Nat.{ℕ, _+_, _*_, _/_, _^_, _-_, _≤_, _<_}
+use mathlib.Core.Path.{_≡_, refl, _∙_}
+use Prim.Native.Nat.{_+_, _*_, _-_, _≤_}
 use native.Mathlib.Omega.{arith}
-use lib.ListN.{length, getD, take, drop, set, replicate}
 use Rattle.record.proofs.check_facts.Statement.{statement}
 use Rattle.record.proofs.check_facts.Tie as tie
-use Rattle.record.proofs.check_facts.Reads as reads
-use Rattle.record.proofs.check_facts.Lts as lts
-use Rattle.record.proofs.check_fact.Reads as check-fact-reads
 
 abbrev Inv-loop : tie.InvT-loop
 Inv-loop bytes from count variables counts i₀ low₀ i low = (i ≤ count) × (inOrder (factsChecks bytes from 0 count) ≡ inOrder (factsChecks bytes (from + 12 * i) low (count - i)))

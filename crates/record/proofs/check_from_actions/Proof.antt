@@ -1,18 +1,8 @@
 use Rattle.record.proofs.Laws.{actions-refused, actions-passed, actions-end}
-use Rattle.bits.proofs.Window.{bitsAt-lt}
-use Rattle.bits.proofs.Stages.{passed, skip, skip-stage, hit, stops, stops-stage}
-use Rattle.record.specs.Stages.{goalChecks, initialChecks, actionFactsChecks}
-use Rattle.planning.specs.Record.{factsChecks, variableChecks, actionChecks, preconditionsIn, effectsIn, effectsFrom, actionEnd}
-use Rattle.planning.specs.Basics.{inOrder, answer, done, bitsAt}
-use native.Mathlib.Omega.{arith}
-use mathlib.Core.Path.{_≡_, refl, sym, ap, _∙_}
+use Rattle.bits.proofs.Stages.{passed}
 use borrow.Author.Needs.{needs}
 use Rattle.record.proofs.check_from_actions.Statement.{statement}
 use Rattle.record.proofs.check_from_actions.Tie as tie
-use Rattle.record.proofs.check_from_actions.Reads as reads
-use Rattle.record.proofs.check_from_actions.Lts as lts
-use Rattle.record.proofs.check_actions.Reads as check-actions-reads
-use Rattle.record.proofs.check_end.Reads as check-end-reads
 
 check-actions-requires : tie.Need-check-actions-requires
 check-actions-requires c κs = search needs

@@ -1,18 +1,9 @@
 use Rattle.record.proofs.Laws.{no-counts, variables-refused, variables-passed}
-use Rattle.bits.proofs.Window.{bitsAt-lt}
-use Rattle.bits.proofs.Stages.{passed, skip, skip-stage, hit, stops, stops-stage, answer-passes}
-use Rattle.record.specs.Stages.{goalChecks, initialChecks, actionFactsChecks}
-use Rattle.planning.specs.Record.{factsChecks, variableChecks, actionChecks, preconditionsIn, effectsIn, effectsFrom, actionEnd}
-use Rattle.planning.specs.Basics.{inOrder, answer, done, bitsAt}
-use native.Mathlib.Omega.{arith}
-use mathlib.Core.Path.{_≡_, refl, sym, ap, _∙_}
+use Rattle.bits.proofs.Stages.{passed, answer-passes}
+use mathlib.Core.Path.{refl}
 use borrow.Author.Needs.{needs}
 use Rattle.record.proofs.check_from_variables.Statement.{statement}
 use Rattle.record.proofs.check_from_variables.Tie as tie
-use Rattle.record.proofs.check_from_variables.Reads as reads
-use Rattle.record.proofs.check_from_variables.Lts as lts
-use Rattle.record.proofs.check_from_actions.Reads as check-from-actions-reads
-use Rattle.record.proofs.check_variables.Reads as check-variables-reads
 
 check-variables-requires : tie.Need-check-variables-requires
 check-variables-requires c κs = (search needs, refl, no-counts _ 64)

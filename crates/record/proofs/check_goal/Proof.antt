@@ -2,18 +2,12 @@ use Rattle.bits.proofs.Stages.{pass-end}
 use Prim.Native.Nat.{_+_}
 use Rattle.record.proofs.Laws.{bit-times, goal-above, goal-right}
 use Rattle.bits.proofs.Window.{bitsAt-lt}
-use Rattle.bits.proofs.Stages.{passed, skip, skip-stage, hit, stops, stops-stage}
-use Rattle.record.specs.Stages.{goalChecks, initialChecks, actionFactsChecks}
-use Rattle.planning.specs.Record.{factsChecks, variableChecks, actionChecks, preconditionsIn, effectsIn, effectsFrom, actionEnd}
-use Rattle.planning.specs.Basics.{inOrder, answer, done, bitsAt}
+use Rattle.bits.proofs.Stages.{passed, skip, hit, stops}
+use Rattle.record.specs.Stages.{goalChecks}
 use native.Mathlib.Omega.{arith}
-use mathlib.Core.Path.{_≡_, refl, sym, ap, _∙_}
 use borrow.Author.Needs.{needs}
 use Rattle.record.proofs.check_goal.Statement.{statement}
 use Rattle.record.proofs.check_goal.Tie as tie
-use Rattle.record.proofs.check_goal.Reads as reads
-use Rattle.record.proofs.check_goal.Lts as lts
-use Rattle.record.proofs.take.Reads as take-reads
 
 add-take : tie.Need-add-take
 add-take c = search needs

@@ -1,18 +1,8 @@
 use Rattle.record.proofs.Laws.{edition-wrong, edition-right, recordCheck-is}
-use Rattle.bits.proofs.Window.{bitsAt-lt}
-use Rattle.bits.proofs.Stages.{passed, skip, skip-stage, hit, stops, stops-stage}
-use Rattle.record.specs.Stages.{goalChecks, initialChecks, actionFactsChecks}
-use Rattle.planning.specs.Record.{factsChecks, variableChecks, actionChecks, preconditionsIn, effectsIn, effectsFrom, actionEnd}
-use Rattle.planning.specs.Basics.{inOrder, answer, done, bitsAt}
-use native.Mathlib.Omega.{arith}
-use mathlib.Core.Path.{_≡_, refl, sym, ap, _∙_}
+use Rattle.bits.proofs.Stages.{passed, skip, hit, stops}
 use borrow.Author.Needs.{needs}
 use Rattle.record.proofs.check_record.Statement.{statement}
 use Rattle.record.proofs.check_record.Tie as tie
-use Rattle.record.proofs.check_record.Reads as reads
-use Rattle.record.proofs.check_record.Lts as lts
-use Rattle.record.proofs.check_from_variable_count.Reads as check-from-variable-count-reads
-use Rattle.record.proofs.take.Reads as take-reads
 
 take-requires : tie.Need-take-requires
 take-requires c κs = search needs

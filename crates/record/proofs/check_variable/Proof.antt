@@ -5,11 +5,6 @@ use borrow.Author.Tests.{not-false}
 use borrow.Author.Needs.{needs}
 use Rattle.record.proofs.check_variable.Statement.{statement}
 use Rattle.record.proofs.check_variable.Tie as tie
-use Rattle.record.proofs.check_variable.Reads as reads
-use Rattle.record.proofs.check_variable.Lts as lts
-use Rattle.bits.proofs.window_at.Reads as window-at-reads
-use Rattle.record.proofs.check_variable_fields.Reads as check-variable-fields-reads
-use Rattle.record.proofs.is_sound_variable.Reads as is-sound-variable-reads
 
 check-variable-fields-requires : tie.Need-check-variable-fields-requires
 check-variable-fields-requires c κs = search needs

@@ -3,8 +3,6 @@ use Rattle.record.proofs.Laws.{false-not}
 use borrow.Author.Needs.{needs}
 use Rattle.record.proofs.is_sound.Statement.{statement}
 use Rattle.record.proofs.is_sound.Tie as tie
-use Rattle.record.proofs.is_sound.Reads as reads
-use Rattle.record.proofs.is_sound.Lts as lts
 
 returns : tie.Need-returns
 returns c = λ e. absurd (false-not e)

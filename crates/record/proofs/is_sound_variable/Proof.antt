@@ -5,8 +5,6 @@ use native.Mathlib.Omega.{arith}
 use borrow.Author.Needs.{needs}
 use Rattle.record.proofs.is_sound_variable.Statement.{statement}
 use Rattle.record.proofs.is_sound_variable.Tie as tie
-use Rattle.record.proofs.is_sound_variable.Reads as reads
-use Rattle.record.proofs.is_sound_variable.Lts as lts
 
 returns : tie.Need-returns
 returns c = λ e. absurd (false-not e)

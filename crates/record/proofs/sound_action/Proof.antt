@@ -5,10 +5,6 @@ use borrow.Author.Tests.{not-false}
 use borrow.Author.Needs.{needs}
 use Rattle.record.proofs.sound_action.Statement.{statement}
 use Rattle.record.proofs.sound_action.Tie as tie
-use Rattle.record.proofs.sound_action.Reads as reads
-use Rattle.record.proofs.sound_action.Lts as lts
-use Rattle.bits.proofs.window_at.Reads as window-at-reads
-use Rattle.record.proofs.sound_facts.Reads as sound-facts-reads
 
 returns : tie.Need-returns
 returns c = λ h. absurd (omega arith)

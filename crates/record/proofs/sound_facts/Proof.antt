@@ -2,16 +2,9 @@
 use Rattle.record.proofs.Laws.{false-not, Run, run-start, run-turn, run-last, run-none}
 use borrow.Author.Tests.{ltb-true}
 use borrow.Author.Needs.{needs}
-use mathlib.Core.Path.{_≡_, refl, sym, ap, _∙_}
-use Prim.Native.Nat.{ℕ, _+_, _*_, _/_, _^_, _-_, _≤_, _<_}
 use native.Mathlib.Omega.{arith}
-use lib.ListN.{length, getD, take, drop, set, replicate}
 use Rattle.record.proofs.sound_facts.Statement.{statement}
 use Rattle.record.proofs.sound_facts.Tie as tie
-use Rattle.record.proofs.sound_facts.Reads as reads
-use Rattle.record.proofs.sound_facts.Lts as lts
-use Rattle.bits.proofs.window_at.Reads as window-at-reads
-use Rattle.record.proofs.sound_few.Reads as sound-few-reads
 
 abbrev Inv-loop : tie.InvT-loop
 Inv-loop bytes from count counts at₀ left₀ low₀ at left low = Run bytes from count at low left

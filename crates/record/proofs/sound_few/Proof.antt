@@ -4,13 +4,10 @@ use Rattle.record.specs.Stages.{Few}
 use Prim.Native.Nat.{_+_, _/_, _%_, _^_}
 use native.Mathlib.Omega.{arith}
 use borrow.Author.Tests.{not-false}
-use mathlib.Core.Path.{_≡_, refl}
+use mathlib.Core.Path.{refl}
 use borrow.Author.Needs.{needs}
 use Rattle.record.proofs.sound_few.Statement.{statement}
 use Rattle.record.proofs.sound_few.Tie as tie
-use Rattle.record.proofs.sound_few.Reads as reads
-use Rattle.record.proofs.sound_few.Lts as lts
-use Rattle.record.proofs.is_sound.Reads as is-sound-reads
 
 is-sound-requires : tie.Need-is-sound-requires
 is-sound-requires c κs = search needs

@@ -1,13 +1,10 @@
 use Rattle.record.proofs.Laws.{take-there, take-short, bitsAt-u32}
 use Rattle.planning.specs.Basics.{done}
-use mathlib.Core.Path.{_≡_, refl, sym, ap, _∙_}
+use mathlib.Core.Path.{ap, _∙_}
 use native.Mathlib.Omega.{arith}
 use borrow.Author.Needs.{needs}
 use Rattle.record.proofs.take.Statement.{statement}
 use Rattle.record.proofs.take.Tie as tie
-use Rattle.record.proofs.take.Reads as reads
-use Rattle.record.proofs.take.Lts as lts
-use Rattle.bits.proofs.read_bits.Reads as read-bits-reads
 
 add-if1 : tie.Need-add-if1
 add-if1 c = search needs

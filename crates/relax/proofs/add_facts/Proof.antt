@@ -2,15 +2,12 @@ use lib.Bits.{bitOr}
 use Rattle.state.proofs.Members.{one-shl}
 use Rattle.relax.proofs.Laws.{Adding, adding-turn, adding-end}
 use borrow.Author.Needs.{needs}
-use mathlib.Core.Path.{_≡_, refl, sym, ap, _∙_}
-use Prim.Native.Nat.{ℕ, _+_, _*_, _/_, _^_, _-_, _≤_, _<_}
+use mathlib.Core.Path.{refl, ap}
+use Prim.Native.Nat.{_/_, _-_, _<_}
 use native.Mathlib.Omega.{arith}
-use lib.ListN.{length, getD, take, drop, set, replicate}
+use lib.ListN.{getD}
 use Rattle.relax.proofs.add_facts.Statement.{statement}
 use Rattle.relax.proofs.add_facts.Tie as tie
-use Rattle.relax.proofs.add_facts.Reads as reads
-use Rattle.relax.proofs.add_facts.Lts as lts
-use Rattle.relax.proofs.wide.Reads as wide-reads
 
 abbrev Inv-loop : tie.InvT-loop
 Inv-loop sets₀ facts from to k₀ sets k = Adding facts from to sets₀ sets k

@@ -1,13 +1,9 @@
-use mathlib.Core.Path.{_≡_, refl, sym, ap, _∙_}
+use mathlib.Core.Path.{refl, _∙_}
 use native.Mathlib.Omega.{arith}
 use Rattle.state.specs.Sets.{actionOf}
 use borrow.Author.Needs.{needs}
 use Rattle.relax.proofs.add_preconditions.Statement.{statement}
 use Rattle.relax.proofs.add_preconditions.Tie as tie
-use Rattle.relax.proofs.add_preconditions.Reads as reads
-use Rattle.relax.proofs.add_preconditions.Lts as lts
-use Rattle.relax.proofs.add_facts.Reads as add-facts-reads
-use Rattle.relax.proofs.wide.Reads as wide-reads
 
 mul-wide : tie.Need-mul-wide
 mul-wide c = search needs

@@ -1,13 +1,9 @@
-use mathlib.Core.Path.{_≡_, refl, sym, ap, _∙_}
+use mathlib.Core.Path.{sym, _∙_}
 use Rattle.state.specs.Sets.{setsOf}
 use Rattle.relax.proofs.Laws.{needed-not, needed-is}
 use borrow.Author.Needs.{needs}
 use Rattle.relax.proofs.first_needed.Statement.{statement}
 use Rattle.relax.proofs.first_needed.Tie as tie
-use Rattle.relax.proofs.first_needed.Reads as reads
-use Rattle.relax.proofs.first_needed.Lts as lts
-use Rattle.relax.proofs.wide.Reads as wide-reads
-use Rattle.state.proofs.holds.Reads as holds-reads
 
 mul-wide : tie.Need-mul-wide
 mul-wide c = search needs

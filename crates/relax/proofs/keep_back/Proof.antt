@@ -1,22 +1,17 @@
-use mathlib.Core.Bool.{true, false, _||_}
+use mathlib.Core.Bool.{_||_}
 use Rattle.planning.specs.Record.{taskOf}
 use Rattle.planning.specs.Runs.{has}
 use Rattle.planning.specs.Relaxed.{reachedNeeded}
-use Rattle.state.specs.Sets.{setsOf, actionOf, Listed}
+use Rattle.state.specs.Sets.{setsOf, actionOf}
 use Rattle.relax.specs.Keeping.{byOf, Keeping}
 use Rattle.relax.proofs.Laws.{keeping-start, entry-listed, keeping-no, keeping-room, keeping-yes, keeping-end}
 use borrow.Author.Needs.{needs}
-use mathlib.Core.Path.{_≡_, refl, sym, ap, _∙_}
-use Prim.Native.Nat.{ℕ, _+_, _*_, _/_, _^_, _-_, _≤_, _<_}
+use mathlib.Core.Path.{_≡_, sym, ap, _∙_}
+use Prim.Native.Nat.{_-_, _<_}
 use native.Mathlib.Omega.{arith}
-use lib.ListN.{length, getD, take, drop, set, replicate}
+use lib.ListN.{getD}
 use Rattle.relax.proofs.keep_back.Statement.{statement}
 use Rattle.relax.proofs.keep_back.Tie as tie
-use Rattle.relax.proofs.keep_back.Reads as reads
-use Rattle.relax.proofs.keep_back.Lts as lts
-use Rattle.relax.proofs.add_preconditions.Reads as add-preconditions-reads
-use Rattle.relax.proofs.reached_needed.Reads as reached-needed-reads
-use Rattle.relax.proofs.wide.Reads as wide-reads
 
 abbrev Inv-loop : tie.InvT-loop
 Inv-loop bytes table masks first run n needed₀ kept₀ k₀ m₀ needed kept k m = Keeping (taskOf bytes) n needed kept k m

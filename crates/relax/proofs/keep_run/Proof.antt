@@ -1,7 +1,7 @@
 use Prim.Native.Nat.{_-_}
 use lib.ListN.{take, drop, length-drop}
 use lib.Seq.{take-all}
-use mathlib.Core.Path.{_≡_, sym, refl, ap, _∙_}
+use mathlib.Core.Path.{_≡_, refl, ap, _∙_}
 use native.Mathlib.Omega.{arith}
 use lib.ListN.{length}
 use Rattle.planning.specs.Runs.{has}
@@ -9,13 +9,6 @@ use Rattle.relax.proofs.Answers.{added-alone, front-of}
 use borrow.Author.Needs.{needs}
 use Rattle.relax.proofs.keep_run.Statement.{statement}
 use Rattle.relax.proofs.keep_run.Tie as tie
-use Rattle.relax.proofs.keep_run.Reads as reads
-use Rattle.relax.proofs.keep_run.Lts as lts
-use Rattle.forward.proofs.copy.Reads as copy-reads
-use Rattle.relax.proofs.add_facts.Reads as add-facts-reads
-use Rattle.relax.proofs.keep_back.Reads as keep-back-reads
-use Rattle.state.proofs.Goals.load.Reads as load-reads
-use Rattle.state.proofs.single_sets.Reads as single-sets-reads
 
 single-sets-requires : tie.Need-single-sets-requires
 single-sets-requires c κs = search needs

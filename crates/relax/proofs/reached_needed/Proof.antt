@@ -4,16 +4,11 @@ use Rattle.state.specs.Sets.{setsOf, actionOf}
 use Rattle.relax.specs.Keeping.{byOf}
 use Rattle.relax.proofs.Laws.{reachedNeeded-hit, reachedNeeded-miss, reachedNeeded-end}
 use borrow.Author.Needs.{needs}
-use mathlib.Core.Path.{_≡_, refl, sym, ap, _∙_}
-use Prim.Native.Nat.{ℕ, _+_, _*_, _/_, _^_, _-_, _≤_, _<_}
+use mathlib.Core.Path.{_≡_, refl, sym, _∙_}
+use Prim.Native.Nat.{_-_, _≤_, _<_}
 use native.Mathlib.Omega.{arith}
-use lib.ListN.{length, getD, take, drop, set, replicate}
 use Rattle.relax.proofs.reached_needed.Statement.{statement}
 use Rattle.relax.proofs.reached_needed.Tie as tie
-use Rattle.relax.proofs.reached_needed.Reads as reads
-use Rattle.relax.proofs.reached_needed.Lts as lts
-use Rattle.relax.proofs.first_needed.Reads as first-needed-reads
-use Rattle.relax.proofs.wide.Reads as wide-reads
 
 abbrev Inv-loop : tie.InvT-loop
 Inv-loop masks needed first table i to k₀ k = (to ≡ endAt table i) × (effAt table i ≤ k) × (k ≤ to) × (reachedNeeded (byOf first) (setsOf needed) i (factsIn table (effAt table i) (endAt table i)) ≡ reachedNeeded (byOf first) (setsOf needed) i (factsIn table k (endAt table i)))

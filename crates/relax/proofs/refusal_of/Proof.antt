@@ -1,10 +1,8 @@
-use mathlib.Core.Path.{_≡_, sym, refl, ap, _∙_}
+use mathlib.Core.Path.{sym, ap}
 use Rattle.relax.specs.Answers.{noPlanOf}
 use borrow.Author.Needs.{needs}
 use Rattle.relax.proofs.refusal_of.Statement.{statement}
 use Rattle.relax.proofs.refusal_of.Tie as tie
-use Rattle.relax.proofs.refusal_of.Reads as reads
-use Rattle.relax.proofs.refusal_of.Lts as lts
 
 enum-known-k : tie.Need-enum-known-k
 enum-known-k c = search needs

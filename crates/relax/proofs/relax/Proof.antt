@@ -1,15 +1,10 @@
-use mathlib.Core.Path.{_≡_, refl, sym, ap, _∙_}
+use mathlib.Core.Path.{sym, ap, _∙_}
 use lib.ListN.{length}
 use Rattle.record.specs.Stages.{checkedOf}
 use Rattle.relax.proofs.Answers.{relax-refused}
 use borrow.Author.Needs.{needs}
 use Rattle.relax.proofs.relax.Statement.{statement}
 use Rattle.relax.proofs.relax.Tie as tie
-use Rattle.relax.proofs.relax.Reads as reads
-use Rattle.relax.proofs.relax.Lts as lts
-use Rattle.lists.proofs.blank.Reads as blank-reads
-use Rattle.record.proofs.check.Reads as check-reads
-use Rattle.relax.proofs.relax_accepted.Reads as relax-accepted-reads
 
 check-requires : tie.Need-check-requires
 check-requires c κs = search needs

@@ -1,5 +1,5 @@
 use Prim.Native.Nat.{_≤_}
-use mathlib.Core.Path.{_≡_, sym, refl, ap, _∙_, subst}
+use mathlib.Core.Path.{sym, refl, ap, _∙_, subst}
 use native.Mathlib.Omega.{arith}
 use lib.ListN.{length}
 use lib.Seq.{length-take-le}
@@ -12,13 +12,6 @@ use Rattle.relax.proofs.Answers.{relax-unsolved, relax-whole, relax-sho
 use borrow.Author.Needs.{needs}
 use Rattle.relax.proofs.relax_accepted.Statement.{statement}
 use Rattle.relax.proofs.relax_accepted.Tie as tie
-use Rattle.relax.proofs.relax_accepted.Reads as reads
-use Rattle.relax.proofs.relax_accepted.Lts as lts
-use Rattle.forward.proofs.lay.Reads as lay-reads
-use Rattle.lists.proofs.blank.Reads as blank-reads
-use Rattle.relax.proofs.refusal_of.Reads as refusal-of-reads
-use Rattle.relax.proofs.relaxed_plan.Reads as relaxed-plan-reads
-use Rattle.table.proofs.load.Reads as load-reads
 
 slice-aggregate-load : tie.Need-slice-aggregate-load
 slice-aggregate-load c = search needs

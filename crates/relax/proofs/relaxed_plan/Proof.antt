@@ -1,4 +1,4 @@
-use mathlib.Core.Path.{_≡_, sym, refl, ap, _∙_}
+use mathlib.Core.Path.{_≡_, sym, refl, _∙_}
 use native.Mathlib.Omega.{arith}
 use borrow.Author.Tests.{not-true, not-false}
 use Rattle.planning.specs.Record.{taskOf}
@@ -9,11 +9,6 @@ use Rattle.forward.proofs.Answers.{reached-facts}
 use borrow.Author.Needs.{needs}
 use Rattle.relax.proofs.relaxed_plan.Statement.{statement}
 use Rattle.relax.proofs.relaxed_plan.Tie as tie
-use Rattle.relax.proofs.relaxed_plan.Reads as reads
-use Rattle.relax.proofs.relaxed_plan.Lts as lts
-use Rattle.forward.proofs.run_forward.Reads as run-forward-reads
-use Rattle.relax.proofs.keep_run.Reads as keep-run-reads
-use Rattle.state.proofs.State.reached.Reads as reached-reads
 
 run-forward-requires : tie.Need-run-forward-requires
 run-forward-requires c κs = search needs

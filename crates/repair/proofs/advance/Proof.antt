@@ -1,17 +1,10 @@
 use borrow.Author.Needs.{needs}
-use mathlib.Core.Path.{_≡_, refl, sym, ap, _∙_, subst}
-use Prim.Native.Nat.{ℕ, _+_, _*_, _/_, _%_, _^_, _-_, _≤_, _<_}
 use native.Mathlib.Omega.{arith}
-use lib.ListN.{length, getD, take, drop, set, replicate}
 use Rattle.planning.specs.Record.{taskOf}
 use Rattle.state.specs.Sets.{setsOf, modeOf}
 use Rattle.repair.proofs.Below.{steps-long, steps-put, steps-bounds, part-entries, steps-ran}
 use Rattle.repair.proofs.advance.Statement.{statement}
 use Rattle.repair.proofs.advance.Tie as tie
-use Rattle.repair.proofs.advance.Reads as reads
-use Rattle.repair.proofs.advance.Lts as lts
-use Rattle.repair.proofs.arrange.Reads as arrange-reads
-use Rattle.repair.proofs.run_list.Reads as run-list-reads
 
 arrange-requires : tie.Need-arrange-requires
 arrange-requires c κs = let p = c .before .before .before .before .before .before .before .before .before .before .before .pre in (p .0, p .1, p .2, p .3, p .4)

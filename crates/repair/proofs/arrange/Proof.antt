@@ -1,22 +1,15 @@
 use borrow.Author.Needs.{needs}
-use mathlib.Core.Path.{_≡_, refl, sym, ap, _∙_, subst}
-use Prim.Native.Nat.{ℕ, _+_, _*_, _/_, _%_, _^_, _-_, _≤_, _<_}
+use Prim.Native.Nat.{_+_, _*_}
 use native.Mathlib.Omega.{arith}
-use lib.ListN.{length, getD, take, drop, set, replicate}
 use Rattle.planning.specs.Record.{taskOf}
 use Rattle.planning.specs.Runs.{act}
-use Rattle.table.specs.Table.{factsIn}
-use Rattle.state.specs.Sets.{setsOf, modeOf}
+use Rattle.state.specs.Sets.{setsOf}
 use Rattle.paths.proofs.Arriving.{ground-formed, ground-listed}
 use Rattle.passes.proofs.Putting.{put-long, put-full, put-more}
 use Rattle.repair.specs.Repairs.{movesFor}
-use Rattle.repair.proofs.Arranging.{moves-none, moves-some, part-wanted, moves-pre}
+use Rattle.repair.proofs.Arranging.{part-wanted, moves-pre}
 use Rattle.repair.proofs.arrange.Statement.{statement}
 use Rattle.repair.proofs.arrange.Tie as tie
-use Rattle.repair.proofs.arrange.Reads as reads
-use Rattle.repair.proofs.arrange.Lts as lts
-use Rattle.repair.proofs.wide.Reads as wide-reads
-use Rattle.repair.proofs.moves.Reads as moves-reads
 
 wide-requires : tie.Need-wide-requires
 wide-requires c κs = search needs

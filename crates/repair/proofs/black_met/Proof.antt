@@ -1,18 +1,14 @@
 use borrow.Author.Needs.{needs}
-use mathlib.Core.Path.{_≡_, refl, sym, ap, _∙_}
-use Prim.Native.Nat.{ℕ, _+_, _*_, _/_, _^_, _-_, _≤_, _<_}
+use mathlib.Core.Path.{_≡_, refl, sym, _∙_}
+use Prim.Native.Nat.{_-_, _≤_}
 use native.Mathlib.Omega.{arith}
-use lib.ListN.{length, getD, take, drop, set, replicate}
+use lib.ListN.{length}
 use Rattle.planning.specs.Repair.{blackMet}
 use Rattle.table.specs.Table.{factsIn}
 use Rattle.state.specs.Sets.{modeOf, setsOf}
 use Rattle.repair.proofs.Values.{met-fails, met-passes, met-end}
 use Rattle.repair.proofs.black_met.Statement.{statement}
 use Rattle.repair.proofs.black_met.Tie as tie
-use Rattle.repair.proofs.black_met.Reads as reads
-use Rattle.repair.proofs.black_met.Lts as lts
-use Rattle.repair.proofs.unmet.Reads as unmet-reads
-use Rattle.repair.proofs.wide.Reads as wide-reads
 
 abbrev Inv-loop : tie.InvT-loop
 Inv-loop masks sets facts paint k₀ k = (k ≤ length facts) × (blackMet (modeOf paint) (setsOf sets) (factsIn facts 0 (length facts)) ≡ blackMet (modeOf paint) (setsOf sets) (factsIn facts k (length facts)))

@@ -2,9 +2,6 @@ use borrow.Author.Needs.{needs}
 use Rattle.repair.proofs.Ending.{capacity-is}
 use Rattle.repair.proofs.capacity.Statement.{statement}
 use Rattle.repair.proofs.capacity.Tie as tie
-use Rattle.repair.proofs.capacity.Reads as reads
-use Rattle.repair.proofs.capacity.Lts as lts
-use Rattle.repair.proofs.lesser.Reads as lesser-reads
 
 lesser-requires : tie.Need-lesser-requires
 lesser-requires c κs = search needs

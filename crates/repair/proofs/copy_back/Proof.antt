@@ -1,15 +1,12 @@
 use borrow.Author.Needs.{needs}
-use mathlib.Core.Path.{_≡_, refl, sym, ap, _∙_}
-use Prim.Native.Nat.{ℕ, _+_, _*_, _/_, _^_, _-_, _≤_, _<_}
+use mathlib.Core.Path.{_≡_}
+use Prim.Native.Nat.{ℕ, _-_, _≤_}
 use native.Mathlib.Omega.{arith}
-use lib.ListN.{length, getD, take, drop, set, replicate}
 use mathlib.Core.Path.{subst}
 use lib.Seq.{paste, paste-zero}
 use Rattle.repair.proofs.Values.{Copying, copying-turn, copying-long}
 use Rattle.repair.proofs.copy_back.Statement.{statement}
 use Rattle.repair.proofs.copy_back.Tie as tie
-use Rattle.repair.proofs.copy_back.Reads as reads
-use Rattle.repair.proofs.copy_back.Lts as lts
 
 abbrev Inv-loop : tie.InvT-loop
 Inv-loop work n plan₀ at k₀ plan k = Copying work plan₀ plan at k × (k ≤ n)

@@ -1,18 +1,14 @@
 use borrow.Author.Needs.{needs}
-use mathlib.Core.Path.{_≡_, refl, sym, ap, _∙_, subst}
-use Prim.Native.Nat.{ℕ, _+_, _*_, _/_, _%_, _^_, _-_, _≤_, _<_}
+use mathlib.Core.Path.{sym, _∙_}
+use Prim.Native.Nat.{_-_}
 use native.Mathlib.Omega.{arith}
-use lib.ListN.{length, getD, take, drop, set, replicate}
+use lib.ListN.{length}
 use Rattle.planning.specs.Record.{taskOf}
 use Rattle.table.specs.Table.{factsIn}
 use Rattle.state.specs.Sets.{setsOf}
 use Rattle.repair.proofs.Filling.{Filling, filling-start, filling-long, filling-turn, filling-end, order-black}
 use Rattle.repair.proofs.fill.Statement.{statement}
 use Rattle.repair.proofs.fill.Tie as tie
-use Rattle.repair.proofs.fill.Reads as reads
-use Rattle.repair.proofs.fill.Lts as lts
-use Rattle.repair.proofs.wide.Reads as wide-reads
-use Rattle.repair.proofs.serve.Reads as serve-reads
 
 abbrev Inv-loop : tie.InvT-loop
 Inv-loop bytes table head chain masks paint order sets ever memo₀ wanted plan₀ at work₀ e₀ p₀ memo plan work e p = Filling (taskOf bytes) (setsOf ever) (setsOf sets) order (factsIn wanted 0 (length wanted)) plan₀ plan memo work at e p

@@ -1,22 +1,11 @@
 use borrow.Author.Needs.{needs}
-use mathlib.Core.Path.{_≡_, refl, sym, ap, _∙_, subst}
-use Prim.Native.Nat.{ℕ, _+_, _*_, _/_, _%_, _^_, _-_, _≤_, _<_}
-use native.Mathlib.Omega.{arith}
-use lib.ListN.{length, getD, take, drop, set, replicate}
+use lib.ListN.{length}
 use Rattle.planning.specs.Record.{taskOf}
-use Rattle.planning.specs.Runs.{act}
 use Rattle.table.specs.Table.{factsIn}
 use Rattle.state.specs.Sets.{setsOf, modeOf}
-use Rattle.paths.proofs.Arriving.{ground-formed, ground-listed}
-use Rattle.passes.proofs.Putting.{put-long, put-full, put-more}
-use Rattle.repair.specs.Repairs.{movesFor}
-use Rattle.repair.proofs.Arranging.{moves-none, moves-some, part-wanted, moves-pre}
+use Rattle.repair.proofs.Arranging.{moves-none, moves-some}
 use Rattle.repair.proofs.moves.Statement.{statement}
 use Rattle.repair.proofs.moves.Tie as tie
-use Rattle.repair.proofs.moves.Reads as reads
-use Rattle.repair.proofs.moves.Lts as lts
-use Rattle.repair.proofs.black_met.Reads as black-met-reads
-use Rattle.repair.proofs.fill.Reads as fill-reads
 
 black-met-requires : tie.Need-black-met-requires
 black-met-requires c κs = let p = c .before .before .before .before .before .before .before .pre in (p .0 .ground .masked, p .1 .small)

@@ -1,8 +1,7 @@
 use borrow.Author.Needs.{needs}
-use mathlib.Core.Path.{_≡_, refl, sym, ap, _∙_, subst}
-use Prim.Native.Nat.{ℕ, _+_, _*_, _/_, _%_, _^_, _-_, _≤_, _<_}
+use mathlib.Core.Path.{refl, sym}
 use native.Mathlib.Omega.{arith}
-use lib.ListN.{length, getD, take, drop, set, replicate}
+use lib.ListN.{length, drop}
 use mathlib.Core.List.{[]}
 use lib.Seq.{length-take-le}
 use Rattle.planning.specs.Record.{taskOf}
@@ -10,10 +9,6 @@ use Rattle.planning.specs.Repair.{repaired}
 use Rattle.repair.proofs.Ending.{room-fits, fronts-same, ends-long, ends-small, ends-held}
 use Rattle.repair.proofs.repair.Statement.{statement}
 use Rattle.repair.proofs.repair.Tie as tie
-use Rattle.repair.proofs.repair.Reads as reads
-use Rattle.repair.proofs.repair.Lts as lts
-use Rattle.repair.proofs.capacity.Reads as capacity-reads
-use Rattle.repair.proofs.repair_with.Reads as repair-with-reads
 
 capacity-requires : tie.Need-capacity-requires
 capacity-requires c κs = search needs

@@ -1,16 +1,12 @@
 use borrow.Author.Needs.{needs}
-use mathlib.Core.Path.{_≡_, refl, sym, ap, _∙_, subst}
-use Prim.Native.Nat.{ℕ, _+_, _*_, _/_, _%_, _^_, _-_, _≤_, _<_}
+use mathlib.Core.Path.{refl, sym, _∙_}
+use Prim.Native.Nat.{_-_}
 use native.Mathlib.Omega.{arith}
-use lib.ListN.{length, getD, take, drop, set, replicate}
+use lib.ListN.{length}
 use Rattle.planning.specs.Record.{taskOf}
 use Rattle.repair.proofs.Repairing.{Repairing, repairing-start, repairing-long, repairing-turn, repairing-goals}
 use Rattle.repair.proofs.repair_from.Statement.{statement}
 use Rattle.repair.proofs.repair_from.Tie as tie
-use Rattle.repair.proofs.repair_from.Reads as reads
-use Rattle.repair.proofs.repair_from.Lts as lts
-use Rattle.repair.proofs.advance.Reads as advance-reads
-use Rattle.repair.proofs.moves.Reads as moves-reads
 
 abbrev Inv-loop : tie.InvT-loop
 Inv-loop bytes table head chain masks paint order sets₀ ever₀ memo₀ wanted relaxed plan₀ work₀ at₀ j₀ sets ever memo plan work at j = Repairing (taskOf bytes) relaxed plan₀ plan memo work sets ever at j

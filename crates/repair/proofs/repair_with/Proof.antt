@@ -1,8 +1,6 @@
 use borrow.Author.Needs.{needs}
-use mathlib.Core.Path.{_≡_, refl, sym, ap, _∙_, subst}
-use Prim.Native.Nat.{ℕ, _+_, _*_, _/_, _%_, _^_, _-_, _≤_, _<_}
+use mathlib.Core.Path.{refl, sym, ap, _∙_}
 use native.Mathlib.Omega.{arith}
-use lib.ListN.{length, getD, take, drop, set, replicate}
 use lib.Seq.{length-take-le}
 use Rattle.planning.specs.Record.{taskOf}
 use Rattle.state.specs.Sets.{setsOf}
@@ -10,13 +8,6 @@ use Rattle.paths.proofs.Arriving.{ground-formed}
 use Rattle.repair.proofs.Ending.{goals-are, goals-wanted}
 use Rattle.repair.proofs.repair_with.Statement.{statement}
 use Rattle.repair.proofs.repair_with.Tie as tie
-use Rattle.repair.proofs.repair_with.Reads as reads
-use Rattle.repair.proofs.repair_with.Lts as lts
-use Rattle.repair.proofs.repair_from.Reads as repair-from-reads
-use Rattle.repair.proofs.sets_of.Reads as sets-of-reads
-use Rattle.repair.proofs.facts_of.Reads as facts-of-reads
-use Rattle.state.proofs.State.initial.Reads as initial-reads
-use Rattle.state.proofs.Goals.load.Reads as load-reads
 
 initial-requires : tie.Need-initial-requires
 initial-requires c κs = c .before .before .before .before .before .before .pre .0 .ground .accepted

@@ -1,17 +1,13 @@
 use borrow.Author.Needs.{needs}
-use mathlib.Core.Path.{_≡_, refl, sym, ap, _∙_}
-use Prim.Native.Nat.{ℕ, _+_, _*_, _/_, _^_, _-_, _≤_, _<_}
+use mathlib.Core.Path.{refl}
+use Prim.Native.Nat.{_-_}
 use native.Mathlib.Omega.{arith}
-use lib.ListN.{length, getD, take, drop, set, replicate}
+use lib.ListN.{length}
 use Rattle.planning.specs.Record.{taskOf}
 use Rattle.state.specs.Sets.{modeOf}
 use Rattle.repair.proofs.Values.{Running, running-listed, running-turn, running-end}
 use Rattle.repair.proofs.run_list.Statement.{statement}
 use Rattle.repair.proofs.run_list.Tie as tie
-use Rattle.repair.proofs.run_list.Reads as reads
-use Rattle.repair.proofs.run_list.Lts as lts
-use Rattle.repair.proofs.wide.Reads as wide-reads
-use Rattle.state.proofs.apply.Reads as apply-reads
 
 abbrev Inv-loop : tie.InvT-loop
 Inv-loop bytes table sets₀ list mode k₀ sets k = Running (taskOf bytes) (modeOf mode) list sets₀ sets k

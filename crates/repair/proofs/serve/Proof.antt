@@ -15,13 +15,6 @@ use Rattle.passes.proofs.Putting.{blank-memo}
 use Rattle.repair.proofs.Serving.{serve-long, serve-fits, serve-done}
 use Rattle.repair.proofs.serve.Statement.{statement}
 use Rattle.repair.proofs.serve.Tie as tie
-use Rattle.repair.proofs.serve.Reads as reads
-use Rattle.repair.proofs.serve.Lts as lts
-use Rattle.passes.proofs.forget.Reads as forget-reads
-use Rattle.passes.proofs.pass.Reads as pass-reads
-use Rattle.repair.proofs.copy_back.Reads as copy-back-reads
-use Rattle.repair.proofs.value.Reads as value-reads
-use Rattle.table.proofs.count.Reads as count-reads
 
 forget-requires : tie.Need-forget-requires
 forget-requires c κs = search needs

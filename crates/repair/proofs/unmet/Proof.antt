@@ -5,9 +5,6 @@ use Rattle.state.specs.Sets.{setsOf}
 use Rattle.repair.proofs.Values.{unmet-black, unmet-red}
 use Rattle.repair.proofs.unmet.Statement.{statement}
 use Rattle.repair.proofs.unmet.Tie as tie
-use Rattle.repair.proofs.unmet.Reads as reads
-use Rattle.repair.proofs.unmet.Lts as lts
-use Rattle.state.proofs.holds.Reads as holds-reads
 
 shr-if1 : tie.Need-shr-if1
 shr-if1 c = search needs

@@ -5,9 +5,6 @@ use Rattle.planning.specs.Runs.{count}
 use Rattle.repair.proofs.Values.{value-is, value-zero}
 use Rattle.repair.proofs.value.Statement.{statement}
 use Rattle.repair.proofs.value.Tie as tie
-use Rattle.repair.proofs.value.Reads as reads
-use Rattle.repair.proofs.value.Lts as lts
-use Rattle.repair.proofs.least.Reads as least-reads
 
 mul-least : tie.Need-mul-least
 mul-least c = search needs

@@ -1,8 +1,7 @@
 use borrow.Author.Needs.{needs}
-use mathlib.Core.Path.{_≡_, refl, sym, ap, _∙_}
-use Prim.Native.Nat.{ℕ, _+_, _*_, _/_, _^_, _-_, _≤_, _<_}
+use mathlib.Core.Path.{_≡_, refl, sym, _∙_}
+use Prim.Native.Nat.{_-_, _≤_, _<_}
 use native.Mathlib.Omega.{arith}
-use lib.ListN.{length, getD, take, drop, set, replicate}
 use borrow.Author.Tests.{not-true, not-false}
 use Rattle.planning.specs.Runs.{holds}
 use Rattle.table.specs.Table.{factsIn}
@@ -10,10 +9,6 @@ use Rattle.state.specs.Sets.{setsOf}
 use Rattle.state.proofs.Effects.{holds-fails, holds-passes, holds-end}
 use Rattle.state.proofs.all_hold.Statement.{statement}
 use Rattle.state.proofs.all_hold.Tie as tie
-use Rattle.state.proofs.all_hold.Reads as reads
-use Rattle.state.proofs.all_hold.Lts as lts
-use Rattle.state.proofs.holds.Reads as holds-reads
-use Rattle.state.proofs.wide.Reads as wide-reads
 
 abbrev Inv-loop : tie.InvT-loop
 Inv-loop masks sets facts from to k₀ k = (from ≤ k) × (k ≤ to) × (holds (setsOf sets) (factsIn facts from to) ≡ holds (setsOf sets) (factsIn facts k to))

@@ -4,10 +4,6 @@ use native.Mathlib.Omega.{arith}
 use Rattle.state.specs.Sets.{actionOf}
 use Rattle.state.proofs.applies.Statement.{statement}
 use Rattle.state.proofs.applies.Tie as tie
-use Rattle.state.proofs.applies.Reads as reads
-use Rattle.state.proofs.applies.Lts as lts
-use Rattle.state.proofs.all_hold.Reads as all-hold-reads
-use Rattle.state.proofs.wide.Reads as wide-reads
 
 mul-wide : tie.Need-mul-wide
 mul-wide c = search needs

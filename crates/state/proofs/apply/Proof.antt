@@ -1,16 +1,11 @@
 use borrow.Author.Needs.{needs}
-use mathlib.Core.Path.{_≡_, refl, sym, ap, _∙_}
-use Prim.Native.Nat.{ℕ, _+_, _*_, _/_, _^_, _-_, _≤_, _<_}
+use mathlib.Core.Path.{refl}
+use Prim.Native.Nat.{_-_, _<_}
 use native.Mathlib.Omega.{arith}
-use lib.ListN.{length, getD, take, drop, set, replicate}
 use Rattle.state.specs.Sets.{inSet}
 use Rattle.state.proofs.Effects.{Putting, putting-start, putting-small, putting-turn, putting-end}
 use Rattle.state.proofs.apply.Statement.{statement}
 use Rattle.state.proofs.apply.Tie as tie
-use Rattle.state.proofs.apply.Reads as reads
-use Rattle.state.proofs.apply.Lts as lts
-use Rattle.state.proofs.changed.Reads as changed-reads
-use Rattle.state.proofs.wide.Reads as wide-reads
 
 abbrev Inv-loop : tie.InvT-loop
 Inv-loop sets₀ table i mode end k₀ sets k = Putting table i mode sets₀ end sets k

@@ -1,18 +1,13 @@
 use borrow.Author.Needs.{needs}
-use mathlib.Core.Path.{_≡_, refl, sym, ap, _∙_}
-use Prim.Native.Nat.{ℕ, _+_, _*_, _/_, _^_, _-_, _≤_, _<_}
+use Prim.Native.Nat.{_-_, _<_}
 use native.Mathlib.Omega.{arith}
-use lib.ListN.{length, getD, take, drop, set, replicate}
+use lib.ListN.{set}
 use Rattle.planning.specs.Record.{taskOf}
 use Rattle.planning.proofs.Formed.{formed-of}
 use mathlib.Core.Logic.{⊎-elim}
 use Rattle.state.proofs.Loading.{Painting, painting-start, painting-black, painting-red, painting-end}
 use Rattle.state.proofs.painted.Statement.{statement}
 use Rattle.state.proofs.painted.Tie as tie
-use Rattle.state.proofs.painted.Reads as reads
-use Rattle.state.proofs.painted.Lts as lts
-use Rattle.table.proofs.is_black.Reads as is-black-reads
-use Rattle.table.proofs.variables.Reads as variables-reads
 
 abbrev Inv-loop : tie.InvT-loop
 Inv-loop bytes n set₀ v₀ set v = Painting (taskOf bytes) n set v

@@ -3,15 +3,11 @@ use Rattle.graph.proofs.Ways.{few-variables}
 use Rattle.graph.specs.Given.{foundOf}
 use Rattle.planning.specs.Record.{taskOf}
 use borrow.Author.Needs.{needs}
-use mathlib.Core.Path.{_≡_, refl, sym, ap, _∙_}
-use Prim.Native.Nat.{ℕ, _+_, _*_, _/_, _^_, _-_, _≤_, _<_}
+use mathlib.Core.Path.{sym, ap, _∙_}
+use Prim.Native.Nat.{_-_, _<_}
 use native.Mathlib.Omega.{arith}
-use lib.ListN.{length, getD, take, drop, set, replicate}
 use Rattle.graph.proofs.Order.clients_first.Statement.{statement}
 use Rattle.graph.proofs.Order.clients_first.Tie as tie
-use Rattle.graph.proofs.Order.clients_first.Reads as reads
-use Rattle.graph.proofs.Order.clients_first.Lts as lts
-use Rattle.graph.proofs.lowest_ready.Reads as lowest-ready-reads
 
 abbrev Inv-loop : tie.InvT-loop
 Inv-loop bytes rows paint n o₀ left₀ k₀ o left k = Taking (taskOf bytes) n (o .vars) (o .count) left k

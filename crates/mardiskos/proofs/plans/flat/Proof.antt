@@ -4,8 +4,6 @@ use Rattle.mardiskos.specs.Plans.{planResultOf}
 use borrow.Author.Needs.{needs}
 use Rattle.mardiskos.proofs.plans.flat.Statement.{statement}
 use Rattle.mardiskos.proofs.plans.flat.Tie as tie
-use Rattle.mardiskos.proofs.plans.flat.Reads as reads
-use Rattle.mardiskos.proofs.plans.flat.Lts as lts
 
 enum-known-p : tie.Need-enum-known-p
 enum-known-p c = search needs

@@ -6,10 +6,6 @@ use Rattle.mardiskos.specs.Plans.{planResultOf}
 use borrow.Author.Needs.{needs}
 use Rattle.mardiskos.proofs.plans.mardiskos_plan.Statement.{statement}
 use Rattle.mardiskos.proofs.plans.mardiskos_plan.Tie as tie
-use Rattle.mardiskos.proofs.plans.mardiskos_plan.Reads as reads
-use Rattle.mardiskos.proofs.plans.mardiskos_plan.Lts as lts
-use Rattle.mardiskos.proofs.plans.flat.Reads as flat-reads
-use Rattle.planner.proofs.plan.Reads as plan-reads
 
 plan-requires : tie.Need-plan-requires
 plan-requires c κs = search needs

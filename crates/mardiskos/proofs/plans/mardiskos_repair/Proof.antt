@@ -5,10 +5,6 @@ use Rattle.mardiskos.specs.Plans.{planResultOf}
 use borrow.Author.Needs.{needs}
 use Rattle.mardiskos.proofs.plans.mardiskos_repair.Statement.{statement}
 use Rattle.mardiskos.proofs.plans.mardiskos_repair.Tie as tie
-use Rattle.mardiskos.proofs.plans.mardiskos_repair.Reads as reads
-use Rattle.mardiskos.proofs.plans.mardiskos_repair.Lts as lts
-use Rattle.mardiskos.proofs.plans.flat.Reads as flat-reads
-use Rattle.planner.proofs.repair.Reads as repair-reads
 
 repair-requires : tie.Need-repair-requires
 repair-requires c κs = search needs

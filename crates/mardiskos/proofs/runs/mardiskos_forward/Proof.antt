@@ -1,12 +1,9 @@
-use mathlib.Core.Path.{_≡_, refl, sym, ap, _∙_}
+use mathlib.Core.Path.{sym, ap, _∙_}
 use Rattle.forward.specs.Answers.{foundOf}
 use Rattle.mardiskos.specs.Runs.{forwardRunOf}
 use borrow.Author.Needs.{needs}
 use Rattle.mardiskos.proofs.runs.mardiskos_forward.Statement.{statement}
 use Rattle.mardiskos.proofs.runs.mardiskos_forward.Tie as tie
-use Rattle.mardiskos.proofs.runs.mardiskos_forward.Reads as reads
-use Rattle.mardiskos.proofs.runs.mardiskos_forward.Lts as lts
-use Rattle.forward.proofs.forward.Reads as forward-reads
 
 forward-requires : tie.Need-forward-requires
 forward-requires c κs = search needs

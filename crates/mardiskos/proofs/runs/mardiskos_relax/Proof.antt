@@ -1,12 +1,9 @@
-use mathlib.Core.Path.{_≡_, refl, sym, ap, _∙_}
+use mathlib.Core.Path.{sym, ap, _∙_}
 use Rattle.relax.specs.Answers.{relaxedOf}
 use Rattle.mardiskos.specs.Runs.{relaxedPlanOf}
 use borrow.Author.Needs.{needs}
 use Rattle.mardiskos.proofs.runs.mardiskos_relax.Statement.{statement}
 use Rattle.mardiskos.proofs.runs.mardiskos_relax.Tie as tie
-use Rattle.mardiskos.proofs.runs.mardiskos_relax.Reads as reads
-use Rattle.mardiskos.proofs.runs.mardiskos_relax.Lts as lts
-use Rattle.relax.proofs.relax.Reads as relax-reads
 
 relax-requires : tie.Need-relax-requires
 relax-requires c κs = search needs

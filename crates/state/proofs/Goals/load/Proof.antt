@@ -1,8 +1,7 @@
 use borrow.Author.Needs.{needs}
 use mathlib.Core.Path.{_≡_, refl, sym, ap, _∙_}
-use Prim.Native.Nat.{ℕ, _+_, _*_, _/_, _^_, _-_, _≤_, _<_}
+use Prim.Native.Nat.{_-_, _<_}
 use native.Mathlib.Omega.{arith}
-use lib.ListN.{length, getD, take, drop, set, replicate}
 use Rattle.planning.specs.Record.{taskOf}
 use Rattle.planning.proofs.Formed.{formed-of}
 use mathlib.Core.Option.{some}
@@ -12,10 +11,6 @@ use Rattle.state.proofs.Tabled.{goals-small}
 use Rattle.state.proofs.Loading.{Loading, goal-small, loading-start, loading-skip, loading-take, loading-end}
 use Rattle.state.proofs.Goals.load.Statement.{statement}
 use Rattle.state.proofs.Goals.load.Tie as tie
-use Rattle.state.proofs.Goals.load.Reads as reads
-use Rattle.state.proofs.Goals.load.Lts as lts
-use Rattle.table.proofs.goal_of.Reads as goal-of-reads
-use Rattle.table.proofs.variables.Reads as variables-reads
 
 abbrev Inv-loop : tie.InvT-loop
 Inv-loop bytes n goals₀ v₀ goals v = Loading (taskOf bytes) n (goals .facts) (goals .count) v

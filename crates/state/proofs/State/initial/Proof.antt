@@ -1,17 +1,11 @@
 use borrow.Author.Needs.{needs}
-use mathlib.Core.Path.{_≡_, refl, sym, ap, _∙_}
-use Prim.Native.Nat.{ℕ, _+_, _*_, _/_, _^_, _-_, _≤_, _<_}
+use Prim.Native.Nat.{_-_}
 use native.Mathlib.Omega.{arith}
-use lib.ListN.{length, getD, take, drop, set, replicate}
 use Rattle.planning.specs.Record.{taskOf}
 use Rattle.planning.proofs.Formed.{formed-of}
 use Rattle.state.proofs.Loading.{Starting, init-small, starting-start, starting-turn, starting-end}
 use Rattle.state.proofs.State.initial.Statement.{statement}
 use Rattle.state.proofs.State.initial.Tie as tie
-use Rattle.state.proofs.State.initial.Reads as reads
-use Rattle.state.proofs.State.initial.Lts as lts
-use Rattle.table.proofs.initial.Reads as initial-reads
-use Rattle.table.proofs.variables.Reads as variables-reads
 
 abbrev Inv-loop : tie.InvT-loop
 Inv-loop bytes n s₀ v₀ s v = Starting (taskOf bytes) n (s .sets) v
