@@ -9,8 +9,9 @@ use Rattle.planning.specs.Basics.{Answer}
 use Rattle.planning.specs.Record.{Task, taskOf}
 use Rattle.planning.specs.Calls.{lent, planIn, Planned as Result, planOf, planCall, planList, repairCall, repairList, workList}
 use Rattle.planning.specs.Existence.{ReturnsPlan, Complete, Demand3, Bounded}
+use Rattle.planning.specs.Relaxed.{relaxedPlan}
 use Rattle.planning.specs.Repair.{repaired}
-use Rattle.planning.proofs.Calls.{repairCall-bounded}
+use Rattle.planning.proofs.Calls.{planCall-bounded, repairCall-bounded}
 use Rattle.planning.proofs.Demand3.{demand3}
 use Rattle.planner.specs.declared.Planned.{Planned}
 use Rattle.planner.specs.declared.Planned.the-variants.{Plan, Refused}
@@ -45,6 +46,10 @@ module _ (a : Answer Result) (l plan : List ℕ) (n : ℕ) (en : length plan ≡
       ap (take s) e ∙ (subst (λ x. take x (take s plan ++ replicate (length plan - length (take s plan)) 65535) ≡ l) q (take-append-seam (take s plan) _ ∙ D .front .1))
   settled-front (Refused f) D plan′ e z = absurd z
 
+-- the bound of the steps
+bounded-same : (s k : List ℕ) (a : Answer Result) (l : List ℕ) (r : Answer Result) → r ≡ a → (l′ : List ℕ) → (ReturnsPlan r → l′ ≡ l) → Bounded s k a l → Bounded s k r l′
+bounded-same s k a l r e l′ f B z = rw (f z) (subst (λ x. Bounded s k x l) (sym e) B z)
+
 -- demand 3 of the planner's list
 complete-same : (t : Task) (n w : ℕ) (r : Answer Result) (l l′ : List ℕ) → (ReturnsPlan r → l′ ≡ l) → Complete t n w r l → Complete t n w r l′
 complete-same t n w r l l′ e C =
@@ -57,14 +62,14 @@ complete-same t n w r l l′ e C =
     }
 
 pub plan-settled : (s : List ℕ) (n w : ℕ) (plan : List ℕ) → length plan ≡ n → (r : Planned) → Drafted (planCall s n w) (planOf (taskOf s)) plan r → (plan′ : List ℕ) → plan′ ≡ lent (answerOf r) (length plan) (planIn (answerOf r) plan)
-    → (plan′ ≡ planList s n w) × Demand3 s n w (answerOf r) (planIn (answerOf r) plan′)
+    → (plan′ ≡ planList s n w) × Demand3 s n w (answerOf r) (planIn (answerOf r) plan′) × Bounded s (relaxedPlan (taskOf s)) (answerOf r) (planIn (answerOf r) plan′)
 unfolding planList
-plan-settled s n w plan en r D plan′ e = (
-  settled-list (planCall s n w) (planOf (taskOf s)) plan n en r D plan′ e,
-  λ rec acy ret.
-      complete-same (taskOf s) n w (answerOf r) (planOf (taskOf s)) (planIn (answerOf r) plan′) (settled-front (planCall s n w) (planOf (taskOf s)) plan n en r D plan′ e)
-      (rw (D .answer) (demand3 s n w rec acy ret)),
-)
+plan-settled s n w plan en r D plan′ e =
+    let front = settled-front (planCall s n w) (planOf (taskOf s)) plan n en r D plan′ e in (
+      settled-list (planCall s n w) (planOf (taskOf s)) plan n en r D plan′ e,
+      λ rec acy ret. complete-same (taskOf s) n w (answerOf r) (planOf (taskOf s)) (planIn (answerOf r) plan′) front (rw (D .answer) (demand3 s n w rec acy ret)),
+      bounded-same s (relaxedPlan (taskOf s)) (planCall s n w) (planOf (taskOf s)) (answerOf r) (D .answer) (planIn (answerOf r) plan′) front (planCall-bounded s n w),
+    )
 
 -- the same of a caller's repair
 pub repair-settled : (s k : List ℕ) (n w : ℕ) (plan : List ℕ) → length plan ≡ n → (r : Planned) → Drafted (repairCall s k n w) (repaired (taskOf s) k) plan r → (plan′ : List ℕ) → plan′ ≡ lent (answerOf r) (length plan) (planIn (answerOf r) plan)
@@ -72,5 +77,5 @@ pub repair-settled : (s k : List ℕ) (n w : ℕ) (plan : List ℕ) → length p
 unfolding repairList
 repair-settled s k n w plan en r D plan′ e = (
   settled-list (repairCall s k n w) (repaired (taskOf s) k) plan n en r D plan′ e,
-  λ z. rw (settled-front (repairCall s k n w) (repaired (taskOf s) k) plan n en r D plan′ e z) (subst (λ x. Bounded s k x (repaired (taskOf s) k)) (sym (D .answer)) (repairCall-bounded s k n w) z),
+  bounded-same s k (repairCall s k n w) (repaired (taskOf s) k) (answerOf r) (D .answer) (planIn (answerOf r) plan′) (settled-front (repairCall s k n w) (repaired (taskOf s) k) plan n en r D plan′ e) (repairCall-bounded s k n w),
 )

@@ -15,6 +15,7 @@ ghost use lib.ListN.{length};
 ghost use Rattle.planning.specs.Basics.{answer, done};
 ghost use Rattle.planning.specs.Record.{taskOf, recordCheck};
 ghost use Rattle.planning.specs.Runs.{relaxed, isPlan, costOf};
+ghost use Rattle.planning.specs.Relaxed.{relaxedPlan};
 ghost use Rattle.planning.specs.Repair.{repaired};
 ghost use Rattle.planning.specs.Calls.{capacityOf, roomCheck, planned, planOf, planCall, planList, repairCall, repairList, workList, planIn, runnable, lent};
 ghost use Rattle.planning.specs.Existence.{Demand3, Bounded};
@@ -56,6 +57,7 @@ fn cost(bytes: &[u8], table: &[u16], list: &[u16]) -> u64
     sum
 }
 
+// The array of an order, which alone can be lent in part.
 fn order_of(o: Order) -> [u16; 64]
     ensures { λ r. ⌜ (r ≡ o .vars) × (length r ≡ 64) ⌝ }
 {
@@ -68,7 +70,7 @@ fn assess(bytes: &[u8], table: &[u16], masks: &[u64; 64], list: &[u16]) -> Plann
     ensures { λ r. ⌜ answerOf r ≡ done (planned (taskOf (now (bytes .entry))) (now (list .entry))) ⌝ }
 {
     let sum = cost(bytes, table, list) as u32;
-    let v = judge::judge_one(masks, bytes, table, list, 18446744073709551615);
+    let v = judge::judge_one(masks, bytes, table, list, u64::MAX);
     Planned::Plan {
         steps: list.len() as u32,
         cost: sum,
@@ -182,6 +184,7 @@ fn repair_loaded(
     draft(bytes, table, &head, &chain, paint, &rows, list, plan, work)
 }
 
+// The table of a small record is small, so that little has to be cleared.
 fn plan_accepted(bytes: &[u8], plan: &mut [u16], work: &mut [u16]) -> Planned
     requires { ⌜ recordCheck (now bytes) ≡ none ⌝ }
     ensures { λ r. ⌜ Drafted (planCall (now (bytes .entry)) (length (now (plan .entry))) (length (now (work .entry)))) (planOf (taskOf (now (bytes .entry)))) (now (plan .exit)) r ⌝ }
@@ -196,6 +199,7 @@ fn plan_accepted(bytes: &[u8], plan: &mut [u16], work: &mut [u16]) -> Planned
     plan_loaded(bytes, &table, plan, work)
 }
 
+// The same with a caller's list.
 fn repair_accepted(bytes: &[u8], list: &[u16], plan: &mut [u16], work: &mut [u16]) -> Planned
     requires { ⌜ recordCheck (now bytes) ≡ none ⌝ }
     ensures { λ r. ⌜ Drafted (repairCall (now (bytes .entry)) (now (list .entry)) (length (now (plan .entry))) (length (now (work .entry)))) (repaired (taskOf (now (bytes .entry))) (now (list .entry))) (now (plan .exit)) r ⌝ }
@@ -262,6 +266,7 @@ pub fn plan(bytes: &[u8], plan: &mut [u16], work: &mut [u16]) -> Planned
     ensures { λ r. ⌜ now (plan .exit) ≡ planList (now (bytes .entry)) (length (now (plan .entry))) (length (now (work .entry))) ⌝ }
     ensures { λ r. ⌜ now (work .exit) ≡ workList (length (now (work .entry))) ⌝ }
     ensures { λ r. ⌜ Demand3 (now (bytes .entry)) (length (now (plan .entry))) (length (now (work .entry))) (answerOf r) (planIn (answerOf r) (now (plan .exit))) ⌝ }
+    ensures { λ r. ⌜ Bounded (now (bytes .entry)) (relaxedPlan (taskOf (now (bytes .entry)))) (answerOf r) (planIn (answerOf r) (now (plan .exit))) ⌝ }
 {
     let r = plan_checked(bytes, plan, work);
     finish(r, plan, work);

@@ -136,6 +136,23 @@ planCall-returned s n w p e =
       fits′ = roomCheck-none (length (planOf t)) (capacityOf n w) (Q .1 .1 .1 .1 .0);
     }
 
+pub planCall-bounded : (s : List ℕ) (n w : ℕ) → Bounded s (relaxedPlan (taskOf s)) (planCall s n w) (planOf (taskOf s))
+unfolding planCall planOf acyclicCheck returnCheck goalsCheck
+planCall-bounded s n w = go (planCall s n w) refl
+  where
+    t : Task
+    t = taskOf s
+
+    go : (r : Answer Planned) → planCall s n w ≡ r → Bounded s (relaxedPlan t) r (planOf t)
+    go (refused _ _) e = λ z. absurd z
+    go (done p) e = λ _.
+        let Q = answer-passed _ (planned t (planOf t)) p e .0 in
+        let F = formed-of s (Q .0) in
+        let acy = refuseAt-none 7 (cyclic t) (Q .1 .0) in
+        let ret = refuseAt-none 8 (unreturned t) (Q .1 .1 .0) in
+        let sol = T→true (reachesGoals t) (check-none (reachesGoals t) 10 (factsReached t) (Q .1 .1 .1 .0)) in
+        (planOf-is-plan t F acy ret sol, repaired-length t F acy ret (relaxedPlan t) (relaxedPlan-is-plan t F sol))
+
 -- with the record accepted and the painting passed, the planner answers in one of three ways
 module _ (s : List ℕ) (n w : ℕ) (rec : recordCheck s ≡ none) (acy : cyclic (taskOf s) ≡ none) (ret : unreturned (taskOf s) ≡ none) where
   pub planCall-none : reachesGoals (taskOf s) ≡ false → planCall s n w ≡ refused 10 (factsReached (taskOf s))

@@ -19,7 +19,7 @@ same-length-2 : tie.Need-same-length-2
 same-length-2 c = search needs
 
 returns : tie.Need-returns
-returns c = let a = c .before .before .before .before .before .before .before .before .before .before .before .before .before .before .before .before .before .args in let D = c .before .before .before .before .before .before .before .before .before .before .before .plan-checked .ensures in let E = c .before .before .before .before .finish .ensures in let S = plan-settled (a .bytes .now) (length (a .plan .now)) (length (a .work .now)) _ (c .before .before .before .before .before .before .before .before .before .before .plan .given) _ D _ (E .0) in (D .answer, (S .0, (E .1 ∙ ap workList (c .before .before .before .before .before .before .before .before .work .given), S .1)))
+returns c = let a = c .before .before .before .before .before .before .before .before .before .before .before .before .before .before .before .before .before .args in let D = c .before .before .before .before .before .before .before .before .before .before .before .plan-checked .ensures in let E = c .before .before .before .before .finish .ensures in let S = plan-settled (a .bytes .now) (length (a .plan .now)) (length (a .work .now)) _ (c .before .before .before .before .before .before .before .before .before .before .plan .given) _ D _ (E .0) in (D .answer, (S .0, (E .1 ∙ ap workList (c .before .before .before .before .before .before .before .before .work .given), (S .1, S .2))))
 
 pub plan-spec : {M : Type 1} → statement M
 plan-spec =
