@@ -1,4 +1,3 @@
-use borrow.Author.Needs.{needs}
 use Rattle.repair.proofs.Ending.{capacity-is}
 use Rattle.repair.proofs.capacity.Statement.{statement}
 use Rattle.repair.proofs.capacity.Tie as tie
@@ -7,10 +6,10 @@ use Rattle.repair.proofs.capacity.Lts as lts
 use Rattle.repair.proofs.lesser.Reads as lesser-reads
 
 lesser-requires : tie.Need-lesser-requires
-lesser-requires c κs = search needs
+lesser-requires c κs = tt
 
 lesser-requires-2 : tie.Need-lesser-requires-2
-lesser-requires-2 c κs = search needs
+lesser-requires-2 c κs = tt
 
 returns : tie.Need-returns
 returns c = capacity-is _ _ _ _ (c .before .lesser .ensures) (c .lesser2 .ensures)

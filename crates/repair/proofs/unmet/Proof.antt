@@ -10,7 +10,7 @@ use Rattle.repair.proofs.unmet.Lts as lts
 use Rattle.state.proofs.holds.Reads as holds-reads
 
 shr-if1 : tie.Need-shr-if1
-shr-if1 c = search needs
+shr-if1 c = omega arith
 
 holds-requires : tie.Need-holds-requires
 holds-requires c κs = search needs
