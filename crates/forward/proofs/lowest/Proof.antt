@@ -1,6 +1,6 @@
 use Rattle.forward.proofs.Bits.{Searching, searching-turn, searching-end, searching-found}
-use borrow.Author.Needs.{needs}
-use Prim.Native.Nat.{_-_}
+use mathlib.Core.Path.{_≡_, refl, sym, ap, _∙_}
+use Prim.Native.Nat.{ℕ, _+_, _*_, _/_, _^_, _-_, _≤_, _<_}
 use native.Mathlib.Omega.{arith}
 use Rattle.forward.proofs.lowest.Statement.{statement}
 use Rattle.forward.proofs.lowest.Tie as tie
@@ -15,34 +15,34 @@ loop-holds : tie.Need-loop-holds Inv-loop μ-loop
 loop-holds c = record { within = omega arith; empty = λ v l. absurd (omega arith) }
 
 mul-if1 : tie.Need-mul-if1 Inv-loop μ-loop
-mul-if1 c = search needs
+mul-if1 c = omega arith
 
 element-copy-out-if1 : tie.Need-element-copy-out-if1 Inv-loop μ-loop
-element-copy-out-if1 c = search needs
+element-copy-out-if1 c = omega arith
 
 mul-result : tie.Need-mul-result Inv-loop μ-loop
-mul-result c = search needs
+mul-result c = omega arith
 
 mul-lowest-in : tie.Need-mul-lowest-in Inv-loop μ-loop
-mul-lowest-in c = search needs
+mul-lowest-in c = omega arith
 
 element-copy-out-lowest-in : tie.Need-element-copy-out-lowest-in Inv-loop μ-loop
-element-copy-out-lowest-in c = search needs
+element-copy-out-lowest-in c = omega arith
 
 lowest-in-requires : tie.Need-lowest-in-requires Inv-loop μ-loop
-lowest-in-requires c κs = search needs
+lowest-in-requires c κs = omega arith
 
 add-result : tie.Need-add-result Inv-loop μ-loop
-add-result c = search needs
+add-result c = omega arith
 
 returns : tie.Need-returns Inv-loop μ-loop
 returns c = searching-found _ _ _ (c .before .before .before .before .before .loop .inv) (omega arith) (c .lowest-in .ensures)
 
 add-w : tie.Need-add-w Inv-loop μ-loop
-add-w c = search needs
+add-w c = omega arith
 
 loop-less : tie.Need-loop-less Inv-loop μ-loop
-loop-less c = search needs
+loop-less c = omega arith
 
 loop-again : tie.Need-loop-again Inv-loop μ-loop
 loop-again c = searching-turn _ _ (c .before .before .before .loop .inv) (omega arith) (c .if1 .left)

@@ -17,46 +17,48 @@ abbrev μ-loop : tie.MeasureT-loop
 μ-loop masks sets table i first₀ to k₀ new₀ first k new = to - k
 
 mul-wide : tie.Need-mul-wide Inv-loop μ-loop
-mul-wide c = search needs
+mul-wide c = omega arith
 
 add-wide : tie.Need-add-wide Inv-loop μ-loop
-add-wide c = search needs
+add-wide c = omega arith
 
 mul-wide-2 : tie.Need-mul-wide-2 Inv-loop μ-loop
-mul-wide-2 c = search needs
+mul-wide-2 c = omega arith
 
 shared-slice-read-wide : tie.Need-shared-slice-read-wide Inv-loop μ-loop
-shared-slice-read-wide c = search needs
+shared-slice-read-wide c = omega arith
 
 wide-requires : tie.Need-wide-requires Inv-loop μ-loop
-wide-requires c κs = search needs
+wide-requires c κs = tt
 
 mul-wide-3 : tie.Need-mul-wide-3 Inv-loop μ-loop
-mul-wide-3 c = search needs
+mul-wide-3 c = omega arith
 
 add-wide-2 : tie.Need-add-wide-2 Inv-loop μ-loop
-add-wide-2 c = search needs
+add-wide-2 c = omega arith
 
 mul-wide-4 : tie.Need-mul-wide-4 Inv-loop μ-loop
-mul-wide-4 c = search needs
+mul-wide-4 c = omega arith
 
 shared-slice-read-wide-2 : tie.Need-shared-slice-read-wide-2 Inv-loop μ-loop
-shared-slice-read-wide-2 c = search needs
+shared-slice-read-wide-2 c = omega arith
 
 wide-requires-2 : tie.Need-wide-requires-2 Inv-loop μ-loop
-wide-requires-2 c κs = search needs
+wide-requires-2 c κs = tt
 
 loop-holds : tie.Need-loop-holds Inv-loop μ-loop
-loop-holds c = (c .before .before .wide .ensures, noting-start _ _ _ _ _ _ _ (c .wide2 .ensures) (c .before .before .before .before .before .pre .0 .eff-below) (search needs))
+loop-holds c =
+    let at-start = c .before .before .before .before .before in
+    (c .before .before .wide .ensures, noting-start _ _ _ _ _ _ _ (c .wide2 .ensures) (at-start .pre .0 .eff-below) (search needs))
 
 mul-wide-5 : tie.Need-mul-wide-5 Inv-loop μ-loop
-mul-wide-5 c = search needs
+mul-wide-5 c = omega arith
 
 shared-slice-read-wide-3 : tie.Need-shared-slice-read-wide-3 Inv-loop μ-loop
-shared-slice-read-wide-3 c = search needs
+shared-slice-read-wide-3 c = omega arith
 
 wide-requires-3 : tie.Need-wide-requires-3 Inv-loop μ-loop
-wide-requires-3 c κs = search needs
+wide-requires-3 c κs = tt
 
 small : (c : tie.After-wide3 Inv-loop μ-loop) → c .wide3 .result < 4096
 small c =
@@ -68,7 +70,7 @@ holds-requires : tie.Need-holds-requires Inv-loop μ-loop
 holds-requires c κs = (omega (arith, small c), omega (arith, small c), search needs)
 
 cast-first : tie.Need-cast-first Inv-loop μ-loop
-cast-first c = search needs
+cast-first c = omega arith
 
 mul-first : tie.Need-mul-first Inv-loop μ-loop
 mul-first c = record { fits = omega (arith, small (c .before .before)) }
@@ -77,13 +79,21 @@ element-write-first : tie.Need-element-write-first Inv-loop μ-loop
 element-write-first c = omega (arith, small (c .before .before))
 
 add-k : tie.Need-add-k Inv-loop μ-loop
-add-k c = search needs
+add-k c = omega arith
 
 loop-less : tie.Need-loop-less Inv-loop μ-loop
-loop-less c = search needs
+loop-less c = omega arith
 
 loop-again : tie.Need-loop-again Inv-loop μ-loop
-loop-again c = let I = c .before .before .before .before .before .loop .inv in (I .0, ⊎-elim (λ q. noting-new _ _ _ _ _ _ _ _ _ _ (I .1) (omega (arith, I .0)) (c .before .before .wide3 .ensures) (small (c .before .before)) (sym (c .before .holds .ensures) ∙ not-true _ (q .0 .taken)) _ _ (q .1) (q .2)) (λ q. noting-old _ _ _ _ _ _ _ _ _ _ (I .1) (omega (arith, I .0)) (c .before .before .wide3 .ensures) (sym (c .before .holds .ensures) ∙ not-false _ (q .0 .left)) _ _ (q .1) (q .2)) (c .if1 .came))
+loop-again c =
+    let at-head = c .before .before .before .before .before in
+    let I = at-head .loop .inv in (
+      I .0,
+      ⊎-elim (λ q. noting-new _ _ _ _ _ _ _ _ _ _ (I .1) (omega (arith, I .0)) (c .before .before .wide3 .ensures) (small (c .before .before))
+          (sym (c .before .holds .ensures) ∙ not-true _ (q .0 .taken)) _ _ (q .1) (q .2))
+          (λ q. noting-old _ _ _ _ _ _ _ _ _ _ (I .1) (omega (arith, I .0)) (c .before .before .wide3 .ensures)
+          (sym (c .before .holds .ensures) ∙ not-false _ (q .0 .left)) _ _ (q .1) (q .2)) (c .if1 .came),
+    )
 
 returns : tie.Need-returns Inv-loop μ-loop
 unfolding actionOf

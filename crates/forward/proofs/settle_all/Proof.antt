@@ -21,25 +21,30 @@ returns : tie.Need-returns Inv-loop μ-loop
 returns c = sites-ended _ _ _ _ _ _ _ _ _ (c .before .before .loop .inv) (c .if1 .taken)
 
 cast-after : tie.Need-cast-after Inv-loop μ-loop
-cast-after c = search needs
+cast-after c = omega arith
 
 mul-after : tie.Need-mul-after Inv-loop μ-loop
-mul-after c = search needs
+mul-after c = omega arith
 
 element-copy-out-after : tie.Need-element-copy-out-after Inv-loop μ-loop
-element-copy-out-after c = search needs
+element-copy-out-after c = omega arith
 
 settle-requires : tie.Need-settle-requires Inv-loop μ-loop
-settle-requires c κs = let S = c .before .before .before .before .before .before .loop .inv in (c .before .before .before .before .before .before .before .before .pre .0 (c .before .before .before .before .before .before .loop .j) (front _ _ _ _ _ _ _ _ _ S (omega arith) .below), omega arith, S .ready-long, search needs)
+settle-requires c κs =
+    let at-head = c .before .before .before .before .before .before in
+    let S = at-head .loop .inv in
+    (at-head .before .before .pre .0 (at-head .loop .j) (front _ _ _ _ _ _ _ _ _ S (omega arith) .below), omega arith, S .ready-long, search needs)
 
 sub-left : tie.Need-sub-left Inv-loop μ-loop
-sub-left c = search needs
+sub-left c = omega arith
 
 loop-less : tie.Need-loop-less Inv-loop μ-loop
-loop-less c = search needs
+loop-less c = omega arith
 
 loop-again : tie.Need-loop-again Inv-loop μ-loop
-loop-again c = sites-settled _ _ _ _ _ _ _ _ _ (c .before .before .before .before .before .before .before .loop .inv) (omega arith) _ _ _ (c .settle .ensures)
+loop-again c =
+    let at-head = c .before .before .before .before .before .before .before in
+    sites-settled _ _ _ _ _ _ _ _ _ (at-head .loop .inv) (omega arith) _ _ _ (c .settle .ensures)
 
 returns-2 : tie.Need-returns-2 Inv-loop μ-loop
 returns-2 c = sites-spent _ _ _ _ _ _ _ _ _ (c .before .loop .inv) (omega arith)

@@ -2,9 +2,8 @@ use mathlib.Core.List.{[]}
 use Rattle.planning.specs.Runs.{has}
 use Rattle.state.specs.Sets.{setsOf, actionOf}
 use Rattle.forward.proofs.Chains.{Entered, entered-start, entered-turn}
-use borrow.Author.Needs.{needs}
-use mathlib.Core.Path.{_≡_}
-use Prim.Native.Nat.{_-_, _≤_}
+use mathlib.Core.Path.{_≡_, refl, sym, ap, _∙_}
+use Prim.Native.Nat.{ℕ, _+_, _*_, _/_, _^_, _-_, _≤_, _<_}
 use native.Mathlib.Omega.{arith}
 use Rattle.forward.proofs.settle_each.Statement.{statement}
 use Rattle.forward.proofs.settle_each.Tie as tie
@@ -19,16 +18,16 @@ loop-holds : tie.Need-loop-holds Inv-loop μ-loop
 loop-holds c = let p = c .before .pre in (omega arith, entered-start _ _ _ _ _ _ (p .3) (p .4) (p .5))
 
 cast-settle : tie.Need-cast-settle Inv-loop μ-loop
-cast-settle c = search needs
+cast-settle c = omega arith
 
 settle-requires : tie.Need-settle-requires Inv-loop μ-loop
 settle-requires c κs = let I = c .before .before .before .before .loop .inv in let p = c .before .before .before .before .before .before .pre in (p .0 (c .before .before .before .before .loop .j) (omega arith), omega (arith, p .1), I .1 .sites .ready-long, p .2)
 
 add-j : tie.Need-add-j Inv-loop μ-loop
-add-j c = search needs
+add-j c = omega arith
 
 loop-less : tie.Need-loop-less Inv-loop μ-loop
-loop-less c = search needs
+loop-less c = omega arith
 
 loop-again : tie.Need-loop-again Inv-loop μ-loop
 loop-again c = let I = c .before .before .before .before .before .loop .inv in (omega arith, entered-turn _ _ _ _ _ _ _ _ _ _ (I .1) (omega (arith, c .before .before .before .before .before .before .before .pre .1)) (c .settle .ensures))

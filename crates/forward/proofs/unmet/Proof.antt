@@ -18,13 +18,13 @@ loop-holds : tie.Need-loop-holds Inv-loop μ-loop
 loop-holds c = record { from = search needs; to = search needs; passed = λ x p q. absurd (omega arith) }
 
 mul-wide : tie.Need-mul-wide Inv-loop μ-loop
-mul-wide c = search needs
+mul-wide c = omega arith
 
 shared-slice-read-wide : tie.Need-shared-slice-read-wide Inv-loop μ-loop
-shared-slice-read-wide c = search needs
+shared-slice-read-wide c = omega arith
 
 wide-requires : tie.Need-wide-requires Inv-loop μ-loop
-wide-requires c κs = search needs
+wide-requires c κs = tt
 
 small : (c : tie.After-wide Inv-loop μ-loop) → c .wide .result < 4096
 small c = omega (arith, c .wide .ensures, c .before .before .before .before .before .pre .3 (c .before .before .before .loop .k) (c .before .before .before .loop .inv .from) (omega arith))
@@ -33,19 +33,27 @@ holds-requires : tie.Need-holds-requires Inv-loop μ-loop
 holds-requires c κs = (omega (arith, small c), omega (arith, small c), search needs)
 
 returns : tie.Need-returns Inv-loop μ-loop
-returns c = let a = c .before .before .before .before .before .before .before .args in let I = c .before .before .before .before .before .loop .inv in record { from = I .from; to = I .to; passed = I .passed; open′ = λ _. open-at (setsOf (a .sets .now)) _ _ (c .before .before .wide .ensures) (sym (c .before .holds .ensures) ∙ not-true _ (c .if1 .taken)) }
+returns c =
+    let at-head = c .before .before .before .before .before in
+    let a = at-head .before .before .args in
+    let I = at-head .loop .inv in
+    record { from = I .from; to = I .to; passed = I .passed; open′ = λ _. open-at (setsOf (a .sets .now)) _ _ (c .before .before .wide .ensures) (sym (c .before .holds .ensures) ∙ not-true _ (c .if1 .taken)) }
 
 add-k : tie.Need-add-k Inv-loop μ-loop
-add-k c = search needs
+add-k c = omega arith
 
 loop-less : tie.Need-loop-less Inv-loop μ-loop
-loop-less c = search needs
+loop-less c = omega arith
 
 loop-again : tie.Need-loop-again Inv-loop μ-loop
-loop-again c = passing-turn _ _ _ _ _ _ (c .before .before .before .before .before .loop .inv) (omega arith) (c .before .before .wide .ensures) (sym (c .before .holds .ensures) ∙ not-false _ (c .if1 .left))
+loop-again c =
+    let at-head = c .before .before .before .before .before in
+    passing-turn _ _ _ _ _ _ (at-head .loop .inv) (omega arith) (c .before .before .wide .ensures) (sym (c .before .holds .ensures) ∙ not-false _ (c .if1 .left))
 
 returns-2 : tie.Need-returns-2 Inv-loop μ-loop
-returns-2 c = let I = c .before .loop .inv in record { from = omega (arith, I .from); to = omega arith; passed = λ k p q. I .passed k p (omega arith); open′ = λ h. absurd (omega arith) }
+returns-2 c =
+    let I = c .before .loop .inv in
+    record { from = omega (arith, I .from); to = omega arith; passed = λ k p q. I .passed k p (omega arith); open′ = λ h. absurd (omega arith) }
 
 pub unmet-spec : {M : Type 1} → statement M
 unmet-spec =

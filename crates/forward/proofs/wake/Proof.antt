@@ -18,47 +18,47 @@ abbrev μ-loop : tie.MeasureT-loop
 μ-loop masks sets table actions head₀ next₀ ready₀ i to k₀ head next ready k = to - k
 
 mul-wide : tie.Need-mul-wide Inv-loop μ-loop
-mul-wide c = search needs
+mul-wide c = omega arith
 
 add-wide : tie.Need-add-wide Inv-loop μ-loop
-add-wide c = search needs
+add-wide c = omega arith
 
 mul-wide-2 : tie.Need-mul-wide-2 Inv-loop μ-loop
-mul-wide-2 c = search needs
+mul-wide-2 c = omega arith
 
 shared-slice-read-wide : tie.Need-shared-slice-read-wide Inv-loop μ-loop
-shared-slice-read-wide c = search needs
+shared-slice-read-wide c = omega arith
 
 wide-requires : tie.Need-wide-requires Inv-loop μ-loop
-wide-requires c κs = search needs
+wide-requires c κs = tt
 
 mul-wide-3 : tie.Need-mul-wide-3 Inv-loop μ-loop
-mul-wide-3 c = search needs
+mul-wide-3 c = omega arith
 
 add-wide-2 : tie.Need-add-wide-2 Inv-loop μ-loop
-add-wide-2 c = search needs
+add-wide-2 c = omega arith
 
 mul-wide-4 : tie.Need-mul-wide-4 Inv-loop μ-loop
-mul-wide-4 c = search needs
+mul-wide-4 c = omega arith
 
 shared-slice-read-wide-2 : tie.Need-shared-slice-read-wide-2 Inv-loop μ-loop
-shared-slice-read-wide-2 c = search needs
+shared-slice-read-wide-2 c = omega arith
 
 wide-requires-2 : tie.Need-wide-requires-2 Inv-loop μ-loop
-wide-requires-2 c κs = search needs
+wide-requires-2 c κs = tt
 
 loop-holds : tie.Need-loop-holds Inv-loop μ-loop
 unfolding actionOf
 loop-holds c = let L = c .before .before .before .before .before .pre .2 in (c .before .before .wide .ensures, omega (arith, c .wide2 .ensures), omega (arith, c .wide2 .ensures, c .before .before .wide .ensures, L .eff-below), rw (c .before .before .wide .ensures, c .wide2 .ensures) (c .before .before .before .before .before .pre .3))
 
 mul-wide-5 : tie.Need-mul-wide-5 Inv-loop μ-loop
-mul-wide-5 c = search needs
+mul-wide-5 c = omega arith
 
 shared-slice-read-wide-3 : tie.Need-shared-slice-read-wide-3 Inv-loop μ-loop
-shared-slice-read-wide-3 c = search needs
+shared-slice-read-wide-3 c = omega arith
 
 wide-requires-3 : tie.Need-wide-requires-3 Inv-loop μ-loop
-wide-requires-3 c κs = search needs
+wide-requires-3 c κs = tt
 
 small : (c : tie.After-wide3 Inv-loop μ-loop) → c .wide3 .result < 4096
 small c =
@@ -79,19 +79,33 @@ element-write-head : tie.Need-element-write-head Inv-loop μ-loop
 element-write-head c = small (c .before)
 
 add-k : tie.Need-add-k Inv-loop μ-loop
-add-k c = search needs
+add-k c = omega arith
 
 settle-all-requires : tie.Need-settle-all-requires Inv-loop μ-loop
-settle-all-requires c κs = let p = c .before .before .before .before .before .before .before .before .before .before .before .before .before .pre in let I = c .before .before .before .before .before .before .before .loop .inv in (p .0, search needs, sites-off _ _ _ _ _ _ _ (I .3) _ (small (c .before .before .before .before)) _ (has-less _ _ _ _ (omega arith) (omega (arith, I .0, p .2 .end-below)) (c .before .before .before .before .wide3 .ensures)))
+settle-all-requires c κs =
+    let at-wide3 = c .before .before .before .before in
+    let at-head = at-wide3 .before .before .before in
+    let at-start = at-head .before .before .before .before .before .before in
+    let p = at-start .pre in
+    let I = at-head .loop .inv in
+    (p .0, search needs, sites-off _ _ _ _ _ _ _ (I .3) _ (small (at-wide3)) _ (has-less _ _ _ _ (omega arith) (omega (arith, I .0, p .2 .end-below)) (at-wide3 .wide3 .ensures)))
 
 loop-less : tie.Need-loop-less Inv-loop μ-loop
-loop-less c = search needs
+loop-less c = omega arith
 
 loop-again : tie.Need-loop-again Inv-loop μ-loop
-loop-again c = let I = c .before .before .before .before .before .before .before .before .loop .inv in (I .0, omega (arith, I .1), omega arith, c .settle-all .ensures)
+loop-again c =
+    let at-head = c .before .before .before .before .before .before .before .before in
+    let I = at-head .loop .inv in
+    (I .0, omega (arith, I .1), omega arith, c .settle-all .ensures)
 
 returns : tie.Need-returns Inv-loop μ-loop
-returns c = let I = c .before .loop .inv in let e : c .before .loop .k ≡ c .before .before .before .before .wide .result = omega (arith, I .2) in rw (e, factsIn-none (c .before .before .before .before .before .before .before .args .table .now) (c .before .before .before .before .wide .result)) at (I .3)
+returns c =
+    let at-wide = c .before .before .before .before in
+    let at-start = at-wide .before .before .before in
+    let I = c .before .loop .inv in
+    let e : c .before .loop .k ≡ at-wide .wide .result = omega (arith, I .2) in
+    rw (e, factsIn-none (at-start .args .table .now) (at-wide .wide .result)) at (I .3)
 
 pub wake-spec : {M : Type 1} → statement M
 wake-spec =

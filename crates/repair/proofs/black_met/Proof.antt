@@ -1,6 +1,5 @@
-use borrow.Author.Needs.{needs}
-use mathlib.Core.Path.{_≡_, refl, sym, _∙_}
-use Prim.Native.Nat.{_-_, _≤_}
+use mathlib.Core.Path.{_≡_, refl, sym, ap, _∙_}
+use Prim.Native.Nat.{ℕ, _+_, _*_, _/_, _^_, _-_, _≤_, _<_}
 use native.Mathlib.Omega.{arith}
 use lib.ListN.{length}
 use Rattle.planning.specs.Repair.{blackMet}
@@ -20,31 +19,46 @@ loop-holds : tie.Need-loop-holds Inv-loop μ-loop
 loop-holds c = (omega arith, refl)
 
 mul-wide : tie.Need-mul-wide Inv-loop μ-loop
-mul-wide c = search needs
+mul-wide c = omega arith
 
 shared-slice-read-wide : tie.Need-shared-slice-read-wide Inv-loop μ-loop
-shared-slice-read-wide c = search needs
+shared-slice-read-wide c = omega arith
 
 wide-requires : tie.Need-wide-requires Inv-loop μ-loop
-wide-requires c κs = search needs
+wide-requires c κs = tt
 
 unmet-requires : tie.Need-unmet-requires Inv-loop μ-loop
-unmet-requires c κs = let p = c .before .before .before .before .before .pre in (p .0, omega (arith, c .wide .ensures, p .1 (c .before .before .before .loop .k) (omega arith)))
+unmet-requires c κs =
+    let at-head = c .before .before .before in
+    let p = at-head .before .before .pre in
+    (p .0, omega (arith, c .wide .ensures, p .1 (at-head .loop .k) (omega arith)))
 
 returns : tie.Need-returns Inv-loop μ-loop
-returns c = sym (c .before .before .before .before .before .loop .inv .1 ∙ met-fails (c .before .before .before .before .before .before .before .args .facts .now) (c .before .before .before .before .before .loop .k) (omega arith) (modeOf (c .before .before .before .before .before .before .before .args .paint)) (setsOf (c .before .before .before .before .before .before .before .args .sets .now)) _ (c .before .before .wide .ensures) (sym (c .before .unmet .ensures) ∙ c .if1 .taken))
+returns c =
+    let at-head = c .before .before .before .before .before in
+    sym (at-head .loop .inv .1 ∙ met-fails (at-head .before .before .args .facts .now) (at-head .loop .k) (omega arith)
+    (modeOf (at-head .before .before .args .paint)) (setsOf (at-head .before .before .args .sets .now)) _ (c .before .before .wide .ensures)
+    (sym (c .before .unmet .ensures) ∙ c .if1 .taken))
 
 add-k : tie.Need-add-k Inv-loop μ-loop
-add-k c = search needs
+add-k c = omega arith
 
 loop-less : tie.Need-loop-less Inv-loop μ-loop
-loop-less c = search needs
+loop-less c = omega arith
 
 loop-again : tie.Need-loop-again Inv-loop μ-loop
-loop-again c = (omega arith, c .before .before .before .before .before .loop .inv .1 ∙ met-passes (c .before .before .before .before .before .before .before .args .facts .now) (c .before .before .before .before .before .loop .k) (omega arith) (modeOf (c .before .before .before .before .before .before .before .args .paint)) (setsOf (c .before .before .before .before .before .before .before .args .sets .now)) _ (c .before .before .wide .ensures) (sym (c .before .unmet .ensures) ∙ c .if1 .left))
+loop-again c =
+    let at-head = c .before .before .before .before .before in (
+      omega arith,
+      at-head .loop .inv .1 ∙ met-passes (at-head .before .before .args .facts .now) (at-head .loop .k) (omega arith)
+          (modeOf (at-head .before .before .args .paint)) (setsOf (at-head .before .before .args .sets .now)) _ (c .before .before .wide .ensures)
+          (sym (c .before .unmet .ensures) ∙ c .if1 .left),
+    )
 
 returns-2 : tie.Need-returns-2 Inv-loop μ-loop
-returns-2 c = sym (c .before .loop .inv .1 ∙ met-end (c .before .before .before .args .facts .now) (c .before .loop .k) (modeOf (c .before .before .before .args .paint)) (setsOf (c .before .before .before .args .sets .now)) (omega (arith, c .before .loop .inv .0)))
+returns-2 c =
+    let at-start = c .before .before .before in
+    sym (c .before .loop .inv .1 ∙ met-end (at-start .args .facts .now) (c .before .loop .k) (modeOf (at-start .args .paint)) (setsOf (at-start .args .sets .now)) (omega (arith, c .before .loop .inv .0)))
 
 pub black-met-spec : {M : Type 1} → statement M
 black-met-spec =

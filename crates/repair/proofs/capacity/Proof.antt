@@ -1,13 +1,12 @@
-use borrow.Author.Needs.{needs}
 use Rattle.repair.proofs.Ending.{capacity-is}
 use Rattle.repair.proofs.capacity.Statement.{statement}
 use Rattle.repair.proofs.capacity.Tie as tie
 
 lesser-requires : tie.Need-lesser-requires
-lesser-requires c κs = search needs
+lesser-requires c κs = tt
 
 lesser-requires-2 : tie.Need-lesser-requires-2
-lesser-requires-2 c κs = search needs
+lesser-requires-2 c κs = tt
 
 returns : tie.Need-returns
 returns c = capacity-is _ _ _ _ (c .before .lesser .ensures) (c .lesser2 .ensures)

@@ -1,6 +1,5 @@
-use borrow.Author.Needs.{needs}
-use mathlib.Core.Path.{_≡_}
-use Prim.Native.Nat.{ℕ, _-_, _≤_}
+use mathlib.Core.Path.{_≡_, refl, sym, ap, _∙_}
+use Prim.Native.Nat.{ℕ, _+_, _*_, _/_, _^_, _-_, _≤_, _<_}
 use native.Mathlib.Omega.{arith}
 use mathlib.Core.Path.{subst}
 use lib.Seq.{paste, paste-zero}
@@ -18,25 +17,25 @@ loop-holds : tie.Need-loop-holds Inv-loop μ-loop
 loop-holds c = (record { so-far = paste-zero (c .args .plan .now) (c .args .at) (c .args .work .now) }, omega arith)
 
 mul-plan : tie.Need-mul-plan Inv-loop μ-loop
-mul-plan c = search needs
+mul-plan c = omega arith
 
 shared-slice-read-plan : tie.Need-shared-slice-read-plan Inv-loop μ-loop
-shared-slice-read-plan c = search needs
+shared-slice-read-plan c = omega arith
 
 add-plan : tie.Need-add-plan Inv-loop μ-loop
-add-plan c = search needs
+add-plan c = omega arith
 
 mul-plan-2 : tie.Need-mul-plan-2 Inv-loop μ-loop
-mul-plan-2 c = search needs
+mul-plan-2 c = omega arith
 
 slice-write-plan : tie.Need-slice-write-plan Inv-loop μ-loop
 slice-write-plan c = let p = c .before .before .before .pre in let i = c .before .before .loop .inv in omega (arith, p, copying-long _ _ _ _ _ (i .0) (omega (arith, p, i .1)) (omega (arith, p, i .1)))
 
 add-k : tie.Need-add-k Inv-loop μ-loop
-add-k c = search needs
+add-k c = omega arith
 
 loop-less : tie.Need-loop-less Inv-loop μ-loop
-loop-less c = search needs
+loop-less c = omega arith
 
 loop-again : tie.Need-loop-again Inv-loop μ-loop
 loop-again c = let p = c .before .before .before .pre in (copying-turn _ _ _ _ _ (c .before .before .loop .inv .0) (omega (arith, p)) (omega (arith, p)), omega arith)

@@ -7,7 +7,7 @@ use Rattle.repair.proofs.unmet.Statement.{statement}
 use Rattle.repair.proofs.unmet.Tie as tie
 
 shr-if1 : tie.Need-shr-if1
-shr-if1 c = search needs
+shr-if1 c = omega arith
 
 holds-requires : tie.Need-holds-requires
 holds-requires c κs = search needs

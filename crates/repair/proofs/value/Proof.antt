@@ -1,4 +1,3 @@
-use borrow.Author.Needs.{needs}
 use native.Mathlib.Omega.{arith}
 use Rattle.planning.specs.Record.{taskOf}
 use Rattle.planning.specs.Runs.{count}
@@ -7,13 +6,13 @@ use Rattle.repair.proofs.value.Statement.{statement}
 use Rattle.repair.proofs.value.Tie as tie
 
 mul-least : tie.Need-mul-least
-mul-least c = search needs
+mul-least c = omega arith
 
 element-copy-out-least : tie.Need-element-copy-out-least
-element-copy-out-least c = search needs
+element-copy-out-least c = omega arith
 
 least-requires : tie.Need-least-requires
-least-requires c κs = search needs
+least-requires c κs = tt
 
 returns : tie.Need-returns
 returns c = let a = c .before .before .before .before .args in let p = c .before .before .before .before .pre in (value-is (a .sets .now) (a .v) (a .n) _ (count (taskOf (a .bytes .now))) (p .3) (p .2) (c .before .least .ensures) (omega arith), omega arith)
