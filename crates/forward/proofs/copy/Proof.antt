@@ -1,8 +1,8 @@
 use mathlib.Core.List.{_++_}
 use Rattle.forward.proofs.Answers.{copy-turn, copy-end}
 use lib.ListN.{length-set}
-use mathlib.Core.Path.{_≡_, refl, sym, ap, _∙_}
-use Prim.Native.Nat.{ℕ, _+_, _*_, _/_, _^_, _-_, _≤_, _<_}
+use mathlib.Core.Path.{_≡_, refl, _∙_}
+use Prim.Native.Nat.{_-_, _≤_}
 use native.Mathlib.Omega.{arith}
 use lib.ListN.{length, take, drop}
 use Rattle.forward.proofs.copy.Statement.{statement}

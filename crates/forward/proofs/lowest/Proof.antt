@@ -1,6 +1,5 @@
 use Rattle.forward.proofs.Bits.{Searching, searching-turn, searching-end, searching-found}
-use mathlib.Core.Path.{_≡_, refl, sym, ap, _∙_}
-use Prim.Native.Nat.{ℕ, _+_, _*_, _/_, _^_, _-_, _≤_, _<_}
+use Prim.Native.Nat.{_-_}
 use native.Mathlib.Omega.{arith}
 use Rattle.forward.proofs.lowest.Statement.{statement}
 use Rattle.forward.proofs.lowest.Tie as tie

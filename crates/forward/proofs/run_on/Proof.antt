@@ -4,8 +4,8 @@ use Rattle.planning.specs.Runs.{holds}
 use Rattle.state.specs.Sets.{setsOf, actionOf}
 use Rattle.forward.specs.Running.{Looping}
 use Rattle.forward.proofs.Looping.{left, looping-listed, looping-solved, looping-none, chosen-listed, looping-drop, drop-less, take-room, take-sites, looping-take, take-less}
-use mathlib.Core.Path.{_≡_, refl, sym, ap, _∙_}
-use Prim.Native.Nat.{ℕ, _+_, _*_, _/_, _^_, _-_, _≤_, _<_}
+use mathlib.Core.Path.{_≡_, refl, sym, _∙_}
+use Prim.Native.Nat.{_<_}
 use native.Mathlib.Omega.{arith}
 use Rattle.forward.proofs.run_on.Statement.{statement}
 use Rattle.forward.proofs.run_on.Tie as tie

@@ -2,8 +2,8 @@ use mathlib.Core.List.{[]}
 use Rattle.planning.specs.Runs.{has}
 use Rattle.state.specs.Sets.{setsOf, actionOf}
 use Rattle.forward.proofs.Chains.{Entered, entered-start, entered-turn}
-use mathlib.Core.Path.{_≡_, refl, sym, ap, _∙_}
-use Prim.Native.Nat.{ℕ, _+_, _*_, _/_, _^_, _-_, _≤_, _<_}
+use mathlib.Core.Path.{_≡_}
+use Prim.Native.Nat.{_-_, _≤_}
 use native.Mathlib.Omega.{arith}
 use Rattle.forward.proofs.settle_each.Statement.{statement}
 use Rattle.forward.proofs.settle_each.Tie as tie

@@ -1,10 +1,9 @@
 use borrow.Author.Needs.{needs}
 use mathlib.Core.List.{List}
-use Prim.Native.Nat.{ℕ, _+_, _*_, _/_, _%_, _^_, _-_, _≤_, _<_}
+use Prim.Native.Nat.{ℕ, _+_, _*_}
 use native.Mathlib.Omega.{arith}
 use Rattle.planning.specs.Record.{taskOf}
 use Rattle.planning.specs.Runs.{act}
-use Rattle.table.specs.Table.{factsIn}
 use Rattle.planning.proofs.Formed.{Formed}
 use Rattle.state.specs.Sets.{setsOf, Listed}
 use Rattle.paths.specs.Paths.{Put}
