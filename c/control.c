@@ -8,7 +8,6 @@
 #include <stdio.h>
 #include <string.h>
 
-enum { MOST_STEPS = 32768, LONGEST_RECORD = 49315, LONGEST_SHEET = 40967 };
 enum { PLANNED = 0, REFUSED = 1, UNREAD = 2 };
 
 static const uint8_t two_shelves[35] = {
@@ -18,9 +17,9 @@ static const uint8_t two_shelves[35] = {
 };
 
 /* One byte more than a record can have: a longer file is refused at the same place as its front. */
-static uint8_t record[LONGEST_RECORD + 1];
-static uint8_t sheet[LONGEST_SHEET];
-static uint16_t plan[MOST_STEPS], work[MOST_STEPS], steps_read[MOST_STEPS];
+static uint8_t record[MARDISKOS_LONGEST_RECORD + 1];
+static uint8_t sheet[MARDISKOS_LONGEST_SHEET];
+static uint16_t plan[MARDISKOS_MOST_STEPS], work[MARDISKOS_MOST_STEPS], steps_read[MARDISKOS_MOST_STEPS];
 
 static int refuse(uint64_t code)
 {
@@ -51,7 +50,7 @@ static void print_runs(const uint16_t *list, uint32_t runs)
 /* The sheet as whoever opens it later reads it, with the record beside it. */
 static int open_sheet(size_t len, size_t sheet_len)
 {
-    mardiskos_sheet read = mardiskos_read_sheet(sheet, sheet_len, steps_read, MOST_STEPS);
+    mardiskos_sheet read = mardiskos_read_sheet(sheet, sheet_len, steps_read, MARDISKOS_MOST_STEPS);
     if (read.code != 0)
         return refuse(read.code);
     printf("read back: %" PRIu32 " steps, cost %" PRIu32 ", %s\n", read.steps, read.cost,
@@ -70,13 +69,13 @@ static int control(const char *name, size_t len)
     uint64_t code = mardiskos_check(record, len);
     if (code != 0)
         return refuse(code);
-    mardiskos_plan_result planned = mardiskos_plan(record, len, plan, MOST_STEPS, work, MOST_STEPS);
+    mardiskos_plan_result planned = mardiskos_plan(record, len, plan, MARDISKOS_MOST_STEPS, work, MARDISKOS_MOST_STEPS);
     if (planned.code != 0)
         return refuse(planned.code);
     printf("plan: %" PRIu32 " steps, cost %" PRIu32 ", %s, %" PRIu32 " run\n", planned.steps, planned.cost,
            verdict(planned.real), planned.runs);
     mardiskos_sheet_size written =
-        mardiskos_write_sheet(plan, planned.steps, planned.cost, planned.real, sheet, LONGEST_SHEET);
+        mardiskos_write_sheet(plan, planned.steps, planned.cost, planned.real, sheet, MARDISKOS_LONGEST_SHEET);
     if (written.code != 0)
         return refuse(written.code);
     printf("sheet: %" PRIu32 " bytes\n", written.bytes);

@@ -25,6 +25,17 @@
  * bit 0. Fields are looked at in bit order, and the first fault is told. The capacity is the length of
  * the list lent, of the shorter one where two are lent, and 32,768 at most.
  *
+ * Record and sheet are fields packed without gaps, most significant bit first, numbers unsigned, with zero
+ * bits up to a whole byte and nothing behind.
+ *
+ *   record  edition 4 bits (1); variables V, 7 bits (1 to 64); actions A, 11 bits (0 to 1,024).
+ *           For each variable: count of values less one, 6 bits; black 1 bit (1 black, 0 red); initial
+ *           value 6 bits; goal present 1 bit; goal value 6 bits (0 where no goal is present).
+ *           For each action: cost 16 bits; count of preconditions 4 bits; count of effects 4 bits; then the
+ *           preconditions and the effects, each a variable, 6 bits, and a value, 6 bits, with variables
+ *           rising strictly in either list.
+ *   sheet   edition 4 bits (1); real 1 bit; steps 16 bits (up to 32,768); cost 32 bits; each step 10 bits.
+ *
  * Anything may be handed over: any bytes as a record or a sheet, any numbers as a list, and all of it
  * may be empty, the lists lent for writing too. What stands in these before a call makes no difference.
  * No pointer may be null, also where its length is 0; with length 0 nothing is read or written there.
@@ -48,6 +59,11 @@ extern "C" {
 
 #define MARDISKOS_NUMBER(code) ((unsigned)((code) % 32))
 #define MARDISKOS_PLACE(code) ((code) / 32)
+
+/* The longest record and the longest sheet in bytes, and the most steps of a plan. */
+#define MARDISKOS_LONGEST_RECORD 49315
+#define MARDISKOS_LONGEST_SHEET 40967
+#define MARDISKOS_MOST_STEPS 32768
 
 /* Checks the len bytes at record, any bytes and any number of them. Answers 0 if they are a record,
  * else the code of the first fault, with a number from 1 to 6. */
