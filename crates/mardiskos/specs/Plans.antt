@@ -6,5 +6,5 @@ use Rattle.planning.specs.Calls.{Planned}
 use Rattle.mardiskos.specs.declared.plans.PlanResult.{PlanResult}
 
 abbrev pub planResultOf : Answer Planned → PlanResult
-planResultOf (refused n p) = record { code = p * 32 + n; steps = 0; cost = 0; runs = 0; real = false }
+planResultOf (refused n p) = record { code = 32 * p + n; steps = 0; cost = 0; runs = 0; real = false }
 planResultOf (done x) = record { code = 0; steps = x .steps; cost = x .cost; runs = x .runs; real = x .real′ }

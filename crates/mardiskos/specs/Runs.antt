@@ -6,9 +6,9 @@ use Rattle.mardiskos.specs.declared.runs.ForwardRun.{ForwardRun}
 use Rattle.mardiskos.specs.declared.runs.RelaxedPlan.{RelaxedPlan}
 
 abbrev pub forwardRunOf : Answer Forward → ForwardRun
-forwardRunOf (refused n p) = record { code = p * 32 + n; steps = 0; reached = 0 }
+forwardRunOf (refused n p) = record { code = 32 * p + n; steps = 0; reached = 0 }
 forwardRunOf (done x) = record { code = 0; steps = x .steps; reached = x .reached }
 
 abbrev pub relaxedPlanOf : Answer ℕ → RelaxedPlan
-relaxedPlanOf (refused n p) = record { code = p * 32 + n; steps = 0 }
+relaxedPlanOf (refused n p) = record { code = 32 * p + n; steps = 0 }
 relaxedPlanOf (done n) = record { code = 0; steps = n }

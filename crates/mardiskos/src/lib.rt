@@ -3,11 +3,21 @@ mod plans;
 mod runs;
 mod sheets;
 
+use bits::Refusal;
 use judge::Judging;
 use record::Checked;
 ghost use mathlib.Core.Path.{_≡_};
+ghost use Prim.Native.Nat.{ℕ};
+ghost use Rattle.planning.specs.Basics.{code, refused};
 ghost use Rattle.planning.specs.Calls.{checkCode, judgeCall};
 ghost use Rattle.mardiskos.specs.Flat.{flatOf};
+
+// The code of a refusal.
+fn code_of(f: Refusal) -> u64
+    ensures { λ r. ⌜ r ≡ code {A = ℕ} (refused (f .number) (f .place)) ⌝ }
+{
+    32 * (f.place as u64) + (f.number as u64)
+}
 
 // The check of a record: 0 for accepted, else 32 times the place and the number.
 #[no_mangle]
@@ -18,7 +28,7 @@ pub extern "C" fn mardiskos_check(bytes: &[u8]) -> u64
     let Checked::Refused(f) = c else {
         return 0;
     };
-    (f.place as u64) * 32 + (f.number as u64)
+    code_of(f)
 }
 
 // After a refusal every field but the code is zero.
@@ -40,9 +50,8 @@ pub extern "C" fn mardiskos_judge(bytes: &[u8], list: &[u16]) -> Judgement
 {
     let j = judge::judge(bytes, list);
     let Judging::Judged(v) = j else {
-        let f = judge::refusal_of(j);
         return Judgement {
-            code: 32 * (f.place as u64) + f.number as u64,
+            code: code_of(judge::refusal_of(j)),
             relaxed_steps: 0,
             red_black_steps: 0,
             real_steps: 0,

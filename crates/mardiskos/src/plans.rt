@@ -1,7 +1,9 @@
 // The planner as C calls it. The code is 0, or 32 times the place and the number; after a refusal the other fields are 0.
+use crate::code_of;
 use planner::Planned;
 ghost use mathlib.Core.Path.{_≡_};
 ghost use lib.ListN.{length};
+ghost use Rattle.planning.specs.Basics.{code};
 ghost use Rattle.planning.specs.Calls.{planCall, planList, repairCall, repairList, workList, planIn};
 ghost use Rattle.planning.specs.Existence.{Demand3, Bounded};
 ghost use Rattle.planner.specs.Answers.{answerOf};
@@ -16,32 +18,43 @@ pub struct PlanResult {
     pub real: bool,
 }
 
+fn planned_code(p: Planned) -> u64
+    ensures { λ r. ⌜ r ≡ code (answerOf p) ⌝ }
+{
+    let Planned::Refused(f) = p else {
+        return 0;
+    };
+    code_of(f)
+}
+
 fn flat(p: Planned) -> PlanResult
     ensures { λ r. ⌜ r ≡ planResultOf (answerOf p) ⌝ }
 {
-    match p {
-        Planned::Plan {
-            steps,
-            cost,
-            runs,
-            real,
-        } => PlanResult {
-            code: 0,
-            steps,
-            cost,
-            runs,
-            real,
-        },
-        Planned::Refused(f) => PlanResult {
-            code: (f.place as u64) * 32 + (f.number as u64),
+    let Planned::Plan {
+        steps,
+        cost,
+        runs,
+        real,
+    } = p
+    else {
+        return PlanResult {
+            code: planned_code(p),
             steps: 0,
             cost: 0,
             runs: 0,
             real: false,
-        },
+        };
+    };
+    PlanResult {
+        code: 0,
+        steps,
+        cost,
+        runs,
+        real,
     }
 }
 
+// The plan of a record in the front of the plan list, or the refusal by 1 to 8, 10, 11. The work list is 65,535 at the end.
 #[no_mangle]
 pub extern "C" fn mardiskos_plan(bytes: &[u8], plan: &mut [u16], work: &mut [u16]) -> PlanResult
     ensures { λ r. ⌜ r ≡ planResultOf (planCall (now (bytes .entry)) (length (now (plan .entry))) (length (now (work .entry)))) ⌝ }
@@ -52,6 +65,7 @@ pub extern "C" fn mardiskos_plan(bytes: &[u8], plan: &mut [u16], work: &mut [u16
     flat(planner::plan(bytes, plan, work))
 }
 
+// The caller's list repaired, in the front of the plan list, or the refusal by 1 to 8, 13, 9, 11. The work list is 65,535 at the end.
 #[no_mangle]
 pub extern "C" fn mardiskos_repair(
     bytes: &[u8],

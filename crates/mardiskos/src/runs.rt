@@ -1,10 +1,14 @@
 // The forward run and the relaxed plan as C calls them. The code is 0, or 32 times the place and the number; after a refusal
 // the other fields are 0.
+use crate::code_of;
 use forward::Found;
 use relax::Relaxed;
 ghost use mathlib.Core.Path.{_≡_};
 ghost use lib.ListN.{length};
+ghost use Rattle.planning.specs.Basics.{code};
 ghost use Rattle.planning.specs.Calls.{forwardCall, forwardList, relaxCall, relaxList};
+ghost use Rattle.forward.specs.Answers.{foundOf};
+ghost use Rattle.relax.specs.Answers.{relaxedOf};
 ghost use Rattle.mardiskos.specs.Runs.{forwardRunOf, relaxedPlanOf};
 
 #[repr(C)]
@@ -20,35 +24,55 @@ pub struct RelaxedPlan {
     pub steps: u32,
 }
 
+fn found_code(a: Found) -> u64
+    ensures { λ r. ⌜ r ≡ code (foundOf a) ⌝ }
+{
+    let Found::Refused(f) = a else {
+        return 0;
+    };
+    code_of(f)
+}
+
+// The forward run of a record in the front of the list, or the refusal by 1 to 6, 10, 11.
 #[no_mangle]
 pub extern "C" fn mardiskos_forward(bytes: &[u8], plan: &mut [u16]) -> ForwardRun
     ensures { λ r. ⌜ (r ≡ forwardRunOf (forwardCall (now (bytes .entry)) (length (now (plan .entry))))) × (now (plan .exit) ≡ forwardList (now (bytes .entry)) (length (now (plan .entry)))) ⌝ }
 {
-    let found = forward::forward(bytes, plan);
-    match found {
-        Found::Run { steps, reached } => ForwardRun {
-            code: 0,
-            steps,
-            reached,
-        },
-        Found::Refused(f) => ForwardRun {
-            code: (f.place as u64) * 32 + (f.number as u64),
+    let a = forward::forward(bytes, plan);
+    let Found::Run { steps, reached } = a else {
+        return ForwardRun {
+            code: found_code(a),
             steps: 0,
             reached: 0,
-        },
+        };
+    };
+    ForwardRun {
+        code: 0,
+        steps,
+        reached,
     }
 }
 
+fn relaxed_code(a: Relaxed) -> u64
+    ensures { λ r. ⌜ r ≡ code (relaxedOf a) ⌝ }
+{
+    let Relaxed::Refused(f) = a else {
+        return 0;
+    };
+    code_of(f)
+}
+
+// The relaxed plan of a record in the front of the list, or the refusal by 1 to 6, 10, 11.
 #[no_mangle]
 pub extern "C" fn mardiskos_relax(bytes: &[u8], plan: &mut [u16]) -> RelaxedPlan
     ensures { λ r. ⌜ (r ≡ relaxedPlanOf (relaxCall (now (bytes .entry)) (length (now (plan .entry))))) × (now (plan .exit) ≡ relaxList (now (bytes .entry)) (length (now (plan .entry)))) ⌝ }
 {
-    let found = relax::relax(bytes, plan);
-    match found {
-        Relaxed::Steps(steps) => RelaxedPlan { code: 0, steps },
-        Relaxed::Refused(f) => RelaxedPlan {
-            code: (f.place as u64) * 32 + (f.number as u64),
+    let a = relax::relax(bytes, plan);
+    let Relaxed::Steps(steps) = a else {
+        return RelaxedPlan {
+            code: relaxed_code(a),
             steps: 0,
-        },
-    }
+        };
+    };
+    RelaxedPlan { code: 0, steps }
 }

@@ -1,4 +1,5 @@
 // Sheets as C calls them.
+use crate::code_of;
 use sheet::Reading;
 use sheet::Written;
 ghost use mathlib.Core.Path.{_≡_};
@@ -15,7 +16,7 @@ fn written_code(a: Written) -> u64
     let Written::Refused(f) = a else {
         return 0;
     };
-    (f.place as u64) * 32 + (f.number as u64)
+    code_of(f)
 }
 
 // Writing a sheet: 0 and the count of bytes, or 32 times the place and the number.
@@ -25,6 +26,7 @@ pub struct SheetSize {
     pub bytes: u32,
 }
 
+// The sheet of a list in the front of the bytes, or the refusal by 13, 11.
 #[no_mangle]
 pub extern "C" fn mardiskos_write_sheet(
     list: &[u16],
@@ -53,7 +55,7 @@ fn reading_code(a: Reading) -> u64
     let Reading::Refused(f) = a else {
         return 0;
     };
-    (f.place as u64) * 32 + (f.number as u64)
+    code_of(f)
 }
 
 // Reading a sheet: 0 with the steps, the cost and the verdict, or 32 times the place and the number.
@@ -65,6 +67,7 @@ pub struct SheetRead {
     pub real: bool,
 }
 
+// The plan of a sheet in the front of the list, or the refusal by 12, 11.
 #[no_mangle]
 pub extern "C" fn mardiskos_read_sheet(bytes: &[u8], list: &mut [u16]) -> SheetRead
     ensures { λ r. ⌜ r .code ≡ code (readCall (now (bytes .entry)) (length (now (list .entry)))) ⌝ }

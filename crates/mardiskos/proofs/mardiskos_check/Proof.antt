@@ -1,6 +1,6 @@
-use Rattle.mardiskos.proofs.Laws.{code-accepted, code-refused}
-use Rattle.record.specs.Stages.{checkedOf}
 use mathlib.Core.Path.{sym, ap, _∙_}
+use Rattle.record.specs.Stages.{checkedOf}
+use Rattle.mardiskos.proofs.Laws.{code-accepted, code-refused}
 use borrow.Author.Needs.{needs}
 use Rattle.mardiskos.proofs.mardiskos_check.Statement.{statement}
 use Rattle.mardiskos.proofs.mardiskos_check.Tie as tie
@@ -17,31 +17,12 @@ enum-told c = search needs
 returns : tie.Need-returns
 returns c = code-accepted _ (sym (ap checkedOf (c .enum-told .given .1)) ∙ c .before .before .check .ensures)
 
-cast-result : tie.Need-cast-result
-cast-result c = search needs
-
-mul-result : tie.Need-mul-result
-mul-result c = search needs
-
-cast-result-2 : tie.Need-cast-result-2
-cast-result-2 c = search needs
-
-add-result : tie.Need-add-result
-add-result c = search needs
+code-of-requires : tie.Need-code-of-requires
+code-of-requires c κs = search needs
 
 returns-2 : tie.Need-returns-2
-returns-2 c = code-refused _ _ _ (sym (ap checkedOf (c .before .before .before .c .given .1)) ∙ c .before .before .before .before .before .check .ensures)
+returns-2 c = c .code-of .ensures ∙ code-refused _ _ _ (sym (ap checkedOf (c .before .before .c .given .1)) ∙ c .before .before .before .before .check .ensures)
 
 pub mardiskos-check-spec : {M : Type 1} → statement M
 mardiskos-check-spec =
-    tie.close
-    (tie.spec
-    check-requires
-    enum-known-c
-    enum-told
-    returns
-    cast-result
-    mul-result
-    cast-result-2
-    add-result
-    returns-2)
+    tie.close (tie.spec check-requires enum-known-c enum-told returns code-of-requires returns-2)
