@@ -4,10 +4,12 @@ use planner::Planned;
 ghost use mathlib.Core.Path.{_≡_};
 ghost use lib.ListN.{length};
 ghost use Rattle.planning.specs.Basics.{code};
+ghost use Rattle.planning.specs.Record.{taskOf};
+ghost use Rattle.planning.specs.Relaxed.{relaxedPlan};
 ghost use Rattle.planning.specs.Calls.{planCall, planList, repairCall, repairList, workList, planIn};
 ghost use Rattle.planning.specs.Existence.{Demand3, Bounded};
 ghost use Rattle.planner.specs.Answers.{answerOf};
-ghost use Rattle.mardiskos.specs.Plans.{planResultOf};
+ghost use Rattle.mardiskos.specs.Plans.{planResultOf, answerIn};
 
 #[repr(C)]
 pub struct PlanResult {
@@ -18,6 +20,7 @@ pub struct PlanResult {
     pub real: bool,
 }
 
+// The code of an answer.
 fn planned_code(p: Planned) -> u64
     ensures { λ r. ⌜ r ≡ code (answerOf p) ⌝ }
 {
@@ -27,6 +30,7 @@ fn planned_code(p: Planned) -> u64
     code_of(f)
 }
 
+// What C reads of an answer.
 fn flat(p: Planned) -> PlanResult
     ensures { λ r. ⌜ r ≡ planResultOf (answerOf p) ⌝ }
 {
@@ -60,7 +64,8 @@ pub extern "C" fn mardiskos_plan(bytes: &[u8], plan: &mut [u16], work: &mut [u16
     ensures { λ r. ⌜ r ≡ planResultOf (planCall (now (bytes .entry)) (length (now (plan .entry))) (length (now (work .entry)))) ⌝ }
     ensures { λ r. ⌜ now (plan .exit) ≡ planList (now (bytes .entry)) (length (now (plan .entry))) (length (now (work .entry))) ⌝ }
     ensures { λ r. ⌜ now (work .exit) ≡ workList (length (now (work .entry))) ⌝ }
-    ensures { λ r. ⌜ Demand3 (now (bytes .entry)) (length (now (plan .entry))) (length (now (work .entry))) (planCall (now (bytes .entry)) (length (now (plan .entry))) (length (now (work .entry)))) (planIn (planCall (now (bytes .entry)) (length (now (plan .entry))) (length (now (work .entry)))) (now (plan .exit))) ⌝ }
+    ensures { λ r. ⌜ Demand3 (now (bytes .entry)) (length (now (plan .entry))) (length (now (work .entry))) (answerIn r) (planIn (answerIn r) (now (plan .exit))) ⌝ }
+    ensures { λ r. ⌜ Bounded (now (bytes .entry)) (relaxedPlan (taskOf (now (bytes .entry)))) (answerIn r) (planIn (answerIn r) (now (plan .exit))) ⌝ }
 {
     flat(planner::plan(bytes, plan, work))
 }
@@ -76,7 +81,7 @@ pub extern "C" fn mardiskos_repair(
     ensures { λ r. ⌜ r ≡ planResultOf (repairCall (now (bytes .entry)) (now (list .entry)) (length (now (plan .entry))) (length (now (work .entry)))) ⌝ }
     ensures { λ r. ⌜ now (plan .exit) ≡ repairList (now (bytes .entry)) (now (list .entry)) (length (now (plan .entry))) (length (now (work .entry))) ⌝ }
     ensures { λ r. ⌜ now (work .exit) ≡ workList (length (now (work .entry))) ⌝ }
-    ensures { λ r. ⌜ Bounded (now (bytes .entry)) (now (list .entry)) (repairCall (now (bytes .entry)) (now (list .entry)) (length (now (plan .entry))) (length (now (work .entry)))) (planIn (repairCall (now (bytes .entry)) (now (list .entry)) (length (now (plan .entry))) (length (now (work .entry)))) (now (plan .exit))) ⌝ }
+    ensures { λ r. ⌜ Bounded (now (bytes .entry)) (now (list .entry)) (answerIn r) (planIn (answerIn r) (now (plan .exit))) ⌝ }
 {
     flat(planner::repair(bytes, list, plan, work))
 }

@@ -1,8 +1,11 @@
-use mathlib.Core.Path.{ap, _∙_, subst}
+use mathlib.Core.Path.{sym, ap, _∙_, subst}
 use lib.ListN.{length}
 use Rattle.planning.specs.Calls.{planIn}
-use Rattle.planning.specs.Existence.{Demand3}
-use Rattle.mardiskos.specs.Plans.{planResultOf}
+use Rattle.planning.specs.Existence.{Demand3, Bounded}
+use Rattle.mardiskos.specs.Plans.{planResultOf, answerIn}
+use Rattle.mardiskos.proofs.Numbers.{plan-read}
+use Rattle.planning.specs.Record.{taskOf}
+use Rattle.planning.specs.Relaxed.{relaxedPlan}
 use borrow.Author.Needs.{needs}
 use Rattle.mardiskos.proofs.plans.mardiskos_plan.Statement.{statement}
 use Rattle.mardiskos.proofs.plans.mardiskos_plan.Tie as tie
@@ -20,7 +23,15 @@ same-length-2 : tie.Need-same-length-2
 same-length-2 c = search needs
 
 returns : tie.Need-returns
-returns c = let a = c .before .before .before .before .before .before .before .before .before .before .before .args in let E = c .before .before .before .before .before .plan .ensures in let l = c .before .before .before .before .before .plan .last .1 .0 in (c .flat .ensures ∙ ap planResultOf (E .0), (E .1 .0, (E .1 .1 .0, subst (λ r. Demand3 (a .bytes .now) (length (a .plan .now)) (length (a .work .now)) r (planIn r l)) (E .0) (E .1 .1 .1))))
+returns c =
+    let a = c .before .before .before .before .before .before .before .before .before .before .before .args in
+    let E = c .before .before .before .before .before .plan .ensures in
+    let l = c .before .before .before .before .before .plan .last .1 .0 in
+    let r = c .flat .ensures ∙ ap planResultOf (E .0) in
+    let same = E .0 ∙ sym (ap answerIn r ∙ plan-read (a .bytes .now) (length (a .plan .now)) (length (a .work .now))) in
+    (r, (E .1 .0, (E .1 .1 .0, (
+      subst (λ x. Demand3 (a .bytes .now) (length (a .plan .now)) (length (a .work .now)) x (planIn x l)) same (E .1 .1 .1 .0),
+      subst (λ x. Bounded (a .bytes .now) (relaxedPlan (taskOf (a .bytes .now))) x (planIn x l)) same (E .1 .1 .1 .1)))))
 
 pub mardiskos-plan-spec : {M : Type 1} → statement M
 mardiskos-plan-spec =

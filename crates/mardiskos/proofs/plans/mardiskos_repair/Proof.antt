@@ -1,7 +1,9 @@
-use mathlib.Core.Path.{ap, _∙_, subst}
+use mathlib.Core.Path.{sym, ap, _∙_, subst}
+use lib.ListN.{length}
 use Rattle.planning.specs.Calls.{planIn}
 use Rattle.planning.specs.Existence.{Bounded}
-use Rattle.mardiskos.specs.Plans.{planResultOf}
+use Rattle.mardiskos.specs.Plans.{planResultOf, answerIn}
+use Rattle.mardiskos.proofs.Numbers.{repair-read}
 use borrow.Author.Needs.{needs}
 use Rattle.mardiskos.proofs.plans.mardiskos_repair.Statement.{statement}
 use Rattle.mardiskos.proofs.plans.mardiskos_repair.Tie as tie
@@ -19,7 +21,13 @@ same-length-2 : tie.Need-same-length-2
 same-length-2 c = search needs
 
 returns : tie.Need-returns
-returns c = let a = c .before .before .before .before .before .before .before .before .before .before .before .before .args in let E = c .before .before .before .before .before .repair .ensures in let l = c .before .before .before .before .before .repair .last .1 .1 .0 in (c .flat .ensures ∙ ap planResultOf (E .0), (E .1 .0, (E .1 .1 .0, subst (λ r. Bounded (a .bytes .now) (a .list .now) r (planIn r l)) (E .0) (E .1 .1 .1))))
+returns c =
+    let a = c .before .before .before .before .before .before .before .before .before .before .before .before .args in
+    let E = c .before .before .before .before .before .repair .ensures in
+    let l = c .before .before .before .before .before .repair .last .1 .1 .0 in
+    let r = c .flat .ensures ∙ ap planResultOf (E .0) in
+    let same = E .0 ∙ sym (ap answerIn r ∙ repair-read (a .bytes .now) (a .list .now) (length (a .plan .now)) (length (a .work .now))) in
+    (r, (E .1 .0, (E .1 .1 .0, subst (λ x. Bounded (a .bytes .now) (a .list .now) x (planIn x l)) same (E .1 .1 .1))))
 
 pub mardiskos-repair-spec : {M : Type 1} → statement M
 mardiskos-repair-spec =
