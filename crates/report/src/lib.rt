@@ -68,6 +68,7 @@ struct Text {
     written: bool,
 }
 
+// Writes the text in the bytes; whether this and each write so far succeeded.
 fn flush(bytes: &[u8], text: Text) -> bool
     requires { ⌜ text .end ≤ length (now bytes) ⌝ }
 {
@@ -95,6 +96,7 @@ fn wide(x: u16) -> u32
     x as u32
 }
 
+// The numbers of a list, each after a space.
 fn put_list(bytes: &mut [u8], text: Text, list: &[u16]) -> Text
     requires { ⌜ (64 ≤ length (now bytes)) × (text .end ≤ length (now bytes)) ⌝ }
     ensures { λ r. ⌜ r .end ≤ length (now (bytes .entry)) ⌝ }
@@ -118,6 +120,7 @@ fn put_field(bytes: &mut [u8], at: usize, name: &[u8], n: u32) -> usize
     put_number(bytes, end, n)
 }
 
+// The last line: whether the plan is real, and the steps that run.
 fn put_verdict(bytes: &mut [u8], at: usize, real: bool, runs: u32) -> usize
     requires { ⌜ at + 19 ≤ length (now bytes) ⌝ }
     ensures { λ r. ⌜ r ≤ at + 19 ⌝ }
@@ -128,6 +131,7 @@ fn put_verdict(bytes: &mut [u8], at: usize, real: bool, runs: u32) -> usize
     put_field(bytes, at, b"\nunreal", runs)
 }
 
+// The line of a refusal: its number and its place.
 fn write_refusal(f: Refusal) -> bool {
     let mut space = io::buffer();
     let bytes: &mut [u8] = &mut space;
@@ -145,6 +149,7 @@ struct Verdict {
     real: bool,
 }
 
+// The four lines of a plan; whether each write succeeded.
 fn write_lines(reached: u32, relaxed: &[u16], kept: u32, plan: &[u16], v: Verdict) -> bool {
     let mut space = io::buffer();
     let bytes: &mut [u8] = &mut space;
@@ -176,45 +181,75 @@ fn front<'a>(list: &'a [u16], n: u32) -> &'a [u16]
     list
 }
 
+// The refusal of an answer that has one.
+fn relax_refusal(answer: Relaxed) -> Refusal {
+    let Relaxed::Refused(f) = answer else {
+        return Refusal {
+            number: 0,
+            place: 0,
+        };
+    };
+    f
+}
+
 // The relaxed plan, and then the four lines.
 fn list_relaxed(bytes: &[u8], plan: &[u16], list: &mut [u16], reached: u32, v: Verdict) -> bool {
     let answer = relax::relax(bytes, list);
-    match answer {
-        Relaxed::Steps(kept) => write_lines(reached, front(list, kept), kept, plan, v),
-        Relaxed::Refused(f) => write_refusal(f),
-    }
+    let Relaxed::Steps(kept) = answer else {
+        return write_refusal(relax_refusal(answer));
+    };
+    write_lines(reached, front(list, kept), kept, plan, v)
+}
+
+// The refusal of an answer that has one.
+fn forward_refusal(answer: Found) -> Refusal {
+    let Found::Refused(f) = answer else {
+        return Refusal {
+            number: 0,
+            place: 0,
+        };
+    };
+    f
 }
 
 // The forward run, and then the rest.
 fn list_forward(bytes: &[u8], plan: &[u16], list: &mut [u16], v: Verdict) -> bool {
     let answer = forward::forward(bytes, list);
-    match answer {
-        Found::Run { steps: _, reached } => list_relaxed(bytes, plan, list, reached, v),
-        Found::Refused(f) => write_refusal(f),
-    }
+    let Found::Run { steps: _, reached } = answer else {
+        return write_refusal(forward_refusal(answer));
+    };
+    list_relaxed(bytes, plan, list, reached, v)
+}
+
+// The refusal of an answer that has one.
+fn plan_refusal(answer: Planned) -> Refusal {
+    let Planned::Refused(f) = answer else {
+        return Refusal {
+            number: 0,
+            place: 0,
+        };
+    };
+    f
 }
 
 // Writes the listing of a record, or its refusal. The lists are the planner's plan list and work list; the work list then serves
 // the forward run and the relaxed plan. False if a write failed.
 pub fn report(bytes: &[u8], plan: &mut [u16], work: &mut [u16]) -> bool {
     let answer = planner::plan(bytes, plan, work);
-    match answer {
-        Planned::Plan {
-            steps,
-            cost,
-            runs,
-            real,
-        } => list_forward(
-            bytes,
-            front(plan, steps),
-            work,
-            Verdict {
-                steps,
-                cost,
-                runs,
-                real,
-            },
-        ),
-        Planned::Refused(f) => write_refusal(f),
-    }
+    let Planned::Plan {
+        steps,
+        cost,
+        runs,
+        real,
+    } = answer
+    else {
+        return write_refusal(plan_refusal(answer));
+    };
+    let v = Verdict {
+        steps,
+        cost,
+        runs,
+        real,
+    };
+    list_forward(bytes, front(plan, steps), work, v)
 }
