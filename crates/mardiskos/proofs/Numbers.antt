@@ -130,10 +130,12 @@ unfolding answerIn
 read-back (done x) h = refl
 read-back (refused m p) h =
     let b = h m p refl in
-    let z : eqb (32 * p + m) 0 ≡ false = ne-eqb (32 * p + m) 0 (λ e. omega (arith, b .0)) in
-    let q : (32 * p + m) % 32 ≡ m = omega (arith, b .0, b .1) in
-    let r : (32 * p + m) / 32 ≡ p = omega (arith, b .0, b .1) in
-    rw (z, q, r) refl
+    go (eqb (32 * p + m) 0) (ne-eqb (32 * p + m) 0 (λ e. omega (arith, b .0))) (omega (arith, b .0, b .1)) (omega (arith, b .0, b .1))
+  where
+    go : (b : Bool) → b ≡ false → (32 * p + m) % 32 ≡ m → (32 * p + m) / 32 ≡ p
+        → _≡_ {A = Answer Planned} (elim b [ true ↦ done (record { steps = 0; cost = 0; real′ = false; runs = 0 }) | false ↦ refused ((32 * p + m) % 32) ((32 * p + m) / 32) ]) (refused m p)
+    go true e q r = let z : _≡_ {A = ℕ} 0 1 = cc in absurd (omega arith)
+    go false e q r = rw (q, r) refl
 
 pub plan-read : (s : List ℕ) (n w : ℕ) → answerIn (planResultOf (planCall s n w)) ≡ planCall s n w
 plan-read s n w = read-back (planCall s n w) (plan-number s n w)
