@@ -54,6 +54,7 @@ wide-requires-2 c κs = tt
 loop-holds : tie.Need-loop-holds Inv-loop μ-loop
 loop-holds c =
     let at-start = c .before .before .before .before .before in
+    let at-start = at-start in
     let L = at-start .pre .0 in
     (c .before .before .wide .ensures, omega (arith, c .wide2 .ensures), omega (arith, c .wide2 .ensures, c .before .before .wide .ensures, L .eff-below), rw (c .wide2 .ensures) refl)
 
@@ -77,7 +78,12 @@ first-needed-requires c κs = (small c, search needs)
 
 returns : tie.Need-returns Inv-loop μ-loop
 unfolding actionOf
-returns c = let a = c .before .before .before .before .before .before .before .before .before .before .before .args in let I = c .before .before .before .before .before .loop .inv in (reachedNeeded-hit (byOf (a .first .now)) (setsOf (a .needed .now)) (a .i) (a .table .now) _ _ (omega (arith, I .0)) (c .before .before .before .before .before .before .before .before .before .before .before .pre .0 .end-below) _ (c .before .before .wide3 .ensures) (sym (c .if1 .taken) ∙ c .before .first-needed .ensures) ∙ sym (I .3))
+returns c =
+    let at-head = c .before .before .before .before .before in
+    let at-start = at-head .before .before .before .before .before .before in
+    let a = at-start .args in
+    let I = at-head .loop .inv in
+    (reachedNeeded-hit (byOf (a .first .now)) (setsOf (a .needed .now)) (a .i) (a .table .now) _ _ (omega (arith, I .0)) (at-start .pre .0 .end-below) _ (c .before .before .wide3 .ensures) (sym (c .if1 .taken) ∙ c .before .first-needed .ensures) ∙ sym (I .3))
 
 add-k : tie.Need-add-k Inv-loop μ-loop
 add-k c = omega arith
@@ -88,6 +94,7 @@ loop-less c = omega arith
 loop-again : tie.Need-loop-again Inv-loop μ-loop
 loop-again c =
     let at-head = c .before .before .before .before .before in
+    let at-head = at-head in
     let at-start = at-head .before .before .before .before .before .before in
     let a = at-start .args in
     let I = at-head .loop .inv in
@@ -95,7 +102,11 @@ loop-again c =
 
 returns-2 : tie.Need-returns-2 Inv-loop μ-loop
 unfolding actionOf
-returns-2 c = let a = c .before .before .before .before .before .before .before .args in let I = c .before .loop .inv in reachedNeeded-end (byOf (a .first .now)) (setsOf (a .needed .now)) (a .i) (a .table .now) _ _ (omega (arith, I .0, I .2)) ∙ sym (I .3)
+returns-2 c =
+    let at-start = c .before .before .before .before .before .before .before in
+    let a = at-start .args in
+    let I = c .before .loop .inv in
+    reachedNeeded-end (byOf (a .first .now)) (setsOf (a .needed .now)) (a .i) (a .table .now) _ _ (omega (arith, I .0, I .2)) ∙ sym (I .3)
 
 pub reached-needed-spec : {M : Type 1} → statement M
 reached-needed-spec =
