@@ -9,7 +9,7 @@ use Rattle.record.proofs.check.Lts as lts
 use Rattle.record.proofs.check_record.Reads as check-record-reads
 
 check-record-requires : tie.Need-check-record-requires
-check-record-requires c κs = search needs
+check-record-requires c κs = tt
 
 enum-known-r : tie.Need-enum-known-r
 enum-known-r c = search needs
