@@ -6,7 +6,6 @@ use lib.Dec.{T}
 use borrow.Author.Tests.{eq-eqb, ne-eqb}
 use native.Mathlib.Omega.{arith}
 use mathlib.Core.Path.{refl, sym, _∙_, subst}
-use borrow.Author.Needs.{needs}
 use Rattle.painting.proofs.arc_returned.Statement.{statement}
 use Rattle.painting.proofs.arc_returned.Tie as tie
 use Rattle.painting.proofs.arc_returned.Reads as reads
@@ -17,10 +16,10 @@ returns : tie.Need-returns
 returns c = rw (eq-eqb _ _ (c .if1 .taken)) refl
 
 mul-is-returned : tie.Need-mul-is-returned
-mul-is-returned c = search needs
+mul-is-returned c = omega arith
 
 add-is-returned : tie.Need-add-is-returned
-add-is-returned c = search needs
+add-is-returned c = omega arith
 
 is-returned-requires : tie.Need-is-returned-requires
 is-returned-requires c κs = let p = c .before .before .before .pre in (p .0, omega (arith, p .1, p .3), rw (fact-var _ _ (p .3)) (p .2))
