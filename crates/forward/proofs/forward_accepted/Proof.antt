@@ -38,8 +38,8 @@ run-forward-requires c κs =
 reached-requires : tie.Need-reached-requires
 reached-requires c κs = tt
 
-reached-is : (c : tie.After-reached) → c .reached .result ≡ factsReached (taskOf ((reached-to-start c) .args .bytes .now))
-reached-is c = c .reached .ensures ∙ reached-facts _ (formed-of _ ((reached-to-start c) .pre)) _ (c .before .before .run-forward .ensures .state)
+reached-is : (c : tie.After-reached) → c .reached .result ≡ factsReached (taskOf (reached-to-start c .args .bytes .now))
+reached-is c = c .reached .ensures ∙ reached-facts _ (formed-of _ (reached-to-start c .pre)) _ (c .before .before .run-forward .ensures .state)
 
 cast-reached : tie.Need-cast-reached
 cast-reached c = let at-start = reached-to-start c in record { fits = omega (arith, reached-is c, factsReached-le _ (formed-of _ (at-start .pre))) }

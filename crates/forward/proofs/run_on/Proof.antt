@@ -72,14 +72,14 @@ note-requires c κs =
     let I = at-head .loop .inv in
     (chosen-listed _ _ _ _ _ _ _ _ _ _ _ _ _ I _ (at-unmet .unmet .ensures) (at-lowest .before .before .if1 .left) _ (at-lowest .lowest .ensures) (omega arith), omega arith, I .going .first-long, I .masks-are)
 
-fresh : (c : tie.Then3 Inv-loop μ-loop) → holds (setsOf ((then3-to-head c) .loop .s .sets)) (actionOf (c .before .before .before .before .before .before .before .before .before .before .before .before .before .before .before .before .before .before .before .before .args .table .now) ((then3-to-lowest c) .lowest .result) .eff) ≡ false
+fresh : (c : tie.Then3 Inv-loop μ-loop) → holds (setsOf (then3-to-head c .loop .s .sets)) (actionOf (c .before .before .before .before .before .before .before .before .before .before .before .before .before .before .before .before .before .before .before .before .args .table .now) (then3-to-lowest c .lowest .result) .eff) ≡ false
 fresh c = not-true _ (sym (c .before .note .ensures .0) ∙ c .if3 .taken)
 
 room : (c : tie.Then3 Inv-loop μ-loop) → (then3-to-head c) .loop .steps < 1024
 room c =
-    take-room _ _ _ _ _ _ _ _ _ _ _ _ _ ((then3-to-head c) .loop .inv) _
+    take-room _ _ _ _ _ _ _ _ _ _ _ _ _ (then3-to-head c .loop .inv) _
     (c .before .before .before .before .before .before .before .before .before .before .before .unmet .ensures)
-    (c .before .before .before .before .before .before .before .before .before .before .if1 .left) _ ((then3-to-lowest c) .lowest .ensures)
+    (c .before .before .before .before .before .before .before .before .before .before .if1 .left) _ (then3-to-lowest c .lowest .ensures)
     (omega arith) _ _ (c .before .before .before .before .before .unmark .ensures) (c .before .note .ensures .1) (fresh c)
 
 cast-plan : tie.Need-cast-plan Inv-loop μ-loop

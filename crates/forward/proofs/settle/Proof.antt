@@ -70,19 +70,19 @@ mul-wide-5 c =
     let at-wide3 = c .before .before .before .before in
     let at-start = wide3-to-start at-wide3 in
     let L = at-start .pre .0 in
-    record { fits = omega (arith, to-is (at-wide3), L .eff-below, L .end-below) }
+    record { fits = omega (arith, to-is at-wide3, L .eff-below, L .end-below) }
 
 shared-slice-read-wide-3 : tie.Need-shared-slice-read-wide-3
 shared-slice-read-wide-3 c =
     let at-wide3 = c .before .before .before .before .before in
     let at-start = wide3-to-start at-wide3 in
     let L = at-start .pre .0 in
-    omega (arith, to-is (at-wide3), L .eff-below, L .end-below)
+    omega (arith, to-is at-wide3, L .eff-below, L .end-below)
 
 wide-requires-4 : tie.Need-wide-requires-4
 wide-requires-4 c κs = tt
 
-waiting : (c : tie.After-wide4) → let a = (wide4-to-start c) .args in Waits (setsOf (a .sets .now)) (a .table .now) (a .j) ((wide4-to-unmet c) .unmet .result) ((wide4-to-start c) .pre .0) (met ((wide4-to-unmet c))) (c .wide4 .result)
+waiting : (c : tie.After-wide4) → let a = (wide4-to-start c) .args in Waits (setsOf (a .sets .now)) (a .table .now) (a .j) (wide4-to-unmet c .unmet .result) (wide4-to-start c .pre .0) (met ((wide4-to-unmet c))) (c .wide4 .result)
 waiting c = unmet-waits _ _ _ _ _ (met ((wide4-to-unmet c))) (omega (arith, to-is (c .before .before .before .before .before .before))) _ (c .wide4 .ensures)
 
 hang-requires : tie.Need-hang-requires
@@ -102,7 +102,7 @@ returns-2 c =
     let at-unmet = c .before .before .before in
     let at-wide = at-unmet .before .before .before .before .before in
     let e = at-wide .wide .ensures in
-    goes (unmet-goes _ _ _ _ (at-wide .before .before .pre .0) (met (at-unmet)) (omega (arith, to-is (at-unmet .before)))) (rw e at (c .mark .ensures)) refl refl
+    goes (unmet-goes _ _ _ _ (at-wide .before .before .pre .0) (met at-unmet) (omega (arith, to-is (at-unmet .before)))) (rw e at (c .mark .ensures)) refl refl
 
 pub settle-spec : {M : Type 1} → statement M
 settle-spec =

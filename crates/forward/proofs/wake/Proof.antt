@@ -88,7 +88,7 @@ settle-all-requires c κs =
     let at-start = at-head .before .before .before .before .before .before in
     let p = at-start .pre in
     let I = at-head .loop .inv in
-    (p .0, search needs, sites-off _ _ _ _ _ _ _ (I .3) _ (small (at-wide3)) _ (has-less _ _ _ _ (omega arith) (omega (arith, I .0, p .2 .end-below)) (at-wide3 .wide3 .ensures)))
+    (p .0, search needs, sites-off _ _ _ _ _ _ _ (I .3) _ (small at-wide3) _ (has-less _ _ _ _ (omega arith) (omega (arith, I .0, p .2 .end-below)) (at-wide3 .wide3 .ensures)))
 
 loop-less : tie.Need-loop-less Inv-loop μ-loop
 loop-less c = omega arith

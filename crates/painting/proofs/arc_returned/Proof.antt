@@ -1,8 +1,7 @@
 use Rattle.painting.proofs.Arcs.{fact-var, fact-val}
 use borrow.Author.Tests.{eq-eqb, ne-eqb}
 use native.Mathlib.Omega.{arith}
-use mathlib.Core.Path.{refl, _∙_}
-use borrow.Author.Needs.{needs}
+use mathlib.Core.Path.{refl, sym, _∙_, subst}
 use Rattle.painting.proofs.arc_returned.Statement.{statement}
 use Rattle.painting.proofs.arc_returned.Tie as tie
 
@@ -10,10 +9,10 @@ returns : tie.Need-returns
 returns c = rw (eq-eqb _ _ (c .if1 .taken)) refl
 
 mul-is-returned : tie.Need-mul-is-returned
-mul-is-returned c = search needs
+mul-is-returned c = omega arith
 
 add-is-returned : tie.Need-add-is-returned
-add-is-returned c = search needs
+add-is-returned c = omega arith
 
 is-returned-requires : tie.Need-is-returned-requires
 is-returned-requires c κs = let p = c .before .before .before .pre in (p .0, omega (arith, p .1, p .3), rw (fact-var _ _ (p .3)) (p .2))

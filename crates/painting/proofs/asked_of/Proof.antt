@@ -1,8 +1,8 @@
 use Rattle.painting.proofs.Walks.{Walking, walking-start, walking-turn, walking-hit, walking-end, asked-hit, asked-skip, asked-none}
 use Rattle.painting.specs.Returns.{asked}
 use Rattle.planning.specs.Runs.{look}
-use borrow.Author.Needs.{needs}
-use Prim.Native.Nat.{ℕ, _-_}
+use mathlib.Core.Path.{_≡_, refl, sym, ap, _∙_}
+use Prim.Native.Nat.{ℕ, _+_, _*_, _/_, _^_, _-_, _≤_, _<_}
 use native.Mathlib.Omega.{arith}
 use Rattle.painting.proofs.asked_of.Statement.{statement}
 use Rattle.painting.proofs.asked_of.Tie as tie
@@ -17,22 +17,22 @@ loop-holds : tie.Need-loop-holds Inv-loop μ-loop
 loop-holds c = walking-start _ _ _ _ _ (c .before .pre)
 
 mul-wide : tie.Need-mul-wide Inv-loop μ-loop
-mul-wide c = search needs
+mul-wide c = omega arith
 
 shared-slice-read-wide : tie.Need-shared-slice-read-wide Inv-loop μ-loop
-shared-slice-read-wide c = search needs
+shared-slice-read-wide c = omega arith
 
 wide-requires : tie.Need-wide-requires Inv-loop μ-loop
-wide-requires c κs = search needs
+wide-requires c κs = tt
 
 returns : tie.Need-returns Inv-loop μ-loop
 returns c = let l = c .before .before .before .before in let p = l .before .before .pre in walking-hit _ _ _ _ _ p _ (l .loop .inv) (omega arith) _ (c .before .wide .ensures) _ (asked-hit _ _ (c .if1 .taken))
 
 add-k : tie.Need-add-k Inv-loop μ-loop
-add-k c = search needs
+add-k c = omega arith
 
 loop-less : tie.Need-loop-less Inv-loop μ-loop
-loop-less c = search needs
+loop-less c = omega arith
 
 loop-again : tie.Need-loop-again Inv-loop μ-loop
 loop-again c = let l = c .before .before .before .before in let p = l .before .before .pre in walking-turn _ _ _ _ _ p _ (l .loop .inv) (omega arith) _ (c .before .wide .ensures) (asked-skip _ _ (c .if1 .left))

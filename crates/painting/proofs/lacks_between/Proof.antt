@@ -2,8 +2,8 @@ use Rattle.painting.proofs.Arcs.{Trying, trying-start, trying-turn, try
 use Rattle.painting.specs.Returns.{marked}
 use Rattle.planning.specs.Record.{taskOf}
 use borrow.Author.Tests.{not-true, not-false}
-use borrow.Author.Needs.{needs}
-use Prim.Native.Nat.{_/_, _%_, _-_}
+use mathlib.Core.Path.{_≡_, refl, sym, ap, _∙_}
+use Prim.Native.Nat.{ℕ, _+_, _*_, _/_, _%_, _^_, _-_, _≤_, _<_}
 use native.Mathlib.Omega.{arith}
 use Rattle.painting.proofs.lacks_between.Statement.{statement}
 use Rattle.painting.proofs.lacks_between.Tie as tie
@@ -24,10 +24,10 @@ returns : tie.Need-returns Inv-loop μ-loop
 returns c = let l = c .before .before .before in trying-hit _ _ _ _ _ _ _ (l .loop .inv) (omega arith) _ (c .before .arc-returned .ensures) (not-true _ (c .if1 .taken))
 
 add-d : tie.Need-add-d Inv-loop μ-loop
-add-d c = search needs
+add-d c = omega arith
 
 loop-less : tie.Need-loop-less Inv-loop μ-loop
-loop-less c = search needs
+loop-less c = omega arith
 
 loop-again : tie.Need-loop-again Inv-loop μ-loop
 loop-again c = let l = c .before .before .before in trying-turn _ _ _ _ _ _ _ (l .loop .inv) (omega arith) _ (c .before .arc-returned .ensures) (not-false _ (c .if1 .left))

@@ -1,39 +1,38 @@
 use Rattle.painting.proofs.Walks.{move-fact, linked-none, linked-one}
 use Rattle.graph.proofs.Rows.{listed-effects}
 use native.Mathlib.Omega.{arith}
-use borrow.Author.Needs.{needs}
 use Rattle.painting.proofs.link.Statement.{statement}
 use Rattle.painting.proofs.link.Tie as tie
 
 mul-wide : tie.Need-mul-wide
-mul-wide c = search needs
+mul-wide c = omega arith
 
 add-wide : tie.Need-add-wide
-add-wide c = search needs
+add-wide c = omega arith
 
 mul-wide-2 : tie.Need-mul-wide-2
-mul-wide-2 c = search needs
+mul-wide-2 c = omega arith
 
 shared-slice-read-wide : tie.Need-shared-slice-read-wide
-shared-slice-read-wide c = search needs
+shared-slice-read-wide c = omega arith
 
 wide-requires : tie.Need-wide-requires
-wide-requires c κs = search needs
+wide-requires c κs = tt
 
 mul-wide-3 : tie.Need-mul-wide-3
-mul-wide-3 c = search needs
+mul-wide-3 c = omega arith
 
 add-wide-2 : tie.Need-add-wide-2
-add-wide-2 c = search needs
+add-wide-2 c = omega arith
 
 mul-wide-4 : tie.Need-mul-wide-4
-mul-wide-4 c = search needs
+mul-wide-4 c = omega arith
 
 shared-slice-read-wide-2 : tie.Need-shared-slice-read-wide-2
-shared-slice-read-wide-2 c = search needs
+shared-slice-read-wide-2 c = omega arith
 
 wide-requires-2 : tie.Need-wide-requires-2
-wide-requires-2 c κs = search needs
+wide-requires-2 c κs = tt
 
 move-of-requires : tie.Need-move-of-requires
 move-of-requires c κs = let w1 = c .before .before in listed-effects _ _ (w1 .before .before .before .pre .0) _ _ (w1 .wide .ensures) (c .wide2 .ensures)
@@ -48,13 +47,13 @@ element-copy-out-chain : tie.Need-element-copy-out-chain
 element-copy-out-chain c = let m = c .before in let w2 = m .before in let w1 = w2 .before .before in let p = w1 .before .before .before .pre in move-fact _ _ _ (p .0) _ _ _ (w1 .wide .ensures) (w2 .wide2 .ensures) (m .move-of .ensures) (c .if1 .left)
 
 mul-chain-2 : tie.Need-mul-chain-2
-mul-chain-2 c = search needs
+mul-chain-2 c = omega arith
 
 element-write-chain : tie.Need-element-write-chain
-element-write-chain c = search needs
+element-write-chain c = omega arith
 
 cast-head : tie.Need-cast-head
-cast-head c = search needs
+cast-head c = omega arith
 
 mul-head : tie.Need-mul-head
 mul-head c = let m = c .before .before in let w2 = m .before in let w1 = w2 .before .before in let p = w1 .before .before .before .pre in omega (arith, move-fact _ _ _ (p .0) _ _ _ (w1 .wide .ensures) (w2 .wide2 .ensures) (m .move-of .ensures) (c .before .if1 .left))

@@ -1,8 +1,8 @@
 use Rattle.painting.proofs.Chains.{Linking, linking-back, linking-end, linking-start}
 use Rattle.planning.proofs.Formed.{formed-of}
 use Rattle.graph.proofs.Rows.{given-listed}
-use borrow.Author.Needs.{needs}
-use mathlib.Core.Path.{refl}
+use mathlib.Core.Path.{_≡_, refl, sym, ap, _∙_}
+use Prim.Native.Nat.{ℕ, _+_, _*_, _/_, _^_, _-_, _≤_, _<_}
 use native.Mathlib.Omega.{arith}
 use Rattle.painting.proofs.link_all.Statement.{statement}
 use Rattle.painting.proofs.link_all.Tie as tie
@@ -17,7 +17,7 @@ loop-holds : tie.Need-loop-holds Inv-loop μ-loop
 loop-holds c = let p = c .before .before .pre in linking-start _ _ _ _ (p .0) (p .1) _ _ _ (p .2) (p .3) refl
 
 sub-i : tie.Need-sub-i Inv-loop μ-loop
-sub-i c = search needs
+sub-i c = omega arith
 
 link-requires : tie.Need-link-requires Inv-loop μ-loop
 link-requires c κs = let l = c .before .before .before in let p = l .before .before .before .pre in let i = l .loop .inv in (given-listed _ _ _ _ (p .0) _ (omega (arith, i .within, p .0 .all)), omega (arith, i .within, formed-of _ (p .0 .accepted) .actions-max))

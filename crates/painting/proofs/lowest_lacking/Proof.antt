@@ -1,8 +1,8 @@
 use Rattle.painting.proofs.Arcs.{Scanning, scanning-start, scanning-turn, scanning-hit, scanning-end}
 use Rattle.painting.proofs.Marks.{unmarked-start}
 use Rattle.planning.specs.Record.{taskOf}
-use borrow.Author.Needs.{needs}
-use Prim.Native.Nat.{_-_}
+use mathlib.Core.Path.{_≡_, refl, sym, ap, _∙_}
+use Prim.Native.Nat.{ℕ, _+_, _*_, _/_, _^_, _-_, _≤_, _<_}
 use native.Mathlib.Omega.{arith}
 use Rattle.painting.proofs.lowest_lacking.Statement.{statement}
 use Rattle.painting.proofs.lowest_lacking.Tie as tie
@@ -23,10 +23,10 @@ returns : tie.Need-returns Inv-loop μ-loop
 returns c = let l = c .before .before .before .before in let p = l .before .before .before .pre in scanning-hit _ _ (p .1) _ _ (l .loop .inv) _ _ (c .before .is-lacking .ensures) (omega arith) (c .if1 .taken)
 
 add-i : tie.Need-add-i Inv-loop μ-loop
-add-i c = search needs
+add-i c = omega arith
 
 loop-less : tie.Need-loop-less Inv-loop μ-loop
-loop-less c = search needs
+loop-less c = omega arith
 
 loop-again : tie.Need-loop-again Inv-loop μ-loop
 loop-again c = let l = c .before .before .before .before in let p = l .before .before .before .pre in scanning-turn _ _ (p .1) _ _ (l .loop .inv) _ _ (c .before .is-lacking .ensures) (omega arith) (c .if1 .left)

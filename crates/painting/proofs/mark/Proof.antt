@@ -1,6 +1,6 @@
 use Rattle.painting.proofs.Marks.{Marking, marking-start, marking-small, marking-turn, marking-end}
-use borrow.Author.Needs.{needs}
-use Prim.Native.Nat.{_-_}
+use mathlib.Core.Path.{_≡_, refl, sym, ap, _∙_}
+use Prim.Native.Nat.{ℕ, _+_, _*_, _/_, _^_, _-_, _≤_, _<_}
 use native.Mathlib.Omega.{arith}
 use Rattle.painting.proofs.mark.Statement.{statement}
 use Rattle.painting.proofs.mark.Tie as tie
@@ -15,16 +15,16 @@ loop-holds : tie.Need-loop-holds Inv-loop μ-loop
 loop-holds c = marking-start _ _ _ _ _ _ (c .before .pre .0)
 
 mul-wide : tie.Need-mul-wide Inv-loop μ-loop
-mul-wide c = search needs
+mul-wide c = omega arith
 
 shared-slice-read-wide : tie.Need-shared-slice-read-wide Inv-loop μ-loop
-shared-slice-read-wide c = search needs
+shared-slice-read-wide c = omega arith
 
 wide-requires : tie.Need-wide-requires Inv-loop μ-loop
-wide-requires c κs = search needs
+wide-requires c κs = tt
 
 place-of-requires : tie.Need-place-of-requires Inv-loop μ-loop
-place-of-requires c κs = search needs
+place-of-requires c κs = tt
 
 mul-marks : tie.Need-mul-marks Inv-loop μ-loop
 mul-marks c = let l = c .before .before .before .before in let p = l .before .before .pre in omega (arith, marking-small _ _ _ _ _ _ (p .0) _ _ (l .loop .inv) (omega arith) (p .1) _ _ (c .before .wide .ensures) (c .place-of .ensures))
@@ -33,10 +33,10 @@ element-write-marks : tie.Need-element-write-marks Inv-loop μ-loop
 element-write-marks c = let l = c .before .before .before .before in let p = l .before .before .pre in marking-small _ _ _ _ _ _ (p .0) _ _ (l .loop .inv) (omega arith) (p .1) _ _ (c .before .wide .ensures) (c .place-of .ensures)
 
 add-k : tie.Need-add-k Inv-loop μ-loop
-add-k c = search needs
+add-k c = omega arith
 
 loop-less : tie.Need-loop-less Inv-loop μ-loop
-loop-less c = search needs
+loop-less c = omega arith
 
 loop-again : tie.Need-loop-again Inv-loop μ-loop
 loop-again c = let l = c .before .before .before .before in let p = l .before .before .pre in marking-turn _ _ _ _ _ _ (p .0) _ _ (l .loop .inv) (omega arith) _ _ (c .before .wide .ensures) (c .place-of .ensures)

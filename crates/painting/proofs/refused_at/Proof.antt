@@ -1,16 +1,15 @@
 use Rattle.graph.specs.Given.{foundOf}
 use Rattle.planning.specs.Basics.{refuseAt}
 use native.Mathlib.Omega.{arith}
-use mathlib.Core.Path.{ap, refl}
-use borrow.Author.Needs.{needs}
+use mathlib.Core.Path.{sym, ap, refl}
 use Rattle.painting.proofs.refused_at.Statement.{statement}
 use Rattle.painting.proofs.refused_at.Tie as tie
 
 enum-known-found : tie.Need-enum-known-found
-enum-known-found c = search needs
+enum-known-found c = omega arith
 
 enum-told : tie.Need-enum-told
-enum-told c = search needs
+enum-told c = omega arith
 
 returns : tie.Need-returns
 unfolding refuseAt

@@ -1,6 +1,5 @@
-use borrow.Author.Needs.{needs}
-use mathlib.Core.Path.{sym, _∙_}
-use Prim.Native.Nat.{_-_}
+use mathlib.Core.Path.{_≡_, refl, sym, ap, _∙_}
+use Prim.Native.Nat.{ℕ, _+_, _*_, _/_, _^_, _-_, _≤_, _<_}
 use native.Mathlib.Omega.{arith}
 use Rattle.planning.specs.Record.{taskOf}
 use Rattle.state.specs.Sets.{setsOf}
@@ -15,7 +14,7 @@ abbrev μ-loop : tie.MeasureT-loop
 μ-loop bytes table head chain masks ever row₀ v front rest g₀ e₀ row g e = 64 - e
 
 next-member-requires : tie.Need-next-member-requires Inv-loop μ-loop
-next-member-requires c κs = search needs
+next-member-requires c κs = omega arith
 
 loop-holds : tie.Need-loop-holds Inv-loop μ-loop
 loop-holds c = let p = c .before .before .before .before .pre in laying-start _ _ _ _ _ _ _ (p .0 .3) (p .1 .1) (c .next-member .ensures)
@@ -24,10 +23,10 @@ arrive-requires : tie.Need-arrive-requires Inv-loop μ-loop
 arrive-requires c κs = let p = c .before .before .before .before .before .before .before .pre in let i = c .before .before .loop .inv in ((p .0 .0, p .0 .1, p .0 .2, omega arith, i .long), (i .member (omega arith), p .1 .0, i .marks))
 
 add-next-member : tie.Need-add-next-member Inv-loop μ-loop
-add-next-member c = search needs
+add-next-member c = omega arith
 
 next-member-requires-2 : tie.Need-next-member-requires-2 Inv-loop μ-loop
-next-member-requires-2 c κs = search needs
+next-member-requires-2 c κs = omega arith
 
 loop-less : tie.Need-loop-less Inv-loop μ-loop
 loop-less c = omega (arith, c .next-member2 .ensures .from, c .next-member2 .ensures .within)

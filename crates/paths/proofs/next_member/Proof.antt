@@ -1,4 +1,3 @@
-use borrow.Author.Needs.{needs}
 use Prim.Native.Nat.{_/_, _^_}
 use lib.Count.{trailing-le}
 use native.Mathlib.Omega.{arith}
@@ -10,10 +9,10 @@ returns : tie.Need-returns
 returns c = member-end _ _ (c .if1 .taken)
 
 shr-wider : tie.Need-shr-wider
-shr-wider c = search needs
+shr-wider c = omega arith
 
 wider-requires : tie.Need-wider-requires
-wider-requires c κs = search needs
+wider-requires c κs = tt
 
 add-r : tie.Need-add-r
 add-r c = omega (arith, c .wider .ensures, trailing-le 64 (c .before .before .args .set / 2 ^ (c .before .before .args .a)))

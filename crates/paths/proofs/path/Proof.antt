@@ -14,31 +14,42 @@ prepare-requires : tie.Need-prepare-requires
 prepare-requires c κs = search needs
 
 mul-from : tie.Need-mul-from
-mul-from c = search needs
+mul-from c = omega arith
 
 add-to : tie.Need-add-to
-add-to c = search needs
+add-to c = omega arith
 
 mul-walk : tie.Need-mul-walk
-mul-walk c = search needs
+mul-walk c = omega arith
 
 sub-walk : tie.Need-sub-walk
-sub-walk c = search needs
+sub-walk c = omega arith
 
 part-walk-start : tie.Need-part-walk-start
-part-walk-start c = search needs
+part-walk-start c = omega arith
 
 part-walk-end : tie.Need-part-walk-end
-part-walk-end c = search needs
+part-walk-end c = omega arith
 
 walk-requires : tie.Need-walk-requires
-walk-requires c κs = let p = c .before .before .before .before .before .before .before .before .before .before .before .pre in let a = c .before .before .before .before .before .before .before .before .before .before .before .args in ((p .0 .0 .accepted, p .0 .0 .tabled, memo-part (taskOf (a .bytes .now)) (setsOf (a .ever .now)) (a .v) (a .d) (omega (arith, p .1)) (omega (arith, formed-of (a .bytes .now) (p .0 .0 .accepted) .count-max (a .v))) _ ((64 * a .d + 64) - 64 * a .d) (omega arith) (c .before .before .before .before .before .prepare .ensures .0) (c .before .before .before .before .before .prepare .ensures .1)), (part-long (c .before .before .before .before .before .prepare .last .1 .1 .1 .1 .1 .1 .0) (64 * a .d) ((64 * a .d + 64) - 64 * a .d) (omega arith) (omega (arith, c .before .before .before .before .before .prepare .ensures .0 .long, p .1)), omega (arith, p .1), p .1 .4))
+walk-requires c κs =
+    let at-prepare = c .before .before .before .before .before in
+    let at-start = at-prepare .before .before .before .before .before .before in
+    let p = at-start .pre in
+    let a = at-start .args in (
+      (
+        p .0 .0 .accepted,
+        p .0 .0 .tabled,
+        memo-part (taskOf (a .bytes .now)) (setsOf (a .ever .now)) (a .v) (a .d) (omega (arith, p .1)) (omega (arith, formed-of (a .bytes .now) (p .0 .0 .accepted) .count-max (a .v))) _ ((64 * a .d + 64) - 64 * a .d) (omega arith) (at-prepare .prepare .ensures .0) (at-prepare .prepare .ensures .1),
+      ),
+      (part-long (at-prepare .prepare .last .1 .1 .1 .1 .1 .1 .0) (64 * a .d) ((64 * a .d + 64) - 64 * a .d) (omega arith) (omega (arith, at-prepare .prepare .ensures .0 .long, p .1)), omega (arith, p .1), p .1 .4),
+    )
 
 same-length : tie.Need-same-length
-same-length c = search needs
+same-length c = omega arith
 
 same-length-2 : tie.Need-same-length-2
-same-length-2 c = search needs
+same-length-2 c = omega arith
 
 returns : tie.Need-returns
 returns c = search needs

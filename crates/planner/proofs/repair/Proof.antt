@@ -7,10 +7,10 @@ use Rattle.planner.proofs.repair.Statement.{statement}
 use Rattle.planner.proofs.repair.Tie as tie
 
 repair-checked-requires : tie.Need-repair-checked-requires
-repair-checked-requires c κs = search needs
+repair-checked-requires c κs = tt
 
 finish-requires : tie.Need-finish-requires
-finish-requires c κs = search needs
+finish-requires c κs = tt
 
 same-length : tie.Need-same-length
 same-length c = search needs
@@ -19,7 +19,16 @@ same-length-2 : tie.Need-same-length-2
 same-length-2 c = search needs
 
 returns : tie.Need-returns
-returns c = let a = c .before .before .before .before .before .before .before .before .before .before .before .before .before .before .before .before .before .before .args in let D = c .before .before .before .before .before .before .before .before .before .before .before .repair-checked .ensures in let E = c .before .before .before .before .finish .ensures in let S = repair-settled (a .bytes .now) (a .list .now) (length (a .plan .now)) (length (a .work .now)) _ (c .before .before .before .before .before .before .before .before .before .before .plan .given) _ D _ (E .0) in (D .answer, (S .0, (E .1 ∙ ap workList (c .before .before .before .before .before .before .before .before .work .given), S .1)))
+returns c =
+    let at-finish = c .before .before .before .before in
+    let at-work = at-finish .before .before .before .before in
+    let at-repair-checked = at-work .before .before .before in
+    let at-start = at-repair-checked .before .before .before .before .before .before .before in
+    let a = at-start .args in
+    let D = at-repair-checked .repair-checked .ensures in
+    let E = at-finish .finish .ensures in
+    let S = repair-settled (a .bytes .now) (a .list .now) (length (a .plan .now)) (length (a .work .now)) _ (at-work .before .before .plan .given) _ D _ (E .0) in
+    (D .answer, (S .0, (E .1 ∙ ap workList (at-work .work .given), S .1)))
 
 pub repair-spec : {M : Type 1} → statement M
 repair-spec =

@@ -10,6 +10,15 @@ use borrow.Author.Needs.{needs}
 use Rattle.planner.proofs.repair_loaded.Statement.{statement}
 use Rattle.planner.proofs.repair_loaded.Tie as tie
 
+abbrev check-painting-to-start : tie.After-check-painting → tie.Start
+check-painting-to-start c = c .before .before .before .before .before .before .before .before .before .before .before .before
+
+abbrev enum-told3-to-start : tie.After-enum-told3 → tie.Start
+enum-told3-to-start c = c .before .before .before .before .before .before .before .before .before .before .before .before .before .before .before .before .before
+
+abbrev enum-told3-to-check-painting : tie.After-enum-told3 → tie.After-check-painting
+enum-told3-to-check-painting c = c .before .before .before .before .before
+
 painted-requires : tie.Need-painted-requires
 painted-requires c κs = search needs
 
@@ -32,10 +41,16 @@ enum-told-2 : tie.Need-enum-told-2
 enum-told-2 c = search needs
 
 refusal-of-requires : tie.Need-refusal-of-requires
-refusal-of-requires c κs = search needs
+refusal-of-requires c κs = tt
 
 returns : tie.Need-returns
-returns c = let a = c .before .before .before .before .before .before .before .before .before .before .before .before .before .before .before .args in repair-unpainted (a .bytes .now) (a .list .now) (c .before .before .before .before .before .before .before .before .before .before .before .before .before .before .before .pre .0) (length (a .plan .now)) (length (a .work .now)) (a .plan .now) (c .before .before .before .check-painting .result) (c .refusal-of .result) _ (c .before .before .before .check-painting .ensures .answer) (c .before .enum-told2 .given .1) (c .refusal-of .ensures)
+returns c =
+    let at-check-painting = c .before .before .before in
+    let at-start = check-painting-to-start at-check-painting in
+    let a = at-start .args in
+    repair-unpainted (a .bytes .now) (a .list .now) (at-start .pre .0) (length (a .plan .now)) (length (a .work .now)) (a .plan .now)
+    (at-check-painting .check-painting .result) (c .refusal-of .result) _ (at-check-painting .check-painting .ensures .answer)
+    (c .before .enum-told2 .given .1) (c .refusal-of .ensures)
 
 check-relaxed-requires : tie.Need-check-relaxed-requires
 check-relaxed-requires c κs = search needs
@@ -47,19 +62,38 @@ enum-told-4 : tie.Need-enum-told-4
 enum-told-4 c = search needs
 
 refusal-of-requires-2 : tie.Need-refusal-of-requires-2
-refusal-of-requires-2 c κs = search needs
+refusal-of-requires-2 c κs = tt
 
 returns-2 : tie.Need-returns-2
-returns-2 c = let a = c .before .before .before .before .before .before .before .before .before .before .before .before .before .before .before .before .before .before .args in let P = painting-passes (taskOf (a .bytes .now)) _ (c .before .before .before .before .before .before .check-painting .ensures .answer) (c .before .before .before .before .enum-told .given .1) in repair-unlisted (a .bytes .now) (c .before .before .before .before .before .before .before .before .before .before .before .before .before .before .before .before .before .before .pre .0) (P .0) (P .1) (a .list .now) (length (a .plan .now)) (length (a .work .now)) (a .plan .now) (c .before .before .before .check-relaxed .result) (c .refusal-of2 .result) _ (c .before .before .before .check-relaxed .ensures) (c .before .enum-told4 .given .1) (c .refusal-of2 .ensures)
+returns-2 c =
+    let at-check-relaxed = c .before .before .before in
+    let at-check-painting = at-check-relaxed .before .before .before in
+    let at-start = check-painting-to-start at-check-painting in
+    let a = at-start .args in
+    let P = painting-passes (taskOf (a .bytes .now)) _ (at-check-painting .check-painting .ensures .answer) (at-check-relaxed .before .enum-told .given .1) in
+    repair-unlisted (a .bytes .now) (at-start .pre .0) (P .0) (P .1) (a .list .now) (length (a .plan .now)) (length (a .work .now)) (a .plan .now)
+    (at-check-relaxed .check-relaxed .result) (c .refusal-of2 .result) _ (at-check-relaxed .check-relaxed .ensures) (c .before .enum-told4 .given .1)
+    (c .refusal-of2 .ensures)
 
-painting-passed : (c : tie.After-enum-told3) → (cyclic (taskOf (c .before .before .before .before .before .before .before .before .before .before .before .before .before .before .before .before .before .args .bytes .now)) ≡ none) × (unreturned (taskOf (c .before .before .before .before .before .before .before .before .before .before .before .before .before .before .before .before .before .args .bytes .now)) ≡ none)
-painting-passed c = painting-passes (taskOf (c .before .before .before .before .before .before .before .before .before .before .before .before .before .before .before .before .before .args .bytes .now)) _ (c .before .before .before .before .before .check-painting .ensures .answer) (c .before .before .before .enum-told .given .1)
+painting-passed : (c : tie.After-enum-told3) → (cyclic (taskOf (enum-told3-to-start c .args .bytes .now)) ≡ none) × (unreturned (taskOf (enum-told3-to-start c .args .bytes .now)) ≡ none)
+painting-passed c = painting-passes (taskOf (enum-told3-to-start c .args .bytes .now)) _ (enum-told3-to-check-painting c .check-painting .ensures .answer) (c .before .before .before .enum-told .given .1)
 
-list-passed : (c : tie.After-enum-told3) → (lengthCheck (c .before .before .before .before .before .before .before .before .before .before .before .before .before .before .before .before .before .args .list .now) ≡ none) × (relaxedCheck (taskOf (c .before .before .before .before .before .before .before .before .before .before .before .before .before .before .before .before .before .args .bytes .now)) (c .before .before .before .before .before .before .before .before .before .before .before .before .before .before .before .before .before .args .list .now) ≡ none)
-list-passed c = list-passes (taskOf (c .before .before .before .before .before .before .before .before .before .before .before .before .before .before .before .before .before .args .bytes .now)) (c .before .before .before .before .before .before .before .before .before .before .before .before .before .before .before .before .before .args .list .now) (c .before .before .check-relaxed .result) _ (c .before .before .check-relaxed .ensures) (c .enum-told3 .given .1)
+list-passed : (c : tie.After-enum-told3) → (lengthCheck (enum-told3-to-start c .args .list .now) ≡ none) × (relaxedCheck (taskOf (enum-told3-to-start c .args .bytes .now)) (enum-told3-to-start c .args .list .now) ≡ none)
+list-passed c = list-passes (taskOf (enum-told3-to-start c .args .bytes .now)) (enum-told3-to-start c .args .list .now) (c .before .before .check-relaxed .result) _ (c .before .before .check-relaxed .ensures) (c .enum-told3 .given .1)
 
 draft-requires : tie.Need-draft-requires
-draft-requires c κs = let a = c .before .before .before .before .before .before .before .before .before .before .before .before .before .before .before .before .before .before .before .before .before .before .args in let p = c .before .before .before .before .before .before .before .before .before .before .before .before .before .before .before .before .before .before .before .before .before .before .pre in let P = painting-passed (c .before .before .before .before .before) in (record { accepted = p .0; tabled = p .1; acyclic = P .0; returns = P .1; chained = c .before .before .before .before .before .before .before .before .before .before .check-painting .ensures .chained (P .0); colours = c .before .before .before .before .before .before .before .before .before .before .before .before .before .before .before .before .painted .ensures; arcs = c .before .before .before .before .before .before .before .before .before .before .before .before .before .graph .ensures }, relaxedCheck-none (taskOf (a .bytes .now)) (a .list .now) (list-passed (c .before .before .before .before .before) .1))
+draft-requires c κs =
+    let at-enum-told3 = c .before .before .before .before .before in
+    let at-check-painting = enum-told3-to-check-painting at-enum-told3 in
+    let at-graph = at-check-painting .before .before .before in
+    let at-painted = at-graph .before .before .before in
+    let at-start = at-painted .before .before .before .before .before .before in
+    let a = at-start .args in
+    let p = at-start .pre in
+    let P = painting-passed at-enum-told3 in (
+      record { accepted = p .0; tabled = p .1; acyclic = P .0; returns = P .1; chained = at-check-painting .check-painting .ensures .chained (P .0); colours = at-painted .painted .ensures; arcs = at-graph .graph .ensures },
+      relaxedCheck-none (taskOf (a .bytes .now)) (a .list .now) (list-passed at-enum-told3 .1),
+    )
 
 same-length : tie.Need-same-length
 same-length c = search needs
@@ -68,7 +102,13 @@ same-length-2 : tie.Need-same-length-2
 same-length-2 c = search needs
 
 returns-3 : tie.Need-returns-3
-returns-3 c = let a = c .before .before .before .before .before .before .before .before .before .before .before .before .before .before .before .before .before .before .before .before .before .before .before .before .before .before .before .args in let P = painting-passed (c .before .before .before .before .before .before .before .before .before .before) in repair-drafted (a .bytes .now) (c .before .before .before .before .before .before .before .before .before .before .before .before .before .before .before .before .before .before .before .before .before .before .before .before .before .before .before .pre .0) (P .0) (P .1) (a .list .now) (length (a .plan .now)) (length (a .work .now)) _ _ (list-passed (c .before .before .before .before .before .before .before .before .before .before)) (c .before .before .before .before .draft .ensures)
+returns-3 c =
+    let at-draft = c .before .before .before .before in
+    let at-enum-told3 = at-draft .before .before .before .before .before .before in
+    let at-start = enum-told3-to-start at-enum-told3 in
+    let a = at-start .args in
+    let P = painting-passed at-enum-told3 in
+    repair-drafted (a .bytes .now) (at-start .pre .0) (P .0) (P .1) (a .list .now) (length (a .plan .now)) (length (a .work .now)) _ _ (list-passed at-enum-told3) (at-draft .draft .ensures)
 
 pub repair-loaded-spec : {M : Type 1} → statement M
 repair-loaded-spec =

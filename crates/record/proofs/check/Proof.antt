@@ -6,7 +6,7 @@ use Rattle.record.proofs.check.Statement.{statement}
 use Rattle.record.proofs.check.Tie as tie
 
 check-record-requires : tie.Need-check-record-requires
-check-record-requires c κs = search needs
+check-record-requires c κs = tt
 
 enum-known-r : tie.Need-enum-known-r
 enum-known-r c = search needs

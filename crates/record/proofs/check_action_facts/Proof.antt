@@ -6,16 +6,16 @@ use Rattle.record.proofs.check_action_facts.Statement.{statement}
 use Rattle.record.proofs.check_action_facts.Tie as tie
 
 add-check-facts : tie.Need-add-check-facts
-add-check-facts c = search needs
+add-check-facts c = omega arith
 
 check-facts-requires : tie.Need-check-facts-requires
 check-facts-requires c κs = search needs
 
 enum-known-p : tie.Need-enum-known-p
-enum-known-p c = search needs
+enum-known-p c = omega arith
 
 enum-told : tie.Need-enum-told
-enum-told c = search needs
+enum-told c = omega arith
 
 returns : tie.Need-returns
 returns c = pre-refused _ _ _ (search needs) _ _ _ _ (c .enum-told .given .1) (c .before .before .check-facts .ensures)

@@ -13,10 +13,10 @@ abbrev μ-loop : tie.MeasureT-loop
 μ-loop bytes count variables counts at₀ i₀ at i = count - i
 
 mul-at : tie.Need-mul-at Inv-loop μ-loop
-mul-at c = search needs
+mul-at c = omega arith
 
 add-at : tie.Need-add-at Inv-loop μ-loop
-add-at c = search needs
+add-at c = omega arith
 
 loop-holds : tie.Need-loop-holds Inv-loop μ-loop
 loop-holds c = actions-start _ _ _ (omega arith)
@@ -25,19 +25,19 @@ check-action-requires : tie.Need-check-action-requires Inv-loop μ-loop
 check-action-requires c κs = (omega (arith, c .before .loop .inv .below), search needs, search needs, search needs)
 
 enum-known-a : tie.Need-enum-known-a Inv-loop μ-loop
-enum-known-a c = search needs
+enum-known-a c = omega arith
 
 enum-told : tie.Need-enum-told Inv-loop μ-loop
-enum-told c = search needs
+enum-told c = omega arith
 
 returns : tie.Need-returns Inv-loop μ-loop
 returns c = action-stops _ _ _ _ _ (c .before .before .before .before .loop .inv) _ _ _ (omega arith) (c .enum-told .given .1) (c .before .before .check-action .ensures)
 
 add-i : tie.Need-add-i Inv-loop μ-loop
-add-i c = search needs
+add-i c = omega arith
 
 loop-less : tie.Need-loop-less Inv-loop μ-loop
-loop-less c = search needs
+loop-less c = omega arith
 
 loop-again : tie.Need-loop-again Inv-loop μ-loop
 loop-again c = actions-turn _ _ _ _ _ (c .before .before .before .before .before .loop .inv) _ (omega arith) (passed _ _ _ _ (c .before .a .given .1) (c .before .before .before .check-action .ensures))

@@ -5,19 +5,19 @@ use Rattle.record.proofs.check_end.Statement.{statement}
 use Rattle.record.proofs.check_end.Tie as tie
 
 add-size : tie.Need-add-size
-add-size c = search needs
+add-size c = omega arith
 
 returns : tie.Need-returns
 returns c = end-bytes _ _ (search needs) (search needs)
 
 mul-read-bits : tie.Need-mul-read-bits
-mul-read-bits c = search needs
+mul-read-bits c = omega arith
 
 sub-read-bits : tie.Need-sub-read-bits
-sub-read-bits c = search needs
+sub-read-bits c = omega arith
 
 read-bits-requires : tie.Need-read-bits-requires
-read-bits-requires c κs = search needs
+read-bits-requires c κs = omega arith
 
 returns-2 : tie.Need-returns-2
 returns-2 c = end-padding _ _ (search needs) _ _ (omega arith) (omega arith) (c .before .read-bits .ensures) (c .if2 .taken)

@@ -8,6 +8,9 @@ use borrow.Author.Needs.{needs}
 use Rattle.record.proofs.check_fact.Statement.{statement}
 use Rattle.record.proofs.check_fact.Tie as tie
 
+abbrev a-to-start : tie.After-a → tie.Start
+a-to-start c = c .before .before .before .before
+
 take-requires : tie.Need-take-requires
 take-requires c κs = search needs
 
@@ -23,11 +26,16 @@ returns c = stops _ _ _ _ _ _ (c .enum-told .given .1) (c .before .before .take 
 
 returns-2 : tie.Need-returns-2
 unfolding factChecks
-returns-2 c = skip _ _ _ _ ((passed _ _ _ _ (c .before .before .a .given .1) (c .before .before .before .before .take .ensures)) .0) (hit _ _ _ _ _ (var-above _ _ _ _ _ (c .before .before .before .before .before .before .pre .1) ((passed _ _ _ _ (c .before .before .a .given .1) (c .before .before .before .before .take .ensures)) .1) (c .if1 .taken)))
+returns-2 c =
+    let at-take = c .before .before .before .before in
+    skip _ _ _ _ ((passed _ _ _ _ (c .before .before .a .given .1) (at-take .take .ensures)) .0) (hit _ _ _ _ _ (var-above _ _ _ _ _ (at-take .before .before .pre .1) ((passed _ _ _ _ (c .before .before .a .given .1) (at-take .take .ensures)) .1) (c .if1 .taken)))
 
 returns-3 : tie.Need-returns-3
 unfolding factChecks
-returns-3 c = skip _ _ _ _ ((passed _ _ _ _ (c .before .before .before .a .given .1) (c .before .before .before .before .before .take .ensures)) .0) (hit _ _ _ _ _ (var-low _ _ _ _ _ (c .before .before .before .before .before .before .before .pre .1) ((passed _ _ _ _ (c .before .before .before .a .given .1) (c .before .before .before .before .before .take .ensures)) .1) (c .before .if1 .left) (c .if2 .taken)))
+returns-3 c =
+    let at-a = c .before .before .before in
+    let at-start = a-to-start at-a in
+    skip _ _ _ _ ((passed _ _ _ _ (at-a .a .given .1) (at-a .before .before .take .ensures)) .0) (hit _ _ _ _ _ (var-low _ _ _ _ _ (at-start .pre .1) ((passed _ _ _ _ (at-a .a .given .1) (at-a .before .before .take .ensures)) .1) (c .before .if1 .left) (c .if2 .taken)))
 
 add-take : tie.Need-add-take
 add-take c = search needs
@@ -43,7 +51,13 @@ enum-told-2 c = search needs
 
 returns-4 : tie.Need-returns-4
 unfolding factChecks
-returns-4 c = skip _ _ _ _ ((passed _ _ _ _ (c .before .before .before .before .before .before .a .given .1) (c .before .before .before .before .before .before .before .before .take .ensures)) .0) (skip _ _ _ _ (var-right _ _ _ _ _ (c .before .before .before .before .before .before .before .before .before .before .pre .1) ((passed _ _ _ _ (c .before .before .before .before .before .before .a .given .1) (c .before .before .before .before .before .before .before .before .take .ensures)) .1) (c .before .before .before .before .if1 .left) (c .before .before .before .if2 .left)) (stops _ _ _ _ _ _ (c .enum-told2 .given .1) (c .before .before .take2 .ensures)))
+returns-4 c =
+    let at-else2 = c .before .before .before in
+    let at-a = at-else2 .before .before .before in
+    let at-start = a-to-start at-a in
+    skip _ _ _ _ ((passed _ _ _ _ (at-a .a .given .1) (at-a .before .before .take .ensures)) .0)
+    (skip _ _ _ _ (var-right _ _ _ _ _ (at-start .pre .1) ((passed _ _ _ _ (at-a .a .given .1) (at-a .before .before .take .ensures)) .1)
+    (at-else2 .before .if1 .left) (at-else2 .if2 .left)) (stops _ _ _ _ _ _ (c .enum-told2 .given .1) (c .before .before .take2 .ensures)))
 
 cast-if3 : tie.Need-cast-if3
 cast-if3 c = search needs
@@ -59,11 +73,33 @@ add-t19 c = search needs
 
 returns-5 : tie.Need-returns-5
 unfolding factChecks
-returns-5 c = skip _ _ _ _ ((passed _ _ _ _ (c .before .before .before .before .before .before .before .before .before .a .given .1) (c .before .before .before .before .before .before .before .before .before .before .before .take .ensures)) .0) (skip _ _ _ _ (var-right _ _ _ _ _ (c .before .before .before .before .before .before .before .before .before .before .before .before .before .pre .1) ((passed _ _ _ _ (c .before .before .before .before .before .before .before .before .before .a .given .1) (c .before .before .before .before .before .before .before .before .before .before .before .take .ensures)) .1) (c .before .before .before .before .before .before .before .if1 .left) (c .before .before .before .before .before .before .if2 .left)) (skip _ _ _ _ ((passed _ _ _ _ (c .before .before .before .b .given .1) (c .before .before .before .before .before .take2 .ensures)) .0) (hit _ _ _ _ _ (val-above _ _ _ _ _ ((passed _ _ _ _ (c .before .before .before .before .before .before .before .before .before .a .given .1) (c .before .before .before .before .before .before .before .before .before .before .before .take .ensures)) .1) (c .before .before .before .before .before .before .before .before .before .before .before .before .before .pre .3 .right _ (c .before .before .before .before .before .before .before .if1 .left)) ((passed _ _ _ _ (c .before .before .before .b .given .1) (c .before .before .before .before .before .take2 .ensures)) .1) (c .if3 .taken)))))
+returns-5 c =
+    let at-b = c .before .before .before in
+    let at-else2 = at-b .before .before .before in
+    let at-a = at-else2 .before .before .before in
+    let at-start = a-to-start at-a in
+    skip _ _ _ _ ((passed _ _ _ _ (at-a .a .given .1) (at-a .before .before .take .ensures)) .0)
+    (skip _ _ _ _ (var-right _ _ _ _ _ (at-start .pre .1) ((passed _ _ _ _ (at-a .a .given .1) (at-a .before .before .take .ensures)) .1)
+    (at-else2 .before .if1 .left) (at-else2 .if2 .left)) (skip _ _ _ _
+    ((passed _ _ _ _ (at-b .b .given .1) (at-b .before .before .take2 .ensures)) .0)
+    (hit _ _ _ _ _ (val-above _ _ _ _ _ ((passed _ _ _ _ (at-a .a .given .1) (at-a .before .before .take .ensures)) .1)
+    (at-start .pre .3 .right _ (at-else2 .before .if1 .left)) ((passed _ _ _ _ (at-b .b .given .1) (at-b .before .before .take2 .ensures)) .1) (c .if3 .taken)))))
 
 returns-6 : tie.Need-returns-6
 unfolding factChecks
-returns-6 c = ap done (sym ((passed _ _ _ _ (c .before .before .before .before .before .before .before .before .before .a .given .1) (c .before .before .before .before .before .before .before .before .before .before .before .take .ensures)) .1)) ∙ skip _ _ _ _ ((passed _ _ _ _ (c .before .before .before .before .before .before .before .before .before .a .given .1) (c .before .before .before .before .before .before .before .before .before .before .before .take .ensures)) .0) (skip _ _ _ _ (var-right _ _ _ _ _ (c .before .before .before .before .before .before .before .before .before .before .before .before .before .pre .1) ((passed _ _ _ _ (c .before .before .before .before .before .before .before .before .before .a .given .1) (c .before .before .before .before .before .before .before .before .before .before .before .take .ensures)) .1) (c .before .before .before .before .before .before .before .if1 .left) (c .before .before .before .before .before .before .if2 .left)) (skip _ _ _ _ ((passed _ _ _ _ (c .before .before .before .b .given .1) (c .before .before .before .before .before .take2 .ensures)) .0) (skip _ _ _ _ (val-right _ _ _ _ _ ((passed _ _ _ _ (c .before .before .before .before .before .before .before .before .before .a .given .1) (c .before .before .before .before .before .before .before .before .before .before .before .take .ensures)) .1) (c .before .before .before .before .before .before .before .before .before .before .before .before .before .pre .3 .right _ (c .before .before .before .before .before .before .before .if1 .left)) ((passed _ _ _ _ (c .before .before .before .b .given .1) (c .before .before .before .before .before .take2 .ensures)) .1) (c .if3 .left)) (pass-end _))))
+returns-6 c =
+    let at-b = c .before .before .before in
+    let at-else2 = at-b .before .before .before in
+    let at-a = at-else2 .before .before .before in
+    let at-start = a-to-start at-a in
+    ap done (sym ((passed _ _ _ _ (at-a .a .given .1) (at-a .before .before .take .ensures)) .1)) ∙ skip _ _ _ _
+    ((passed _ _ _ _ (at-a .a .given .1) (at-a .before .before .take .ensures)) .0)
+    (skip _ _ _ _ (var-right _ _ _ _ _ (at-start .pre .1) ((passed _ _ _ _ (at-a .a .given .1) (at-a .before .before .take .ensures)) .1)
+    (at-else2 .before .if1 .left) (at-else2 .if2 .left)) (skip _ _ _ _
+    ((passed _ _ _ _ (at-b .b .given .1) (at-b .before .before .take2 .ensures)) .0)
+    (skip _ _ _ _ (val-right _ _ _ _ _ ((passed _ _ _ _ (at-a .a .given .1) (at-a .before .before .take .ensures)) .1)
+    (at-start .pre .3 .right _ (at-else2 .before .if1 .left)) ((passed _ _ _ _ (at-b .b .given .1) (at-b .before .before .take2 .ensures)) .1)
+    (c .if3 .left)) (pass-end _))))
 
 pub check-fact-spec : {M : Type 1} → statement M
 check-fact-spec =

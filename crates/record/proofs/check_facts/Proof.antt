@@ -20,40 +20,47 @@ loop-holds : tie.Need-loop-holds Inv-loop μ-loop
 loop-holds c = (omega arith, facts-start _ _ _)
 
 mul-check-fact : tie.Need-mul-check-fact Inv-loop μ-loop
-mul-check-fact c = search needs
+mul-check-fact c = omega arith
 
 add-check-fact : tie.Need-add-check-fact Inv-loop μ-loop
-add-check-fact c = search needs
+add-check-fact c = omega arith
 
 check-fact-requires : tie.Need-check-fact-requires Inv-loop μ-loop
 check-fact-requires c κs = search needs
 
 enum-known-f : tie.Need-enum-known-f Inv-loop μ-loop
-enum-known-f c = search needs
+enum-known-f c = omega arith
 
 enum-told : tie.Need-enum-told Inv-loop μ-loop
-enum-told c = search needs
+enum-told c = omega arith
 
 returns : tie.Need-returns Inv-loop μ-loop
-returns c = rw (c .before .before .before .before .loop .inv .1 ∙ facts-step _ _ _ _ _ (omega arith)) (stops-stage _ _ _ _ _ _ (c .enum-told .given .1) (c .before .before .check-fact .ensures))
+returns c =
+    let at-head = c .before .before .before .before in
+    rw (at-head .loop .inv .1 ∙ facts-step _ _ _ _ _ (omega arith)) (stops-stage _ _ _ _ _ _ (c .enum-told .given .1) (c .before .before .check-fact .ensures))
 
 add-low : tie.Need-add-low Inv-loop μ-loop
-add-low c = record { fits = omega (arith, (passed _ _ _ _ (c .before .f .given .1) (c .before .before .before .check-fact .ensures)) .1, bitsAt-lt (c .before .before .before .before .before .before .before .args .bytes .now) (c .before .before .before .before .before .before .before .args .from + 12 * c .before .before .before .before .before .loop .i) 6) }
+add-low c =
+    let at-check-fact = c .before .before .before in
+    let at-start = at-check-fact .before .before .before .before in
+    record { fits = omega (arith, (passed _ _ _ _ (c .before .f .given .1) (at-check-fact .check-fact .ensures)) .1, bitsAt-lt (at-start .args .bytes .now) (at-start .args .from + 12 * at-check-fact .before .before .loop .i) 6) }
 
 add-i : tie.Need-add-i Inv-loop μ-loop
-add-i c = search needs
+add-i c = omega arith
 
 loop-less : tie.Need-loop-less Inv-loop μ-loop
-loop-less c = search needs
+loop-less c = omega arith
 
 loop-again : tie.Need-loop-again Inv-loop μ-loop
-loop-again c = (omega arith, c .before .before .before .before .before .loop .inv .1 ∙ facts-turn _ _ _ _ _ (omega arith) _ (passed _ _ _ _ (c .before .f .given .1) (c .before .before .before .check-fact .ensures)))
+loop-again c =
+    let at-check-fact = c .before .before .before in
+    (omega arith, at-check-fact .before .before .loop .inv .1 ∙ facts-turn _ _ _ _ _ (omega arith) _ (passed _ _ _ _ (c .before .f .given .1) (at-check-fact .check-fact .ensures)))
 
 mul-t13 : tie.Need-mul-t13 Inv-loop μ-loop
-mul-t13 c = search needs
+mul-t13 c = omega arith
 
 add-t14 : tie.Need-add-t14 Inv-loop μ-loop
-add-t14 c = search needs
+add-t14 c = omega arith
 
 returns-2 : tie.Need-returns-2 Inv-loop μ-loop
 unfolding answer

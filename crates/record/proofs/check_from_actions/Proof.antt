@@ -8,10 +8,10 @@ check-actions-requires : tie.Need-check-actions-requires
 check-actions-requires c κs = search needs
 
 enum-known-a : tie.Need-enum-known-a
-enum-known-a c = search needs
+enum-known-a c = omega arith
 
 enum-told : tie.Need-enum-told
-enum-told c = search needs
+enum-told c = omega arith
 
 returns : tie.Need-returns
 returns c = actions-refused _ _ _ (search needs) (search needs) _ _ _ _ (c .enum-told .given .1) (c .before .before .check-actions .ensures)

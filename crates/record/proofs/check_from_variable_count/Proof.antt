@@ -1,20 +1,24 @@
 use Rattle.planning.specs.Record.{variablesIn}
 use Rattle.record.proofs.Laws.{range-low, range-high, range-right}
-use Rattle.record.specs.Stages.{fromVariableCount}
-use Rattle.bits.proofs.Stages.{passed, skip, hit, stops}
-use mathlib.Core.Path.{sym}
-use borrow.Author.Needs.{needs}
+use Rattle.record.specs.Stages.{fromActionCount, fromVariableCount}
+use Rattle.bits.proofs.Window.{bitsAt-lt}
+use Rattle.bits.proofs.Stages.{passed, skip, skip-stage, hit, stops, stops-stage}
+use Rattle.record.specs.Stages.{goalChecks, initialChecks, actionFactsChecks}
+use Rattle.planning.specs.Record.{factsChecks, variableChecks, actionChecks, preconditionsIn, effectsIn, effectsFrom, actionEnd}
+use Rattle.planning.specs.Basics.{inOrder, answer, done, bitsAt}
+use native.Mathlib.Omega.{arith}
+use mathlib.Core.Path.{_≡_, refl, sym, ap, _∙_}
 use Rattle.record.proofs.check_from_variable_count.Statement.{statement}
 use Rattle.record.proofs.check_from_variable_count.Tie as tie
 
 take-requires : tie.Need-take-requires
-take-requires c κs = search needs
+take-requires c κs = omega arith
 
 enum-known-v : tie.Need-enum-known-v
-enum-known-v c = search needs
+enum-known-v c = omega arith
 
 enum-told : tie.Need-enum-told
-enum-told c = search needs
+enum-told c = omega arith
 
 returns : tie.Need-returns
 unfolding fromVariableCount variablesIn
@@ -22,19 +26,29 @@ returns c = stops _ _ _ _ _ _ (c .enum-told .given .1) (c .before .before .take 
 
 returns-2 : tie.Need-returns-2
 unfolding fromVariableCount variablesIn
-returns-2 c = skip _ _ _ _ ((passed _ _ _ _ (c .before .before .v .given .1) (c .before .before .before .before .take .ensures)) .0) (hit _ _ _ _ _ (range-low _ _ _ _ ((passed _ _ _ _ (c .before .before .v .given .1) (c .before .before .before .before .take .ensures)) .1) (c .if1 .taken)))
+returns-2 c =
+    let at-take = c .before .before .before .before in
+    skip _ _ _ _ ((passed _ _ _ _ (c .before .before .v .given .1) (at-take .take .ensures)) .0) (hit _ _ _ _ _ (range-low _ _ _ _ ((passed _ _ _ _ (c .before .before .v .given .1) (at-take .take .ensures)) .1) (c .if1 .taken)))
 
 returns-3 : tie.Need-returns-3
 unfolding fromVariableCount variablesIn
-returns-3 c = skip _ _ _ _ ((passed _ _ _ _ (c .before .before .before .v .given .1) (c .before .before .before .before .before .take .ensures)) .0) (hit _ _ _ _ _ (range-high _ _ _ _ ((passed _ _ _ _ (c .before .before .before .v .given .1) (c .before .before .before .before .before .take .ensures)) .1) (c .before .if1 .left) (c .if2 .taken)))
+returns-3 c =
+    let at-v = c .before .before .before in
+    skip _ _ _ _ ((passed _ _ _ _ (at-v .v .given .1) (at-v .before .before .take .ensures)) .0) (hit _ _ _ _ _ (range-high _ _ _ _ ((passed _ _ _ _ (at-v .v .given .1) (at-v .before .before .take .ensures)) .1) (c .before .if1 .left) (c .if2 .taken)))
 
 check-from-action-count-requires : tie.Need-check-from-action-count-requires
 unfolding variablesIn
-check-from-action-count-requires c κs = (sym ((passed _ _ _ _ (c .before .before .before .v .given .1) (c .before .before .before .before .before .take .ensures)) .1), c .if2 .left)
+check-from-action-count-requires c κs =
+    let at-v = c .before .before .before in
+    (sym ((passed _ _ _ _ (at-v .v .given .1) (at-v .before .before .take .ensures)) .1), c .if2 .left)
 
 returns-4 : tie.Need-returns-4
 unfolding fromVariableCount variablesIn
-returns-4 c = skip _ _ _ _ ((passed _ _ _ _ (c .before .before .before .before .v .given .1) (c .before .before .before .before .before .before .take .ensures)) .0) (skip _ _ _ _ (range-right _ _ _ _ ((passed _ _ _ _ (c .before .before .before .before .v .given .1) (c .before .before .before .before .before .before .take .ensures)) .1) (c .before .before .if1 .left) (c .before .if2 .left)) (c .check-from-action-count .ensures))
+returns-4 c =
+    let at-v = c .before .before .before .before in
+    skip _ _ _ _ ((passed _ _ _ _ (at-v .v .given .1) (at-v .before .before .take .ensures)) .0)
+    (skip _ _ _ _ (range-right _ _ _ _ ((passed _ _ _ _ (at-v .v .given .1) (at-v .before .before .take .ensures)) .1) (c .before .before .if1 .left)
+    (c .before .if2 .left)) (c .check-from-action-count .ensures))
 
 pub check-from-variable-count-spec : {M : Type 1} → statement M
 check-from-variable-count-spec =

@@ -1,29 +1,38 @@
 use Rattle.record.proofs.Laws.{edition-wrong, edition-right, recordCheck-is}
-use Rattle.bits.proofs.Stages.{passed, skip, hit, stops}
-use borrow.Author.Needs.{needs}
+use Rattle.bits.proofs.Window.{bitsAt-lt}
+use Rattle.bits.proofs.Stages.{passed, skip, skip-stage, hit, stops, stops-stage}
+use Rattle.record.specs.Stages.{goalChecks, initialChecks, actionFactsChecks}
+use Rattle.planning.specs.Record.{factsChecks, variableChecks, actionChecks, preconditionsIn, effectsIn, effectsFrom, actionEnd}
+use Rattle.planning.specs.Basics.{inOrder, answer, done, bitsAt}
+use native.Mathlib.Omega.{arith}
+use mathlib.Core.Path.{_≡_, refl, sym, ap, _∙_}
 use Rattle.record.proofs.check_record.Statement.{statement}
 use Rattle.record.proofs.check_record.Tie as tie
 
 take-requires : tie.Need-take-requires
-take-requires c κs = search needs
+take-requires c κs = omega arith
 
 enum-known-e : tie.Need-enum-known-e
-enum-known-e c = search needs
+enum-known-e c = omega arith
 
 enum-told : tie.Need-enum-told
-enum-told c = search needs
+enum-told c = omega arith
 
 returns : tie.Need-returns
 returns c = rw recordCheck-is (stops _ _ _ _ _ _ (c .enum-told .given .1) (c .before .before .take .ensures))
 
 returns-2 : tie.Need-returns-2
-returns-2 c = rw recordCheck-is (skip _ _ _ _ ((passed _ _ _ _ (c .before .before .e .given .1) (c .before .before .before .before .take .ensures)) .0) (hit _ _ _ _ _ (edition-wrong _ _ _ _ ((passed _ _ _ _ (c .before .before .e .given .1) (c .before .before .before .before .take .ensures)) .1) (c .if1 .taken))))
+returns-2 c =
+    let at-take = c .before .before .before .before in
+    rw recordCheck-is (skip _ _ _ _ ((passed _ _ _ _ (c .before .before .e .given .1) (at-take .take .ensures)) .0) (hit _ _ _ _ _ (edition-wrong _ _ _ _ ((passed _ _ _ _ (c .before .before .e .given .1) (at-take .take .ensures)) .1) (c .if1 .taken))))
 
 check-from-variable-count-requires : tie.Need-check-from-variable-count-requires
-check-from-variable-count-requires c κs = search needs
+check-from-variable-count-requires c κs = tt
 
 returns-3 : tie.Need-returns-3
-returns-3 c = rw recordCheck-is (skip _ _ _ _ ((passed _ _ _ _ (c .before .before .before .e .given .1) (c .before .before .before .before .before .take .ensures)) .0) (skip _ _ _ _ (edition-right _ _ _ _ ((passed _ _ _ _ (c .before .before .before .e .given .1) (c .before .before .before .before .before .take .ensures)) .1) (c .before .if1 .left)) (c .check-from-variable-count .ensures)))
+returns-3 c =
+    let at-e = c .before .before .before in
+    rw recordCheck-is (skip _ _ _ _ ((passed _ _ _ _ (at-e .e .given .1) (at-e .before .before .take .ensures)) .0) (skip _ _ _ _ (edition-right _ _ _ _ ((passed _ _ _ _ (at-e .e .given .1) (at-e .before .before .take .ensures)) .1) (c .before .if1 .left)) (c .check-from-variable-count .ensures)))
 
 pub check-record-spec : {M : Type 1} → statement M
 check-record-spec =

@@ -7,34 +7,34 @@ use Rattle.record.proofs.check_variable.Statement.{statement}
 use Rattle.record.proofs.check_variable.Tie as tie
 
 check-variable-fields-requires : tie.Need-check-variable-fields-requires
-check-variable-fields-requires c κs = search needs
+check-variable-fields-requires c κs = omega arith
 
 returns : tie.Need-returns
 returns c = search needs
 
 add-if2 : tie.Need-add-if2
-add-if2 c = search needs
+add-if2 c = omega arith
 
 check-variable-fields-requires-2 : tie.Need-check-variable-fields-requires-2
-check-variable-fields-requires-2 c κs = search needs
+check-variable-fields-requires-2 c κs = omega arith
 
 returns-2 : tie.Need-returns-2
 returns-2 c = search needs
 
 window-at-requires : tie.Need-window-at-requires
-window-at-requires c κs = search needs
+window-at-requires c κs = omega arith
 
 is-sound-variable-requires : tie.Need-is-sound-variable-requires
-is-sound-variable-requires c κs = search needs
+is-sound-variable-requires c κs = omega arith
 
 check-variable-fields-requires-3 : tie.Need-check-variable-fields-requires-3
-check-variable-fields-requires-3 c κs = search needs
+check-variable-fields-requires-3 c κs = omega arith
 
 returns-3 : tie.Need-returns-3
 returns-3 c = search needs
 
 cast-t11 : tie.Need-cast-t11
-cast-t11 c = search needs
+cast-t11 c = omega arith
 
 returns-4 : tie.Need-returns-4
 returns-4 c = variable-sound _ _ _ (c .before .before .window-at .ensures 20 (omega arith) (omega arith)) (omega arith) (c .before .is-sound-variable .ensures (not-false _ (c .if3 .left)))

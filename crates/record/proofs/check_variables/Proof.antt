@@ -1,8 +1,11 @@
 use Rattle.record.proofs.Laws.{Seen, variables-start, variable-stops, variables-turn, variables-done, not-done}
 use Rattle.bits.proofs.Window.{bitsAt-lt}
-use Rattle.bits.proofs.Stages.{passed}
-use borrow.Author.Needs.{needs}
-use Prim.Native.Nat.{_+_, _*_, _-_}
+use Rattle.bits.proofs.Stages.{passed, skip, skip-stage, hit, stops, stops-stage}
+use Rattle.record.specs.Stages.{goalChecks, initialChecks, actionFactsChecks}
+use Rattle.planning.specs.Record.{factsChecks, variableChecks, actionChecks, preconditionsIn, effectsIn, effectsFrom, actionEnd}
+use Rattle.planning.specs.Basics.{inOrder, answer, done, bitsAt}
+use mathlib.Core.Path.{_≡_, refl, sym, ap, _∙_}
+use Prim.Native.Nat.{ℕ, _+_, _*_, _/_, _^_, _-_, _≤_, _<_}
 use native.Mathlib.Omega.{arith}
 use Rattle.record.proofs.check_variables.Statement.{statement}
 use Rattle.record.proofs.check_variables.Tie as tie
@@ -17,19 +20,19 @@ loop-holds : tie.Need-loop-holds Inv-loop μ-loop
 loop-holds c = variables-start _ _ _ (c .before .pre .1) (c .before .pre .2)
 
 mul-check-variable : tie.Need-mul-check-variable Inv-loop μ-loop
-mul-check-variable c = search needs
+mul-check-variable c = omega arith
 
 add-check-variable : tie.Need-add-check-variable Inv-loop μ-loop
-add-check-variable c = search needs
+add-check-variable c = omega arith
 
 check-variable-requires : tie.Need-check-variable-requires Inv-loop μ-loop
-check-variable-requires c κs = search needs
+check-variable-requires c κs = omega arith
 
 enum-known-v : tie.Need-enum-known-v Inv-loop μ-loop
-enum-known-v c = search needs
+enum-known-v c = omega arith
 
 enum-told : tie.Need-enum-told Inv-loop μ-loop
-enum-told c = search needs
+enum-told c = omega arith
 
 returns : tie.Need-returns Inv-loop μ-loop
 returns c = (variable-stops _ _ _ _ (c .before .before .before .before .loop .inv) _ _ _ _ (omega arith) (c .enum-told .given .1) (c .before .before .check-variable .ensures), λ z. absurd (not-done _ _ _ (c .enum-told .given .1) z))
@@ -38,19 +41,19 @@ add-counts : tie.Need-add-counts Inv-loop μ-loop
 add-counts c = record { fits = omega (arith, (passed _ _ _ _ (c .before .v .given .1) (c .before .before .before .check-variable .ensures)) .1, bitsAt-lt (c .before .before .before .before .before .before .before .args .bytes .now) (22 + 20 * c .before .before .before .before .before .loop .i) 6) }
 
 cast-counts : tie.Need-cast-counts Inv-loop μ-loop
-cast-counts c = search needs
+cast-counts c = omega arith
 
 cast-counts-2 : tie.Need-cast-counts-2 Inv-loop μ-loop
-cast-counts-2 c = search needs
+cast-counts-2 c = omega arith
 
 element-write-counts : tie.Need-element-write-counts Inv-loop μ-loop
-element-write-counts c = search needs
+element-write-counts c = omega arith
 
 add-i : tie.Need-add-i Inv-loop μ-loop
-add-i c = search needs
+add-i c = omega arith
 
 loop-less : tie.Need-loop-less Inv-loop μ-loop
-loop-less c = search needs
+loop-less c = omega arith
 
 loop-again : tie.Need-loop-again Inv-loop μ-loop
 loop-again c = variables-turn _ _ _ _ (c .before .before .before .before .before .loop .inv) _ (omega arith) (omega arith) (passed _ _ _ _ (c .before .v .given .1) (c .before .before .before .check-variable .ensures))

@@ -10,19 +10,19 @@ returns : tie.Need-returns
 returns c = λ h. absurd (omega arith)
 
 add-if2 : tie.Need-add-if2
-add-if2 c = search needs
+add-if2 c = omega arith
 
 returns-2 : tie.Need-returns-2
 returns-2 c = λ h. absurd (omega arith)
 
 add-window-at : tie.Need-add-window-at
-add-window-at c = search needs
+add-window-at c = omega arith
 
 window-at-requires : tie.Need-window-at-requires
-window-at-requires c κs = search needs
+window-at-requires c κs = omega arith
 
 add-sound-facts : tie.Need-add-sound-facts
-add-sound-facts c = search needs
+add-sound-facts c = omega arith
 
 sound-facts-requires : tie.Need-sound-facts-requires
 sound-facts-requires c κs = search needs
@@ -31,13 +31,13 @@ returns-3 : tie.Need-returns-3
 returns-3 c = λ h. absurd (omega arith)
 
 add-sound-facts-2 : tie.Need-add-sound-facts-2
-add-sound-facts-2 c = search needs
+add-sound-facts-2 c = omega arith
 
 mul-sound-facts : tie.Need-mul-sound-facts
-mul-sound-facts c = search needs
+mul-sound-facts c = omega arith
 
 add-sound-facts-3 : tie.Need-add-sound-facts-3
-add-sound-facts-3 c = search needs
+add-sound-facts-3 c = omega arith
 
 sound-facts-requires-2 : tie.Need-sound-facts-requires-2
 sound-facts-requires-2 c κs = search needs
@@ -46,16 +46,16 @@ returns-4 : tie.Need-returns-4
 returns-4 c = λ h. absurd (omega arith)
 
 add-result : tie.Need-add-result
-add-result c = search needs
+add-result c = omega arith
 
 add-result-2 : tie.Need-add-result-2
-add-result-2 c = search needs
+add-result-2 c = omega arith
 
 mul-result : tie.Need-mul-result
-mul-result c = search needs
+mul-result c = omega arith
 
 add-result-3 : tie.Need-add-result-3
-add-result-3 c = search needs
+add-result-3 c = omega arith
 
 returns-5 : tie.Need-returns-5
 returns-5 c = λ _. action-sound _ _ _ (c .before .before .before .before .window-at .ensures 8 (omega arith) (omega arith)) (omega arith) (c .before .before .before .sound-facts .ensures (not-false _ (c .before .before .if3 .left))) (c .before .sound-facts2 .ensures (not-false _ (c .if4 .left)))

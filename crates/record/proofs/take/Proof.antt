@@ -2,21 +2,20 @@ use Rattle.record.proofs.Laws.{take-there, take-short, bitsAt-u32}
 use Rattle.planning.specs.Basics.{done}
 use mathlib.Core.Path.{ap, _∙_}
 use native.Mathlib.Omega.{arith}
-use borrow.Author.Needs.{needs}
 use Rattle.record.proofs.take.Statement.{statement}
 use Rattle.record.proofs.take.Tie as tie
 
 add-if1 : tie.Need-add-if1
-add-if1 c = search needs
+add-if1 c = omega arith
 
 add-if1-2 : tie.Need-add-if1-2
-add-if1-2 c = search needs
+add-if1-2 c = omega arith
 
 returns : tie.Need-returns
 returns c = take-short _ _ _ _ (omega arith)
 
 read-bits-requires : tie.Need-read-bits-requires
-read-bits-requires c κs = search needs
+read-bits-requires c κs = omega arith
 
 cast-t12 : tie.Need-cast-t12
 cast-t12 c = record { fits = bitsAt-u32 _ _ _ _ (c .read-bits .ensures) (omega arith) }

@@ -19,43 +19,49 @@ loop-holds : tie.Need-loop-holds Inv-loop μ-loop
 loop-holds c = let p = c .before .pre in record { from = omega arith; to = p .0; long = p .2; so-far = λ v d. refl }
 
 mul-wide : tie.Need-mul-wide Inv-loop μ-loop
-mul-wide c = search needs
+mul-wide c = omega arith
 
 shared-slice-read-wide : tie.Need-shared-slice-read-wide Inv-loop μ-loop
-shared-slice-read-wide c = search needs
+shared-slice-read-wide c = omega arith
 
 wide-requires : tie.Need-wide-requires Inv-loop μ-loop
-wide-requires c κs = search needs
+wide-requires c κs = tt
 
 small : (c : tie.After-wide Inv-loop μ-loop) → c .wide .result < 4096
 small c = let p = c .before .before .before .before .before .pre in omega (arith, c .wide .ensures, p .3 (c .before .before .before .loop .k) (c .before .before .before .loop .inv .from) (omega arith))
 
 mul-sets : tie.Need-mul-sets Inv-loop μ-loop
-mul-sets c = search needs
+mul-sets c = omega arith
 
 element-copy-out-sets : tie.Need-element-copy-out-sets Inv-loop μ-loop
 element-copy-out-sets c = omega (arith, small c)
 
 shl-sets : tie.Need-shl-sets Inv-loop μ-loop
-shl-sets c = search needs
+shl-sets c = omega arith
 
 mul-sets-2 : tie.Need-mul-sets-2 Inv-loop μ-loop
-mul-sets-2 c = search needs
+mul-sets-2 c = omega arith
 
 element-write-sets : tie.Need-element-write-sets Inv-loop μ-loop
 element-write-sets c = omega (arith, small (c .before))
 
 add-k : tie.Need-add-k Inv-loop μ-loop
-add-k c = search needs
+add-k c = omega arith
 
 loop-less : tie.Need-loop-less Inv-loop μ-loop
-loop-less c = search needs
+loop-less c = omega arith
 
 loop-again : tie.Need-loop-again Inv-loop μ-loop
-loop-again c = let p = c .before .before .before .before .before .before .pre in adding-turn _ _ _ (p .1) _ _ _ _ _ (c .before .before .before .before .loop .inv) (omega arith) (c .before .wide .ensures) (small (c .before)) (ap (bitOr (getD (c .before .before .before .before .loop .sets) (c .before .wide .result / 64) 0)) (one-shl _ (search needs)))
+loop-again c =
+    let at-head = c .before .before .before .before in
+    let p = at-head .before .before .pre in
+    adding-turn _ _ _ (p .1) _ _ _ _ _ (at-head .loop .inv) (omega arith) (c .before .wide .ensures) (small (c .before)) (ap (bitOr (getD (at-head .loop .sets) (c .before .wide .result / 64) 0)) (one-shl _ (search needs)))
 
 returns : tie.Need-returns Inv-loop μ-loop
-returns c = let p = c .before .before .before .pre in (c .before .loop .inv .long, adding-end _ _ _ (p .1) _ _ _ (c .before .loop .inv) (omega arith))
+returns c =
+    let at-start = c .before .before .before in
+    let p = at-start .pre in
+    (c .before .loop .inv .long, adding-end _ _ _ (p .1) _ _ _ (c .before .loop .inv) (omega arith))
 
 pub add-facts-spec : {M : Type 1} → statement M
 add-facts-spec =

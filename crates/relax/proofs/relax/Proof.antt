@@ -7,7 +7,7 @@ use Rattle.relax.proofs.relax.Statement.{statement}
 use Rattle.relax.proofs.relax.Tie as tie
 
 check-requires : tie.Need-check-requires
-check-requires c κs = search needs
+check-requires c κs = tt
 
 enum-known-c : tie.Need-enum-known-c
 enum-known-c c = search needs
@@ -16,7 +16,9 @@ enum-told : tie.Need-enum-told
 enum-told c = search needs
 
 relax-accepted-requires : tie.Need-relax-accepted-requires
-relax-accepted-requires c κs = sym (c .before .before .before .check .ensures) ∙ ap checkedOf (c .before .enum-told .given .1)
+relax-accepted-requires c κs =
+    let at-check = c .before .before .before in
+    sym (at-check .check .ensures) ∙ ap checkedOf (c .before .enum-told .given .1)
 
 same-length : tie.Need-same-length
 same-length c = search needs
@@ -25,13 +27,18 @@ returns : tie.Need-returns
 returns c = search needs
 
 blank-requires : tie.Need-blank-requires
-blank-requires c κs = search needs
+blank-requires c κs = tt
 
 same-length-2 : tie.Need-same-length-2
 same-length-2 c = search needs
 
 returns-2 : tie.Need-returns-2
-returns-2 c = let a = c .before .before .before .before .before .before .before .before .before .before .args in let z = relax-refused (a .bytes .now) (length (a .plan .now)) _ _ (ap checkedOf (sym (c .before .before .before .before .before .c .given .1)) ∙ c .before .before .before .before .before .before .before .check .ensures) in (z .0, c .before .before .blank .ensures ∙ z .1)
+returns-2 c =
+    let at-c = c .before .before .before .before .before in
+    let at-start = at-c .before .before .before .before .before in
+    let a = at-start .args in
+    let z = relax-refused (a .bytes .now) (length (a .plan .now)) _ _ (ap checkedOf (sym (at-c .c .given .1)) ∙ at-c .before .before .check .ensures) in
+    (z .0, c .before .before .blank .ensures ∙ z .1)
 
 pub relax-spec : {M : Type 1} → statement M
 relax-spec =

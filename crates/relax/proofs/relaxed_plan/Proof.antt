@@ -14,7 +14,7 @@ run-forward-requires : tie.Need-run-forward-requires
 run-forward-requires c κs = search needs
 
 reached-requires : tie.Need-reached-requires
-reached-requires c κs = search needs
+reached-requires c κs = tt
 
 reached-is : (c : tie.After-reached) → c .reached .result ≡ factsReached (taskOf (c .before .before .before .before .before .before .before .before .before .args .bytes .now))
 reached-is c = c .reached .ensures ∙ reached-facts _ (formed-of _ (c .before .before .before .before .before .before .before .before .before .pre .0)) _ (c .before .before .before .before .run-forward .ensures .state)

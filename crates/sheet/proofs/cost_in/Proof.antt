@@ -2,13 +2,12 @@
 use mathlib.Core.Path.{sym}
 use Prim.Native.Nat.{_^_, _<_}
 use native.Mathlib.Omega.{arith}
-use borrow.Author.Needs.{needs}
 use Rattle.bits.proofs.Window.{bitsAt-lt, bitsAt-add}
 use Rattle.sheet.proofs.cost_in.Statement.{statement}
 use Rattle.sheet.proofs.cost_in.Tie as tie
 
 read-bits-requires : tie.Need-read-bits-requires
-read-bits-requires c κs = search needs
+read-bits-requires c κs = omega arith
 
 first : (c : tie.After-read-bits) → c .read-bits .result < 2 ^ 16
 first c = rw (c .read-bits .ensures) (bitsAt-lt _ _ 16)
@@ -20,7 +19,7 @@ mul-result : tie.Need-mul-result
 mul-result c = omega (arith, first c)
 
 read-bits-requires-2 : tie.Need-read-bits-requires-2
-read-bits-requires-2 c κs = search needs
+read-bits-requires-2 c κs = omega arith
 
 add-result : tie.Need-add-result
 add-result c = omega (arith, first (c .before), second c)

@@ -2,7 +2,6 @@
 use mathlib.Core.Path.{_≡_, refl, _∙_}
 use Prim.Native.Nat.{_*_, _-_, _≤_}
 use native.Mathlib.Omega.{arith}
-use borrow.Author.Needs.{needs}
 use lib.ListN.{length, drop}
 use Rattle.planning.specs.Calls.{notBelow}
 use Rattle.sheet.proofs.Entries.{entry-passes, no-entry-left}
@@ -19,10 +18,10 @@ loop-holds : tie.Need-loop-holds Inv-loop μ-loop
 loop-holds c = (omega arith, omega arith, λ _. refl)
 
 mul-sum : tie.Need-mul-sum Inv-loop μ-loop
-mul-sum c = search needs
+mul-sum c = omega arith
 
 shared-slice-read-sum : tie.Need-shared-slice-read-sum Inv-loop μ-loop
-shared-slice-read-sum c = search needs
+shared-slice-read-sum c = omega arith
 
 cast-sum : tie.Need-cast-sum Inv-loop μ-loop
 cast-sum c = omega (arith, c .shared-slice-known .given (c .before .before .loop .i))
@@ -31,10 +30,10 @@ add-sum : tie.Need-add-sum Inv-loop μ-loop
 add-sum c = omega (arith, c .shared-slice-known .given (c .before .before .loop .i))
 
 add-i : tie.Need-add-i Inv-loop μ-loop
-add-i c = search needs
+add-i c = omega arith
 
 loop-less : tie.Need-loop-less Inv-loop μ-loop
-loop-less c = search needs
+loop-less c = omega arith
 
 loop-again : tie.Need-loop-again Inv-loop μ-loop
 loop-again c = (omega arith, omega (arith, c .shared-slice-known .given (c .before .before .loop .i)), λ z. c .before .before .loop .inv .2 (omega arith) ∙ entry-passes 1024 _ _ (omega arith) (omega arith))

@@ -13,7 +13,7 @@ unfolding faultAs
 returns c = sym (c .before .excess .ensures (c .if1 .taken))
 
 lowest-over-requires : tie.Need-lowest-over-requires
-lowest-over-requires c κs = search needs
+lowest-over-requires c κs = tt
 
 returns-2 : tie.Need-returns-2
 returns-2 c = search needs

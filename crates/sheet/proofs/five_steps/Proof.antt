@@ -7,16 +7,16 @@ use Rattle.sheet.proofs.five_steps.Statement.{statement}
 use Rattle.sheet.proofs.five_steps.Tie as tie
 
 sub-window-at : tie.Need-sub-window-at
-sub-window-at c = search needs
+sub-window-at c = omega arith
 
 part-window-at-start : tie.Need-part-window-at-start
-part-window-at-start c = search needs
+part-window-at-start c = omega arith
 
 part-window-at-end : tie.Need-part-window-at-end
-part-window-at-end c = search needs
+part-window-at-end c = omega arith
 
 window-at-requires : tie.Need-window-at-requires
-window-at-requires c κs = search needs
+window-at-requires c κs = omega arith
 
 returns : tie.Need-returns
 returns c = let a = c .before .before .before .args in c .window-at .ensures 50 (omega arith) (search needs) ∙ bitsAt-behind (a .bytes .now) (a .at) 50

@@ -6,40 +6,40 @@ use Rattle.sheet.proofs.last_steps.Statement.{statement}
 use Rattle.sheet.proofs.last_steps.Tie as tie
 
 mul-result : tie.Need-mul-result
-mul-result c = search needs
+mul-result c = omega arith
 
 step-at-requires : tie.Need-step-at-requires
-step-at-requires c κs = search needs
+step-at-requires c κs = tt
 
 add-result : tie.Need-add-result
-add-result c = search needs
+add-result c = omega arith
 
 mul-result-2 : tie.Need-mul-result-2
-mul-result-2 c = search needs
+mul-result-2 c = omega arith
 
 add-step-at : tie.Need-add-step-at
-add-step-at c = search needs
+add-step-at c = omega arith
 
 step-at-requires-2 : tie.Need-step-at-requires-2
-step-at-requires-2 c κs = search needs
+step-at-requires-2 c κs = tt
 
 add-result-2 : tie.Need-add-result-2
-add-result-2 c = search needs
+add-result-2 c = omega arith
 
 mul-result-3 : tie.Need-mul-result-3
-mul-result-3 c = search needs
+mul-result-3 c = omega arith
 
 add-step-at-2 : tie.Need-add-step-at-2
-add-step-at-2 c = search needs
+add-step-at-2 c = omega arith
 
 step-at-requires-3 : tie.Need-step-at-requires-3
-step-at-requires-3 c κs = search needs
+step-at-requires-3 c κs = tt
 
 add-result-3 : tie.Need-add-result-3
-add-result-3 c = search needs
+add-result-3 c = omega arith
 
 mul-result-4 : tie.Need-mul-result-4
-mul-result-4 c = search needs
+mul-result-4 c = omega arith
 
 returns : tie.Need-returns
 returns c = let o = c .before .before .before .before in last-behind (o .args .list .now) (o .pre .3) _ (o .args .i) _ _ _ (search needs) (search needs) (search needs) (omega arith)

@@ -2,7 +2,6 @@
 use mathlib.Core.Option.{none}
 use mathlib.Core.Path.{_≡_, sym, ap, _∙_}
 use native.Mathlib.Omega.{arith}
-use borrow.Author.Needs.{needs}
 use Rattle.planning.specs.Basics.{done}
 use Rattle.planning.specs.Calls.{Read}
 use Rattle.planning.specs.Sheet.{sheetCheck, stepsIn}
@@ -13,23 +12,23 @@ use Rattle.sheet.proofs.read_checked.Tie as tie
 use Rattle.sheet.specs.Answers.{readingAs, heading, headingOf}
 
 read-fields-requires : tie.Need-read-fields-requires
-read-fields-requires c κs = search needs
+read-fields-requires c κs = tt
 
 enum-known-a : tie.Need-enum-known-a
-enum-known-a c = search needs
+enum-known-a c = omega arith
 
 enum-told : tie.Need-enum-told
-enum-told c = search needs
+enum-told c = omega arith
 
 returns : tie.Need-returns
 unfolding readingAs
 returns c = ap readingAs (c .enum-told .given .1) ∙ sym (read-refused (c .before .before .before .before .args .bytes .now) (c .before .before .before .before .args .room) _ _ (sym (c .before .before .read-fields .ensures) ∙ ap readingAs (c .enum-told .given .1)))
 
 cast-if1 : tie.Need-cast-if1
-cast-if1 c = search needs
+cast-if1 c = omega arith
 
 cast-t7 : tie.Need-cast-t7
-cast-t7 c = search needs
+cast-t7 c = omega arith
 
 was : (c : tie.After-known-told) → (sheetCheck (c .before .before .before .before .before .args .bytes .now) ≡ none) × (headingOf (c .before .before .before .before .before .args .bytes .now) ≡ heading (c .before .a .given .0 .0) (c .before .a .given .0 .1 .0) (c .before .a .given .0 .1 .1 .0))
 unfolding readingAs

@@ -2,7 +2,6 @@
 use mathlib.Core.List.{_++_}
 use Prim.Native.Nat.{_+_, _*_, _^_, _-_, _<_}
 use native.Mathlib.Omega.{arith}
-use borrow.Author.Needs.{needs}
 use lib.ListN.{take}
 use Rattle.planning.specs.Sheet.{stepsAt}
 use Rattle.bits.proofs.Window.{bitsAt-lt}
@@ -20,13 +19,13 @@ loop-holds : tie.Need-loop-holds Inv-loop μ-loop
 loop-holds c = copying-start _ _ _ _ (omega arith) (omega arith)
 
 mul-read-bits : tie.Need-mul-read-bits Inv-loop μ-loop
-mul-read-bits c = search needs
+mul-read-bits c = omega arith
 
 add-read-bits : tie.Need-add-read-bits Inv-loop μ-loop
-add-read-bits c = search needs
+add-read-bits c = omega arith
 
 read-bits-requires : tie.Need-read-bits-requires Inv-loop μ-loop
-read-bits-requires c κs = search needs
+read-bits-requires c κs = omega arith
 
 ten : (c : tie.After-read-bits Inv-loop μ-loop) → c .read-bits .result < 2 ^ 10
 ten c = rw (c .read-bits .ensures) (bitsAt-lt _ _ 10)
@@ -35,22 +34,22 @@ cast-list : tie.Need-cast-list Inv-loop μ-loop
 cast-list c = omega (arith, ten c)
 
 mul-list : tie.Need-mul-list Inv-loop μ-loop
-mul-list c = search needs
+mul-list c = omega arith
 
 slice-write-list : tie.Need-slice-write-list Inv-loop μ-loop
 slice-write-list c = omega (arith, c .before .before .loop .inv .long, c .before .before .loop .inv .room)
 
 add-i : tie.Need-add-i Inv-loop μ-loop
-add-i c = search needs
+add-i c = omega arith
 
 loop-less : tie.Need-loop-less Inv-loop μ-loop
-loop-less c = search needs
+loop-less c = omega arith
 
 loop-again : tie.Need-loop-again Inv-loop μ-loop
 loop-again c = copying-one _ _ _ _ _ _ (c .before .before .loop .inv) _ (omega arith) (c .read-bits .ensures)
 
 same-length : tie.Need-same-length Inv-loop μ-loop
-same-length c = search needs
+same-length c = omega arith
 
 returns : tie.Need-returns Inv-loop μ-loop
 returns c = copying-end _ _ _ _ _ _ (c .before .loop .inv) (omega arith)

@@ -18,25 +18,25 @@ loop-holds : tie.Need-loop-holds Inv-loop μ-loop
 loop-holds c = copying-none _ _ _ (omega arith)
 
 add-loop : tie.Need-add-loop Inv-loop μ-loop
-add-loop c = search needs
+add-loop c = omega arith
 
 read-five-requires : tie.Need-read-five-requires Inv-loop μ-loop
-read-five-requires c κs = search needs
+read-five-requires c κs = omega arith
 
 add-i : tie.Need-add-i Inv-loop μ-loop
-add-i c = search needs
+add-i c = omega arith
 
 loop-less : tie.Need-loop-less Inv-loop μ-loop
-loop-less c = search needs
+loop-less c = omega arith
 
 loop-again : tie.Need-loop-again Inv-loop μ-loop
 loop-again c = copying-five _ _ _ _ _ _ (c .before .before .before .before .before .loop .inv) _ (omega arith) (search needs) (c .before .before .read-five .ensures)
 
 read-each-requires : tie.Need-read-each-requires Inv-loop μ-loop
-read-each-requires c κs = search needs
+read-each-requires c κs = omega arith
 
 same-length : tie.Need-same-length Inv-loop μ-loop
-same-length c = search needs
+same-length c = omega arith
 
 returns : tie.Need-returns Inv-loop μ-loop
 returns c = c .before .before .read-each .ensures ∙ sym (c .before .before .before .before .before .loop .inv .so-far)

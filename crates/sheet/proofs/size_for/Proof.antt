@@ -2,7 +2,6 @@
 use mathlib.Core.Option.{none, some}
 use mathlib.Core.Path.{_≡_, sym, ap, _∙_}
 use native.Mathlib.Omega.{arith}
-use borrow.Author.Needs.{needs}
 use Rattle.planning.specs.Calls.{notBelow}
 use Rattle.planning.specs.Sheet.{sheetSize, sheetEnd}
 use Rattle.sheet.proofs.Checks.{over-length, over-entry, over-room, writes}
@@ -16,10 +15,10 @@ unfolding writtenAs
 returns c = λ k b. let a = c .before .before .args in sym (over-length (sheet (a .list .now) k b) (a .room) (omega arith))
 
 find-over-requires : tie.Need-find-over-requires
-find-over-requires c κs = search needs
+find-over-requires c κs = omega arith
 
 enum-known-i : tie.Need-enum-known-i
-enum-known-i c = search needs
+enum-known-i c = omega arith
 
 fault : (c : tie.After-known-told) → notBelow 1024 0 (c .before .before .before .before .before .before .args .list .now) ≡ some (c .before .i .given .0 .0)
 unfolding faultAs
@@ -33,30 +32,30 @@ unfolding writtenAs
 returns-2 c = λ k b. let a = c .before .before .before .before .before .before .args in sym (over-entry (sheet (a .list .now) k b) (a .room) (omega arith) _ (fault c))
 
 enum-told : tie.Need-enum-told
-enum-told c = search needs
+enum-told c = omega arith
 
 no-fault : (c : tie.After-enum-told) → notBelow 1024 0 (c .before .before .before .before .before .args .list .now) ≡ none
 unfolding faultAs
 no-fault c = sym (c .before .before .find-over .ensures) ∙ ap faultAs (c .enum-told .given .1)
 
 mul-size : tie.Need-mul-size
-mul-size c = search needs
+mul-size c = omega arith
 
 add-size : tie.Need-add-size
-add-size c = search needs
+add-size c = omega arith
 
 add-size-2 : tie.Need-add-size-2
-add-size-2 c = search needs
+add-size-2 c = omega arith
 
 cast-t14 : tie.Need-cast-t14
-cast-t14 c = search needs
+cast-t14 c = omega arith
 
 returns-3 : tie.Need-returns-3
 unfolding writtenAs sheetSize sheetEnd
 returns-3 c = λ k b. let a = c .before .before .before .before .before .before .args in sym (over-room (sheet (a .list .now) k b) (a .room) (omega arith) (no-fault (c .before)) (omega arith))
 
 cast-t16 : tie.Need-cast-t16
-cast-t16 c = search needs
+cast-t16 c = omega arith
 
 returns-4 : tie.Need-returns-4
 unfolding writtenAs sheetSize sheetEnd

@@ -7,16 +7,16 @@ use Rattle.sheet.proofs.step_at.Statement.{statement}
 use Rattle.sheet.proofs.step_at.Tie as tie
 
 mul-wide : tie.Need-mul-wide
-mul-wide c = search needs
+mul-wide c = omega arith
 
 shared-slice-read-wide : tie.Need-shared-slice-read-wide
-shared-slice-read-wide c = search needs
+shared-slice-read-wide c = omega arith
 
 wide-requires : tie.Need-wide-requires
-wide-requires c κs = search needs
+wide-requires c κs = tt
 
 returns : tie.Need-returns
-returns c = search needs
+returns c = omega arith
 
 returns-2 : tie.Need-returns-2
 returns-2 c = let a = c .before .before .args in (sym (List·getD-eq-default (a .list .now) 0 {n = a .i} (search needs)), omega arith)

@@ -17,40 +17,57 @@ loop-holds : tie.Need-loop-holds Inv-loop μ-loop
 loop-holds c = writing-start _ _ _ _ (omega arith)
 
 add-loop : tie.Need-add-loop Inv-loop μ-loop
-add-loop c = search needs
+add-loop c = omega arith
 
 four-steps-requires : tie.Need-four-steps-requires Inv-loop μ-loop
-four-steps-requires c κs = (omega arith, omega arith, c .before .before .before .before .pre .1)
+four-steps-requires c κs = let at-start = c .before .before .before .before in (omega arith, omega arith, at-start .pre .1)
 
 write-bits-requires : tie.Need-write-bits-requires Inv-loop μ-loop
-write-bits-requires c κs = (writing-room _ _ _ _ _ _ _ _ (c .before .before .before .loop .inv) (c .before .before .before .before .before .before .pre .4) (c .before .before .before .before .before .before .pre .3) (omega arith), omega arith, omega arith)
+write-bits-requires c κs =
+    let at-head = c .before .before .before in
+    let at-start = at-head .before .before .before in
+    (writing-room _ _ _ _ _ _ _ _ (at-head .loop .inv) (at-start .pre .4) (at-start .pre .3) (omega arith), omega arith, omega arith)
 
 add-at : tie.Need-add-at Inv-loop μ-loop
-add-at c = search needs
+add-at c = omega arith
 
 add-i : tie.Need-add-i Inv-loop μ-loop
-add-i c = search needs
+add-i c = omega arith
 
 loop-less : tie.Need-loop-less Inv-loop μ-loop
-loop-less c = search needs
+loop-less c = omega arith
 
 loop-again : tie.Need-loop-again Inv-loop μ-loop
-loop-again c = writing-turn _ _ _ _ _ _ _ _ (c .before .before .before .before .before .before .loop .inv) (c .before .before .before .before .before .before .before .before .before .pre .4) (c .before .before .before .before .before .before .before .before .before .pre .3) _ _ (omega arith) (c .before .before .before .before .four-steps .ensures) (search needs) (c .before .before .write-bits .ensures)
+loop-again c =
+    let at-four-steps = c .before .before .before .before in
+    let at-start = at-four-steps .before .before .before .before .before in
+    writing-turn _ _ _ _ _ _ _ _ (at-four-steps .before .before .loop .inv) (at-start .pre .4) (at-start .pre .3) _ _ (omega arith) (at-four-steps .four-steps .ensures) (search needs) (c .before .before .write-bits .ensures)
 
 last-steps-requires : tie.Need-last-steps-requires Inv-loop μ-loop
-last-steps-requires c κs = (omega arith, omega arith, omega arith, c .before .before .before .before .before .pre .1)
+last-steps-requires c κs = let at-start = c .before .before .before .before .before in (omega arith, omega arith, omega arith, at-start .pre .1)
 
 sub-write-bits : tie.Need-sub-write-bits Inv-loop μ-loop
-sub-write-bits c = writing-last _ _ _ _ _ _ _ _ (c .before .before .before .loop .inv) (c .before .before .before .before .before .before .pre .4) (c .before .before .before .before .before .before .pre .3) (omega arith) .0
+sub-write-bits c =
+    let at-head = c .before .before .before in
+    let at-start = at-head .before .before .before in
+    writing-last _ _ _ _ _ _ _ _ (at-head .loop .inv) (at-start .pre .4) (at-start .pre .3) (omega arith) .0
 
 write-bits-requires-2 : tie.Need-write-bits-requires-2 Inv-loop μ-loop
-write-bits-requires-2 c κs = let w = writing-last _ _ _ _ _ _ _ _ (c .before .before .before .loop .inv) (c .before .before .before .before .before .before .pre .4) (c .before .before .before .before .before .before .pre .3) (omega arith) in (omega (arith, w), omega (arith, w), omega arith)
+write-bits-requires-2 c κs =
+    let at-head = c .before .before .before in
+    let at-start = at-head .before .before .before in
+    let w = writing-last _ _ _ _ _ _ _ _ (at-head .loop .inv) (at-start .pre .4) (at-start .pre .3) (omega arith) in
+    (omega (arith, w), omega (arith, w), omega arith)
 
 same-length : tie.Need-same-length Inv-loop μ-loop
-same-length c = search needs
+same-length c = omega arith
 
 returns : tie.Need-returns Inv-loop μ-loop
-returns c = writing-end _ _ _ _ _ _ _ _ (c .before .before .before .before .before .before .loop .inv) (c .before .before .before .before .before .before .before .before .before .pre .4) (c .before .before .before .before .before .before .before .before .before .pre .3) _ _ (omega arith) (c .before .before .before .last-steps .ensures) (c .before .before .write-bits2 .ensures)
+returns c =
+    let at-last-steps = c .before .before .before in
+    let at-head = at-last-steps .before .before .before in
+    let at-start = at-head .before .before .before in
+    writing-end _ _ _ _ _ _ _ _ (at-head .loop .inv) (at-start .pre .4) (at-start .pre .3) _ _ (omega arith) (at-last-steps .last-steps .ensures) (c .before .before .write-bits2 .ensures)
 
 pub write-steps-spec : {M : Type 1} → statement M
 write-steps-spec =
