@@ -2,8 +2,7 @@ use Rattle.painting.proofs.Walks.{Walking, walking-start, walking-turn,
 use Rattle.painting.specs.Returns.{marked}
 use Rattle.planning.specs.Runs.{holds}
 use mathlib.Core.Bool.{Bool}
-use mathlib.Core.Path.{_≡_, refl, sym, ap, _∙_}
-use Prim.Native.Nat.{ℕ, _+_, _*_, _/_, _^_, _-_, _≤_, _<_}
+use Prim.Native.Nat.{_-_}
 use native.Mathlib.Omega.{arith}
 use Rattle.painting.proofs.all_marked.Statement.{statement}
 use Rattle.painting.proofs.all_marked.Tie as tie

@@ -1,7 +1,7 @@
 use Rattle.painting.proofs.Arcs.{fact-var, fact-val}
 use borrow.Author.Tests.{eq-eqb, ne-eqb}
 use native.Mathlib.Omega.{arith}
-use mathlib.Core.Path.{refl, sym, _∙_, subst}
+use mathlib.Core.Path.{refl, _∙_}
 use Rattle.painting.proofs.arc_returned.Statement.{statement}
 use Rattle.painting.proofs.arc_returned.Tie as tie
 

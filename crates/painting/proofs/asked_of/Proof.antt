@@ -1,8 +1,7 @@
 use Rattle.painting.proofs.Walks.{Walking, walking-start, walking-turn, walking-hit, walking-end, asked-hit, asked-skip, asked-none}
 use Rattle.painting.specs.Returns.{asked}
 use Rattle.planning.specs.Runs.{look}
-use mathlib.Core.Path.{_≡_, refl, sym, ap, _∙_}
-use Prim.Native.Nat.{ℕ, _+_, _*_, _/_, _^_, _-_, _≤_, _<_}
+use Prim.Native.Nat.{ℕ, _-_}
 use native.Mathlib.Omega.{arith}
 use Rattle.painting.proofs.asked_of.Statement.{statement}
 use Rattle.painting.proofs.asked_of.Tie as tie

@@ -3,8 +3,8 @@ use Rattle.painting.specs.Returns.{marked}
 use Rattle.graph.proofs.Rows.{listed-preconditions}
 use Rattle.state.specs.Sets.{Listed}
 use Rattle.planning.specs.Record.{taskOf}
-use mathlib.Core.Path.{_≡_, refl, sym, ap, _∙_}
-use Prim.Native.Nat.{ℕ, _+_, _*_, _/_, _%_, _^_, _-_, _≤_, _<_}
+use mathlib.Core.Path.{sym, _∙_}
+use Prim.Native.Nat.{_/_, _%_, _-_, _<_}
 use native.Mathlib.Omega.{arith}
 use Rattle.painting.proofs.is_returned.Statement.{statement}
 use Rattle.painting.proofs.is_returned.Tie as tie

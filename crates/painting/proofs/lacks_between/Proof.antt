@@ -2,8 +2,7 @@ use Rattle.painting.proofs.Arcs.{Trying, trying-start, trying-turn, try
 use Rattle.painting.specs.Returns.{marked}
 use Rattle.planning.specs.Record.{taskOf}
 use borrow.Author.Tests.{not-true, not-false}
-use mathlib.Core.Path.{_≡_, refl, sym, ap, _∙_}
-use Prim.Native.Nat.{ℕ, _+_, _*_, _/_, _%_, _^_, _-_, _≤_, _<_}
+use Prim.Native.Nat.{_/_, _%_, _-_}
 use native.Mathlib.Omega.{arith}
 use Rattle.painting.proofs.lacks_between.Statement.{statement}
 use Rattle.painting.proofs.lacks_between.Tie as tie

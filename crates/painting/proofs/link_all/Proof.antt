@@ -1,8 +1,7 @@
 use Rattle.painting.proofs.Chains.{Linking, linking-back, linking-end, linking-start}
 use Rattle.planning.proofs.Formed.{formed-of}
 use Rattle.graph.proofs.Rows.{given-listed}
-use mathlib.Core.Path.{_≡_, refl, sym, ap, _∙_}
-use Prim.Native.Nat.{ℕ, _+_, _*_, _/_, _^_, _-_, _≤_, _<_}
+use mathlib.Core.Path.{refl}
 use native.Mathlib.Omega.{arith}
 use Rattle.painting.proofs.link_all.Statement.{statement}
 use Rattle.painting.proofs.link_all.Tie as tie

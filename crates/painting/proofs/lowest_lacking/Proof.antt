@@ -1,8 +1,7 @@
 use Rattle.painting.proofs.Arcs.{Scanning, scanning-start, scanning-turn, scanning-hit, scanning-end}
 use Rattle.painting.proofs.Marks.{unmarked-start}
 use Rattle.planning.specs.Record.{taskOf}
-use mathlib.Core.Path.{_≡_, refl, sym, ap, _∙_}
-use Prim.Native.Nat.{ℕ, _+_, _*_, _/_, _^_, _-_, _≤_, _<_}
+use Prim.Native.Nat.{_-_}
 use native.Mathlib.Omega.{arith}
 use Rattle.painting.proofs.lowest_lacking.Statement.{statement}
 use Rattle.painting.proofs.lowest_lacking.Tie as tie

@@ -1,6 +1,5 @@
 use Rattle.painting.proofs.Marks.{Marking, marking-start, marking-small, marking-turn, marking-end}
-use mathlib.Core.Path.{_≡_, refl, sym, ap, _∙_}
-use Prim.Native.Nat.{ℕ, _+_, _*_, _/_, _^_, _-_, _≤_, _<_}
+use Prim.Native.Nat.{_-_}
 use native.Mathlib.Omega.{arith}
 use Rattle.painting.proofs.mark.Statement.{statement}
 use Rattle.painting.proofs.mark.Tie as tie

@@ -2,8 +2,7 @@ use Rattle.painting.proofs.Walks.{Walking, walking-start, walking-turn,
 use Rattle.painting.specs.Chains.{moveOf}
 use Rattle.state.specs.Sets.{inSet, modeOf}
 use borrow.Author.Tests.{eq-eqb, ne-eqb}
-use mathlib.Core.Path.{_≡_, refl, sym, ap, _∙_}
-use Prim.Native.Nat.{ℕ, _+_, _*_, _/_, _^_, _-_, _≤_, _<_}
+use Prim.Native.Nat.{ℕ, _-_}
 use native.Mathlib.Omega.{arith}
 use Rattle.painting.proofs.move_of.Statement.{statement}
 use Rattle.painting.proofs.move_of.Tie as tie

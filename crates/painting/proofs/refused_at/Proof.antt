@@ -1,7 +1,7 @@
 use Rattle.graph.specs.Given.{foundOf}
 use Rattle.planning.specs.Basics.{refuseAt}
 use native.Mathlib.Omega.{arith}
-use mathlib.Core.Path.{sym, ap, refl}
+use mathlib.Core.Path.{ap, refl}
 use Rattle.painting.proofs.refused_at.Statement.{statement}
 use Rattle.painting.proofs.refused_at.Tie as tie
 

@@ -28,7 +28,7 @@ returns c =
     let D = at-plan-checked .plan-checked .ensures in
     let E = at-finish .finish .ensures in
     let S = plan-settled (a .bytes .now) (length (a .plan .now)) (length (a .work .now)) _ (at-work .before .before .plan .given) _ D _ (E .0) in
-    (D .answer, (S .0, (E .1 ∙ ap workList (at-work .work .given), S .1)))
+    (D .answer, (S .0, (E .1 ∙ ap workList (at-work .work .given), (S .1, S .2))))
 
 pub plan-spec : {M : Type 1} → statement M
 plan-spec =

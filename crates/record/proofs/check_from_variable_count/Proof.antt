@@ -1,13 +1,9 @@
 use Rattle.planning.specs.Record.{variablesIn}
 use Rattle.record.proofs.Laws.{range-low, range-high, range-right}
-use Rattle.record.specs.Stages.{fromActionCount, fromVariableCount}
-use Rattle.bits.proofs.Window.{bitsAt-lt}
-use Rattle.bits.proofs.Stages.{passed, skip, skip-stage, hit, stops, stops-stage}
-use Rattle.record.specs.Stages.{goalChecks, initialChecks, actionFactsChecks}
-use Rattle.planning.specs.Record.{factsChecks, variableChecks, actionChecks, preconditionsIn, effectsIn, effectsFrom, actionEnd}
-use Rattle.planning.specs.Basics.{inOrder, answer, done, bitsAt}
+use Rattle.record.specs.Stages.{fromVariableCount}
+use Rattle.bits.proofs.Stages.{passed, skip, hit, stops}
 use native.Mathlib.Omega.{arith}
-use mathlib.Core.Path.{_≡_, refl, sym, ap, _∙_}
+use mathlib.Core.Path.{sym}
 use Rattle.record.proofs.check_from_variable_count.Statement.{statement}
 use Rattle.record.proofs.check_from_variable_count.Tie as tie
 

@@ -5,7 +5,6 @@ use Rattle.bits.proofs.Window.{bitsAt-lt}
 use Rattle.bits.proofs.Stages.{passed, skip, hit, stops}
 use Rattle.record.specs.Stages.{goalChecks}
 use native.Mathlib.Omega.{arith}
-use mathlib.Core.Path.{_≡_, refl, sym, ap, _∙_}
 use Rattle.record.proofs.check_goal.Statement.{statement}
 use Rattle.record.proofs.check_goal.Tie as tie
 

@@ -1,8 +1,6 @@
 -- The invariant: the checks of the whole list are those of the facts left, from variable `low` on (`Run`).
 use Rattle.record.proofs.Laws.{false-not, Run, run-start, run-turn, run-last, run-none}
 use borrow.Author.Tests.{ltb-true}
-use mathlib.Core.Path.{_≡_, refl, sym, ap, _∙_}
-use Prim.Native.Nat.{ℕ, _+_, _*_, _/_, _^_, _-_, _≤_, _<_}
 use native.Mathlib.Omega.{arith}
 use Rattle.record.proofs.sound_facts.Statement.{statement}
 use Rattle.record.proofs.sound_facts.Tie as tie

@@ -4,7 +4,7 @@ use Rattle.record.specs.Stages.{Few}
 use Prim.Native.Nat.{_+_, _/_, _%_, _^_}
 use native.Mathlib.Omega.{arith}
 use borrow.Author.Tests.{not-false}
-use mathlib.Core.Path.{_≡_, refl}
+use mathlib.Core.Path.{refl}
 use Rattle.record.proofs.sound_few.Statement.{statement}
 use Rattle.record.proofs.sound_few.Tie as tie
 

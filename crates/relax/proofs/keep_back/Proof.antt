@@ -5,8 +5,8 @@ use Rattle.planning.specs.Relaxed.{reachedNeeded}
 use Rattle.state.specs.Sets.{setsOf, actionOf}
 use Rattle.relax.specs.Keeping.{byOf, Keeping}
 use Rattle.relax.proofs.Laws.{keeping-start, entry-listed, keeping-no, keeping-room, keeping-yes, keeping-end}
-use mathlib.Core.Path.{_≡_, refl, sym, ap, _∙_}
-use Prim.Native.Nat.{ℕ, _+_, _*_, _/_, _^_, _-_, _≤_, _<_}
+use mathlib.Core.Path.{_≡_, sym, ap, _∙_}
+use Prim.Native.Nat.{_-_, _<_}
 use native.Mathlib.Omega.{arith}
 use lib.ListN.{getD}
 use Rattle.relax.proofs.keep_back.Statement.{statement}

@@ -28,10 +28,19 @@ returns c =
     let E = c .before .before .before .before .before .plan .ensures in
     let l = c .before .before .before .before .before .plan .last .1 .0 in
     let r = c .flat .ensures ∙ ap planResultOf (E .0) in
-    let same = E .0 ∙ sym (ap answerIn r ∙ plan-read (a .bytes .now) (length (a .plan .now)) (length (a .work .now))) in
-    (r, (E .1 .0, (E .1 .1 .0, (
-      subst (λ x. Demand3 (a .bytes .now) (length (a .plan .now)) (length (a .work .now)) x (planIn x l)) same (E .1 .1 .1 .0),
-      subst (λ x. Bounded (a .bytes .now) (relaxedPlan (taskOf (a .bytes .now))) x (planIn x l)) same (E .1 .1 .1 .1)))))
+    let same = E .0 ∙ sym (ap answerIn r ∙ plan-read (a .bytes .now) (length (a .plan .now)) (length (a .work .now))) in (
+      r,
+      (
+        E .1 .0,
+        (
+          E .1 .1 .0,
+          (
+            subst (λ x. Demand3 (a .bytes .now) (length (a .plan .now)) (length (a .work .now)) x (planIn x l)) same (E .1 .1 .1 .0),
+            subst (λ x. Bounded (a .bytes .now) (relaxedPlan (taskOf (a .bytes .now))) x (planIn x l)) same (E .1 .1 .1 .1),
+          ),
+        ),
+      ),
+    )
 
 pub mardiskos-plan-spec : {M : Type 1} → statement M
 mardiskos-plan-spec =
