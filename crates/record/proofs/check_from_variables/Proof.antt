@@ -1,5 +1,6 @@
 use Rattle.record.proofs.Laws.{no-counts, variables-refused, variables-passed}
 use Rattle.bits.proofs.Stages.{passed, answer-passes}
+use native.Mathlib.Omega.{arith}
 use mathlib.Core.Path.{refl}
 use borrow.Author.Needs.{needs}
 use Rattle.record.proofs.check_from_variables.Statement.{statement}
