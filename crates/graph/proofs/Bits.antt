@@ -1,4 +1,4 @@
--- Sets of variables: intersection, difference, emptiness.
+-- Sets of variables: a variable taken out, emptiness.
 use mathlib.Core.Path.{_≡_, refl, sym, _∙_}
 use mathlib.Core.Bool.{Bool, true, false, not, _&&_, _||_}
 use Prim.Native.Nat.{ℕ, zero, suc, _/_, _%_, _^_, _<_}
@@ -6,45 +6,11 @@ use native.Mathlib.Nat.{pow-suc}
 use native.Mathlib.Numerals.{one-add}
 use native.Mathlib.Omega.{arith}
 use native.Mathlib.Decide.{ℕ-discrete}
-use lib.Bits.{bitAnd, bitOr, bitXor, and-shr, and-mod, xor-shr, xor-mod}
+use lib.Bits.{bitAnd, bitOr, bitXor}
 use lib.Dec.{eqb}
 use lib.Pow.{shr-shr}
 use Rattle.state.specs.Sets.{inSet}
-use Rattle.state.proofs.Members.{inSet-single, inSet-or}
-
-abbrev pub xor : Bool → Bool → Bool
-xor true b = not b
-xor false b = b
-
-digits-and : (a b : ℕ) → a < 2 → b < 2 → eqb (bitAnd a b) 1 ≡ (eqb a 1 && eqb b 1)
-digits-and zero zero h k = refl
-digits-and zero (suc zero) h k = refl
-digits-and (suc zero) zero h k = refl
-digits-and (suc zero) (suc zero) h k = refl
-digits-and (suc (suc a)) b h k = absurd (omega arith)
-digits-and zero (suc (suc b)) h k = absurd (omega arith)
-digits-and (suc zero) (suc (suc b)) h k = absurd (omega arith)
-
-digits-xor : (a b : ℕ) → a < 2 → b < 2 → eqb (bitXor a b) 1 ≡ xor (eqb a 1) (eqb b 1)
-digits-xor zero zero h k = refl
-digits-xor zero (suc zero) h k = refl
-digits-xor (suc zero) zero h k = refl
-digits-xor (suc zero) (suc zero) h k = refl
-digits-xor (suc (suc a)) b h k = absurd (omega arith)
-digits-xor zero (suc (suc b)) h k = absurd (omega arith)
-digits-xor (suc zero) (suc (suc b)) h k = absurd (omega arith)
-
-pub inSet-and : (m n x : ℕ) → inSet (bitAnd m n) x ≡ (inSet m x && inSet n x)
-unfolding inSet
-inSet-and m n x =
-    rw (and-shr m n x, and-mod (m / 2 ^ x) (n / 2 ^ x) 1)
-    (digits-and (m / 2 ^ x % 2) (n / 2 ^ x % 2) (omega arith) (omega arith))
-
-pub inSet-xor : (m n x : ℕ) → inSet (bitXor m n) x ≡ xor (inSet m x) (inSet n x)
-unfolding inSet
-inSet-xor m n x =
-    rw (xor-shr m n x, xor-mod (m / 2 ^ x) (n / 2 ^ x) 1)
-    (digits-xor (m / 2 ^ x % 2) (n / 2 ^ x % 2) (omega arith) (omega arith))
+use Rattle.state.proofs.Members.{inSet-single, inSet-or, inSet-xor, xor}
 
 without : (a e : Bool) → xor (a || e) e ≡ (not e && a)
 without true true = refl

@@ -22,8 +22,8 @@ use Rattle.planning.proofs.Tests.{T→true, true→T, F→false, and-l, and-r, 
 use Rattle.planning.proofs.Below.{First?, first-is, some-intro, some-elim}
 use Rattle.planning.proofs.Painting.{black-inside}
 use Rattle.state.specs.Sets.{inSet, setsOf, modeOf}
-use Rattle.state.proofs.Members.{one-shl, inSet-empty, inSet-single}
-use Rattle.graph.proofs.Bits.{inSet-and, inSet-xor, xor, empty-is}
+use Rattle.state.proofs.Members.{one-shl, inSet-empty, inSet-single, inSet-and, inSet-xor, xor}
+use Rattle.graph.proofs.Bits.{empty-is}
 use Rattle.graph.proofs.Searches.{both, false-not, first-same, some-lacks}
 
 -- one variable's test

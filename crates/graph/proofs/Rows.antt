@@ -19,11 +19,11 @@ use Rattle.planning.proofs.Tests.{and-l, and-r, and-i}
 use Rattle.planning.proofs.Formed.{formed-of}
 use Rattle.table.specs.Table.{factOf, factsIn, preAt, effAt, endAt}
 use Rattle.state.specs.Sets.{inSet, setsOf, modeOf, actionOf, Listed}
-use Rattle.state.proofs.Members.{one-shl, inSet-single, inSet-empty, inSet-or}
+use Rattle.state.proofs.Members.{one-shl, inSet-single, inSet-empty, inSet-or, inSet-and}
 use Rattle.state.proofs.Effects.{factsIn-cons, factsIn-none}
 use Rattle.state.proofs.Tabled.{tabled-action, tabled-listed}
 use Rattle.graph.specs.Given.{Given, Facts, Rows, withAction}
-use Rattle.graph.proofs.Bits.{inSet-and, inSet-without}
+use Rattle.graph.proofs.Bits.{inSet-without}
 use Rattle.graph.proofs.Searches.{both}
 
 -- facts of the places from a up to b and from b up to c

@@ -22,7 +22,7 @@ use Rattle.state.proofs.Members.{inSet-single, one-shl}
 use Rattle.state.proofs.Tabled.{tabled-listed, tabled-action}
 use Rattle.state.specs.Chains.{Next, Sets}
 use Rattle.paths.specs.Paths.{Ground, Member, lower, Enters, Marks, Kept, Apart, Leads}
-use Rattle.paths.proofs.Sets.{inSet-xor, either, inSet-all}
+use Rattle.paths.proofs.Sets.{inSet-either, either, inSet-all}
 use Rattle.paths.proofs.Leads.{marks-turn, marks-map, usableArc-is, usableArc-fits, Layered, layered-start, layered-turn, layered-stop}
 
 -- the actions of a chain before i, besides those that were marked before
@@ -227,7 +227,7 @@ searching-start t F K v d n front rest row₀ row en n64 db long er ef ers =
     layered-start t F K v d front rest row (omega arith) (rw (er, long) (replicate-length 64))
     (λ c b. rw (er, long) (getD-replicate 64 65535 c b))
     fr
-    (λ c. rw (ers, inSet-xor, fr c, all-ones n n64, inSet-all n c, ← en) (rest-bit (ltb c n) (eqb c d) (λ q. lt→ltb c n (omega (arith, eqb→eq c d q)))))
+    (λ c. rw (ers, inSet-either, fr c, all-ones n n64, inSet-all n c, ← en) (rest-bit (ltb c n) (eqb c d) (λ q. lt→ltb c n (omega (arith, eqb→eq c d q)))))
   where
     fr : (c : ℕ) → inSet front c ≡ eqb c d
     fr c = rw (ef, one-shl d (omega arith)) (inSet-single d c)

@@ -16,9 +16,8 @@ use Rattle.planning.specs.Runs.{look, holds}
 use Rattle.planning.specs.Painting.{fits}
 use Rattle.table.specs.Table.{factOf, factsIn, preAt, effAt, endAt}
 use Rattle.state.specs.Sets.{inSet, setsOf, actionOf}
-use Rattle.state.proofs.Members.{inSet-single, inSet-empty, one-shl}
+use Rattle.state.proofs.Members.{inSet-single, inSet-empty, one-shl, inSet-and}
 use Rattle.paths.specs.Paths.{Asked}
-use Rattle.paths.proofs.Sets.{inSet-and}
 
 module _ (l : List ℕ) (k t : ℕ) (h : k < t) (b : t ≤ length l) where
   factsIn-cons : factsIn l k t ≡ factOf (getD l k 0) ∷ factsIn l (k + 1) t

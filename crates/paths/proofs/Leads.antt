@@ -28,7 +28,7 @@ use Rattle.state.specs.Sets.{inSet}
 use Rattle.state.proofs.Members.{inSet-empty, inSet-or}
 use Rattle.state.specs.Chains.{Next, Sets}
 use Rattle.paths.specs.Paths.{lower, leadIn, lead, numberOf, Leads, Enters, Marks, Kept, Apart}
-use Rattle.paths.proofs.Sets.{inSet-xor, either}
+use Rattle.paths.proofs.Sets.{inSet-either, either}
 
 -- the least number, and the definition's
 pub next-first : (A : ℕ) (p : ℕ → Bool) (x : ℕ) → A ≤ 1024 → Next A (λ i. T (p i)) 0 x → x ≡ numberOf (first A p)
@@ -301,7 +301,7 @@ module _ (t : Task) (F : Formed t) (K : State) (v : ℕ) where
 
         rest-law : (c : ℕ) → T (inSet (bitXor rest grow) c) → T (inSet rest c) × (T (inSet grow c) → ⊥)
         unfolding either
-        rest-law c h = go (inSet rest c) (inSet grow c) (M .inside c) (rw inSet-xor at h)
+        rest-law c h = go (inSet rest c) (inSet grow c) (M .inside c) (rw inSet-either at h)
           where
             go : (a b : Bool) → (T b → T a) → T (either a b) → T a × (T b → ⊥)
             go true true f h = absurd h
@@ -311,7 +311,7 @@ module _ (t : Task) (F : Formed t) (K : State) (v : ℕ) where
 
         rest-intro : (c : ℕ) → T (inSet rest c) → (T (inSet grow c) → ⊥) → T (inSet (bitXor rest grow) c)
         unfolding either
-        rest-intro c r g = rw inSet-xor (go (inSet rest c) (inSet grow c) r g)
+        rest-intro c r g = rw inSet-either (go (inSet rest c) (inSet grow c) r g)
           where
             go : (a b : Bool) → T a → (T b → ⊥) → T (either a b)
             go true true r g = absurd (g tt)

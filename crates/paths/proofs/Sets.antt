@@ -1,4 +1,4 @@
--- Sets of values as numbers, digit by digit: the least member from a place on, intersection, removal, and the set of all values below n.
+-- Sets of values as numbers, digit by digit: the least member from a place on, removal, and the set of all values below n.
 use mathlib.Core.Path.{_≡_, refl, sym, _∙_}
 use mathlib.Core.Bool.{Bool, true, false, not, _&&_}
 use Prim.Native.Nat.{ℕ, zero, suc, _+_, _-_, _/_, _%_, _^_, _<_, _≤_}
@@ -7,12 +7,12 @@ use native.Mathlib.Numerals.{one-add}
 use native.Mathlib.Omega.{arith}
 use native.Mathlib.Decide.{decLt}
 use borrow.Author.Tests.{lt-ltb, le-ltb}
-use lib.Bits.{bitAnd, bitXor, and-shr, and-mod, xor-shr, xor-mod}
+use lib.Bits.{bitXor}
 use lib.Count.{trailingZeros, under}
 use lib.Dec.{T, eqb, ltb}
 use lib.Pow.{shr-shr, pow-pos}
 use Rattle.state.specs.Sets.{inSet}
-use Rattle.state.proofs.Members.{inSet-empty}
+use Rattle.state.proofs.Members.{inSet-empty, inSet-xor, xor}
 use Rattle.paths.specs.Paths.{Member}
 
 inSet-zero : (m : ℕ) → inSet m 0 ≡ eqb (m % 2) 1
@@ -69,41 +69,20 @@ module _ (set a z : ℕ) (e : z ≡ trailingZeros 64 (set / 2 ^ a)) where
 pub member-end : (set a : ℕ) → a ≡ 64 → Member set a 64
 member-end set a e = record { within = omega arith; from = omega arith; member = λ b. absurd (omega arith); skipped = λ x p q t. omega arith }
 
-digits-and : (a b : ℕ) → a < 2 → b < 2 → eqb (bitAnd a b) 1 ≡ (eqb a 1 && eqb b 1)
-digits-and zero zero h k = refl
-digits-and zero (suc zero) h k = refl
-digits-and (suc zero) zero h k = refl
-digits-and (suc zero) (suc zero) h k = refl
-digits-and (suc (suc a)) b h k = absurd (omega arith)
-digits-and zero (suc (suc b)) h k = absurd (omega arith)
-digits-and (suc zero) (suc (suc b)) h k = absurd (omega arith)
-
-pub inSet-and : (m n x : ℕ) → inSet (bitAnd m n) x ≡ (inSet m x && inSet n x)
-unfolding inSet
-inSet-and m n x =
-    rw (and-shr m n x, and-mod (m / 2 ^ x) (n / 2 ^ x) 1)
-    (digits-and (m / 2 ^ x % 2) (n / 2 ^ x % 2) (omega arith) (omega arith))
-
 -- one or the other
 unfoldable pub either : Bool → Bool → Bool
 either a true = not a
 either a false = a
 
-digits-xor : (a b : ℕ) → a < 2 → b < 2 → eqb (bitXor a b) 1 ≡ either (eqb a 1) (eqb b 1)
+either-is : (a b : Bool) → xor a b ≡ either a b
 unfolding either
-digits-xor zero zero h k = refl
-digits-xor zero (suc zero) h k = refl
-digits-xor (suc zero) zero h k = refl
-digits-xor (suc zero) (suc zero) h k = refl
-digits-xor (suc (suc a)) b h k = absurd (omega arith)
-digits-xor zero (suc (suc b)) h k = absurd (omega arith)
-digits-xor (suc zero) (suc (suc b)) h k = absurd (omega arith)
+either-is true true = refl
+either-is true false = refl
+either-is false true = refl
+either-is false false = refl
 
-pub inSet-xor : (m n x : ℕ) → inSet (bitXor m n) x ≡ either (inSet m x) (inSet n x)
-unfolding inSet
-inSet-xor m n x =
-    rw (xor-shr m n x, xor-mod (m / 2 ^ x) (n / 2 ^ x) 1)
-    (digits-xor (m / 2 ^ x % 2) (n / 2 ^ x % 2) (omega arith) (omega arith))
+pub inSet-either : (m n x : ℕ) → inSet (bitXor m n) x ≡ either (inSet m x) (inSet n x)
+inSet-either m n x = inSet-xor m n x ∙ either-is (inSet m x) (inSet n x)
 
 ltb-suc : (x n : ℕ) → ltb x n ≡ ltb (suc x) (suc n)
 ltb-suc x n = go (decLt x n)
