@@ -4,6 +4,13 @@ ghost use mathlib.Core.List.{_++_};
 ghost use Prim.Native.Nat.{_-_};
 ghost use lib.ListN.{length, take, replicate};
 
+// A 16-bit number as an index.
+pub fn wide(x: u16) -> usize
+    ensures { λ r. ⌜ r ≡ x ⌝ }
+{
+    x as usize
+}
+
 // Every entry from k on becomes 65,535.
 pub fn blank_from(d: &mut [u16], k: usize)
     ensures { λ _. ⌜ now (d .exit) ≡ take k (now (d .entry)) ++ replicate (length (now (d .entry)) - k) 65535 ⌝ }

@@ -16,12 +16,12 @@ use Rattle.planning.specs.Basics.{refuse, check, andThen, inOrder, Answer, answ
 use Rattle.planning.specs.Record.{variablesIn, actionsIn, countIn, headerChecks, recordChecks, recordCheck, preconditionsIn, effectsIn, effectsFrom, actionEnd, actionsEnd, fieldCheck, goalFits, variableChecks, variablesChecks, endsAt, recordEnd, factChecks, factsChecks, actionChecks, actionsChecks}
 use Rattle.planning.proofs.Fields.{actionEnd-le, actionsEnd-le}
 use Rattle.bits.proofs.Window.{bitsAt-lt, bitsAt-add}
-use Rattle.bits.proofs.Stages.{stage-passes, skip, skip-stage, stops-stage, pass-end}
+use Rattle.answers.proofs.Stages.{stage-passes, skip, skip-stage, stops-stage, pass-end}
 use Rattle.bits.specs.Windows.{Leading}
-use Rattle.bits.specs.declared.Refusal.{Refusal}
-use Rattle.bits.specs.declared.Read.{Read}
-use Rattle.bits.specs.declared.Read.the-variants.{Refused}
-use Rattle.bits.specs.Answers.{readOf}
+use Rattle.answers.specs.declared.Refusal.{Refusal}
+use Rattle.answers.specs.declared.Number.{Number}
+use Rattle.answers.specs.declared.Number.the-variants.{Refused}
+use Rattle.answers.specs.Answers.{valueOf}
 use Rattle.record.specs.Stages.{Counts, Sound, Few, SoundVariable, fromEnd, fromActions, fromVariables, fromActionCount, fromVariableCount, actionFactsChecks, initialChecks, goalChecks}
 
 check-true : (b : Bool) (n p : ℕ) → check b n p ≡ none → b ≡ true
@@ -279,7 +279,7 @@ module _ (s : List ℕ) (p b : ℕ) (e : b ≡ bitsAt s p 20) where
 
 -- the facts of an action: the preconditions refuse, or pass and the effects say
 module _ (s : List ℕ) (p pre : ℕ) (ep : pre ≡ preconditionsIn s p) where
-  pub pre-refused : (r : Read) (f : Refusal) (b d : ℕ) → r ≡ Refused f → readOf r ≡ answer (inOrder (factsChecks s (p + 24) 0 pre)) b → readOf r ≡ answer (inOrder (actionFactsChecks s p)) d
+  pub pre-refused : (r : Number) (f : Refusal) (b d : ℕ) → r ≡ Refused f → valueOf r ≡ answer (inOrder (factsChecks s (p + 24) 0 pre)) b → valueOf r ≡ answer (inOrder (actionFactsChecks s p)) d
   unfolding actionFactsChecks
   pre-refused r f b d e h = rw (← ep) (stops-stage r f _ _ b d e h)
 
@@ -330,7 +330,7 @@ module _ (s : List ℕ) (from count at i : ℕ) (I : Behind s from count at i) w
   unfolding actionsChecks
   actions-step h = let e : count - i ≡ suc (count - (i + 1)) = omega arith in I .checks ∙ rw e refl
 
-  pub action-stops : (r : Read) (f : Refusal) (d : ℕ) → i < count → r ≡ Refused f → readOf r ≡ answer (inOrder (actionChecks s at)) (actionEnd s at) → readOf r ≡ answer (inOrder (actionsChecks s from count)) d
+  pub action-stops : (r : Number) (f : Refusal) (d : ℕ) → i < count → r ≡ Refused f → valueOf r ≡ answer (inOrder (actionChecks s at)) (actionEnd s at) → valueOf r ≡ answer (inOrder (actionsChecks s from count)) d
   action-stops r f d h e k = rw (actions-step h) (stops-stage r f _ _ _ d e k)
 
   pub actions-turn : (end : ℕ) → i < count → (inOrder (actionChecks s at) ≡ none) × (actionEnd s at ≡ end) → Behind s from count end (i + 1)
@@ -349,8 +349,8 @@ module _ (s : List ℕ) (from count at i : ℕ) (I : Behind s from count at i) w
   actions-done h = let e : count - i ≡ 0 = omega arith in rw (I .checks, I .ends, e) refl
 
 -- a refusal is no success
-pub not-done : (r : Read) (f : Refusal) (b : ℕ) → r ≡ Refused f → readOf r ≡ done b → ⊥
-not-done r f b e h = absurd (apart (f .number) (f .place) (sym (ap readOf e) ∙ h))
+pub not-done : (r : Number) (f : Refusal) (b : ℕ) → r ≡ Refused f → valueOf r ≡ done b → ⊥
+not-done r f b e h = absurd (apart (f .number) (f .place) (sym (ap valueOf e) ∙ h))
   where
     apart : (n p : ℕ) → _≡_ {A = Answer ℕ} (refused n p) (done b) → ⊥
     apart n p z = let y : _≡_ {A = ℕ} 0 1 = cc in omega arith
@@ -384,7 +384,7 @@ module _ (s : List ℕ) (count : ℕ) (counts : List ℕ) (i : ℕ) (I : Seen s 
       let f : 22 + 20 * i + 20 ≡ 22 + 20 * (i + 1) = omega arith in
       I .checks ∙ rw (e, f) refl
 
-  pub variable-stops : (r : Read) (f : Refusal) (b d : ℕ) → i < count → r ≡ Refused f → readOf r ≡ answer (inOrder (variableChecks s (22 + 20 * i))) b → readOf r ≡ answer (inOrder (variablesChecks s 22 count)) d
+  pub variable-stops : (r : Number) (f : Refusal) (b d : ℕ) → i < count → r ≡ Refused f → valueOf r ≡ answer (inOrder (variableChecks s (22 + 20 * i))) b → valueOf r ≡ answer (inOrder (variablesChecks s 22 count)) d
   variable-stops r f b d h e k = rw (variables-step h) (stops-stage r f _ _ b d e k)
 
   pub variables-turn : (last : ℕ) → i < count → count ≤ 64 → (inOrder (variableChecks s (22 + 20 * i)) ≡ none) × (bitsAt s (22 + 20 * i) 6 ≡ last) → Seen s count (set counts i ((last + 1) % 256)) (i + 1)
@@ -416,7 +416,7 @@ module _ (s : List ℕ) (count : ℕ) (counts : List ℕ) (i : ℕ) (I : Seen s 
 
 -- the record from its variables on
 module _ (s : List ℕ) (n a : ℕ) (en : n ≡ variablesIn s) (ea : a ≡ actionsIn s) where
-  pub actions-refused : (r : Read) (f : Refusal) (b d : ℕ) → r ≡ Refused f → readOf r ≡ answer (inOrder (actionsChecks s (22 + 20 * n) a)) b → readOf r ≡ answer (inOrder (fromActions s)) d
+  pub actions-refused : (r : Number) (f : Refusal) (b d : ℕ) → r ≡ Refused f → valueOf r ≡ answer (inOrder (actionsChecks s (22 + 20 * n) a)) b → valueOf r ≡ answer (inOrder (fromActions s)) d
   unfolding fromActions
   actions-refused r f b d e h = rw (← en, ← ea) (stops-stage r f _ _ b d e h)
 
@@ -429,7 +429,7 @@ module _ (s : List ℕ) (n a : ℕ) (en : n ≡ variablesIn s) (ea : a ≡ actio
   actions-end end hn ha e = (omega (arith, e, actionsEnd-le s (22 + 20 * n) a), rw (← en, ← ea) (sym e))
 
 module _ (s : List ℕ) (n : ℕ) (en : n ≡ variablesIn s) where
-  pub variables-refused : (r : Read) (f : Refusal) (b d : ℕ) → r ≡ Refused f → readOf r ≡ answer (inOrder (variablesChecks s 22 n)) b → readOf r ≡ answer (inOrder (fromVariables s)) d
+  pub variables-refused : (r : Number) (f : Refusal) (b d : ℕ) → r ≡ Refused f → valueOf r ≡ answer (inOrder (variablesChecks s 22 n)) b → valueOf r ≡ answer (inOrder (fromVariables s)) d
   unfolding fromVariables
   variables-refused r f b d e h = rw (← en) (stops-stage r f _ _ b d e h)
 

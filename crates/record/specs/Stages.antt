@@ -6,16 +6,9 @@ use mathlib.Core.Option.{none}
 use Prim.Native.Nat.{ℕ, _+_, _*_, _/_, _%_, _≤_, _<_}
 use lib.Dec.{leb, ltb}
 use lib.ListN.{length, getD}
-use Rattle.planning.specs.Basics.{Check, refuse, check, inOrder, bitsAt}
+use Rattle.planning.specs.Basics.{Check, check, inOrder, bitsAt}
 use Rattle.planning.specs.Record.{variablesIn, actionsIn, countIn, preconditionsIn, effectsIn, effectsFrom, fieldCheck, goalFits, variablesChecks, factsChecks, actionsChecks, endsAt, recordEnd}
 use Rattle.bits.specs.Windows.{Leading}
-use Rattle.record.specs.declared.Checked.{Checked}
-use Rattle.record.specs.declared.Checked.the-variants.{Accepted, Refused}
-
--- the paper's number and place for each case
-abbrev pub checkedOf : Checked → Check
-checkedOf Accepted = none
-checkedOf (Refused f) = refuse (f .number) (f .place)
 
 -- the list holds the count of values of each of the first n variables, and 0 behind them
 pub record Counts (s counts : List ℕ) (n : ℕ) : Type 0 where

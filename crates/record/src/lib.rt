@@ -2,8 +2,9 @@
 // four facts at a time are read in one load and tested quickly; these tests only say that all is sound. Where they do not, the fields
 // are gone through one by one: a function for each field or kind of field takes the answer of the one below apart and hands on
 // the refusal with its place.
-use bits::Read;
-use bits::Refusal;
+use answers::Checked;
+use answers::Number;
+use answers::Refusal;
 ghost use mathlib.Core.Path.{_≡_};
 ghost use mathlib.Core.Bool.{true};
 ghost use mathlib.Core.Option.{none};
@@ -11,99 +12,94 @@ ghost use Prim.Native.Nat.{_+_, _*_, _<_, _≤_};
 ghost use lib.ListN.{length};
 ghost use Rattle.planning.specs.Basics.{answer, done, inOrder, bitsAt};
 ghost use Rattle.planning.specs.Record.{variablesIn, actionsIn, preconditionsIn, effectsIn, actionEnd, actionsEnd, recordEnd, fieldCheck, variableChecks, variablesChecks, factChecks, factsChecks, actionChecks, actionsChecks, recordCheck};
-ghost use Rattle.bits.specs.Answers.{readOf};
-ghost use Rattle.record.specs.Stages.{checkedOf, actionFactsChecks, Counts, Few, SoundVariable, Sound, fromEnd, fromActions, fromVariables, fromActionCount, fromVariableCount, goalChecks, initialChecks};
-
-pub enum Checked {
-    Accepted,
-    Refused(Refusal),
-}
+ghost use Rattle.answers.specs.Answers.{checkOf, valueOf};
+ghost use Rattle.record.specs.Stages.{actionFactsChecks, Counts, Few, SoundVariable, Sound, fromEnd, fromActions, fromVariables, fromActionCount, fromVariableCount, goalChecks, initialChecks};
 
 // A field, or refusal 1 at its first bit.
-fn take(bytes: &[u8], at: u32, width: usize) -> Read
+fn take(bytes: &[u8], at: u32, width: usize) -> Number
     requires { ⌜ (at ≤ 500000) × (width ≤ 25) ⌝ }
-    ensures { λ r. ⌜ readOf r ≡ answer (fieldCheck (now (bytes .entry)) at width) (bitsAt (now (bytes .entry)) at width) ⌝ }
+    ensures { λ r. ⌜ valueOf r ≡ answer (fieldCheck (now (bytes .entry)) at width) (bitsAt (now (bytes .entry)) at width) ⌝ }
 {
     if bytes.len() < (at as usize + width + 7) / 8 {
-        return Read::Refused(Refusal {
+        return Number::Refused(Refusal {
             number: 1,
             place: at,
         });
     }
-    Read::Value(bits::read_bits(bytes, at as usize, width) as u32)
+    Number::Value(bits::read_bits(bytes, at as usize, width) as u32)
 }
 
 // Zero bits up to a whole byte, and nothing behind.
-fn check_end(bytes: &[u8], at: u32) -> Read
+fn check_end(bytes: &[u8], at: u32) -> Number
     requires { ⌜ (at ≤ 500000) × (at ≡ recordEnd (now bytes)) ⌝ }
-    ensures { λ r. ⌜ readOf r ≡ answer (inOrder (fromEnd (now (bytes .entry)))) 0 ⌝ }
+    ensures { λ r. ⌜ valueOf r ≡ answer (inOrder (fromEnd (now (bytes .entry)))) 0 ⌝ }
 {
     let size = (at as usize + 7) / 8;
     if bytes.len() != size {
-        return Read::Refused(Refusal {
+        return Number::Refused(Refusal {
             number: 6,
             place: at,
         });
     }
     if bits::read_bits(bytes, at as usize, size * 8 - at as usize) != 0 {
-        return Read::Refused(Refusal {
+        return Number::Refused(Refusal {
             number: 6,
             place: at,
         });
     }
-    Read::Value(0)
+    Number::Value(0)
 }
 
 // The fact at bit `at`, field by field, whose variable is to be at least `low`: its variable.
-fn check_fact(bytes: &[u8], at: u32, low: u32, variables: u32, counts: &[u8; 64]) -> Read
+fn check_fact(bytes: &[u8], at: u32, low: u32, variables: u32, counts: &[u8; 64]) -> Number
     requires { ⌜ (at ≤ 400000) × (variables ≡ variablesIn (now bytes)) × (variables ≤ 64) × Counts (now bytes) (now counts) variables ⌝ }
-    ensures { λ r. ⌜ readOf r ≡ answer (inOrder (factChecks (now (bytes .entry)) at low)) (bitsAt (now (bytes .entry)) at 6) ⌝ }
+    ensures { λ r. ⌜ valueOf r ≡ answer (inOrder (factChecks (now (bytes .entry)) at low)) (bitsAt (now (bytes .entry)) at 6) ⌝ }
 {
     let a = take(bytes, at, 6);
-    let Read::Value(v) = a else {
+    let Number::Value(v) = a else {
         return a;
     };
     if variables <= v {
-        return Read::Refused(Refusal {
+        return Number::Refused(Refusal {
             number: 5,
             place: at,
         });
     }
     if v < low {
-        return Read::Refused(Refusal {
+        return Number::Refused(Refusal {
             number: 5,
             place: at,
         });
     }
     let b = take(bytes, at + 6, 6);
-    let Read::Value(value) = b else {
+    let Number::Value(value) = b else {
         return b;
     };
     if counts[v as usize] <= (value % 64) as u8 {
-        return Read::Refused(Refusal {
+        return Number::Refused(Refusal {
             number: 4,
             place: at + 6,
         });
     }
-    Read::Value(v)
+    Number::Value(v)
 }
 
 // `count` facts from bit `from` on: the bit behind them.
-fn check_facts(bytes: &[u8], from: u32, count: u32, variables: u32, counts: &[u8; 64]) -> Read
+fn check_facts(bytes: &[u8], from: u32, count: u32, variables: u32, counts: &[u8; 64]) -> Number
     requires { ⌜ (from ≤ 399000) × (count ≤ 15) × (variables ≡ variablesIn (now bytes)) × (variables ≤ 64) × Counts (now bytes) (now counts) variables ⌝ }
-    ensures { λ r. ⌜ readOf r ≡ answer (inOrder (factsChecks (now (bytes .entry)) from 0 count)) (from + 12 * count) ⌝ }
+    ensures { λ r. ⌜ valueOf r ≡ answer (inOrder (factsChecks (now (bytes .entry)) from 0 count)) (from + 12 * count) ⌝ }
 {
     let mut i: u32 = 0;
     let mut low: u32 = 0;
     while i < count {
         let f = check_fact(bytes, from + 12 * i, low, variables, counts);
-        let Read::Value(v) = f else {
+        let Number::Value(v) = f else {
             return f;
         };
         low = v + 1;
         i += 1;
     }
-    Read::Value(from + 12 * count)
+    Number::Value(from + 12 * count)
 }
 
 // The facts of the action at bit `at`, whose counts are known: the bit behind it.
@@ -114,32 +110,32 @@ fn check_action_facts(
     eff: u32,
     variables: u32,
     counts: &[u8; 64],
-) -> Read
+) -> Number
     requires { ⌜ (at ≤ 398000) × (pre ≡ preconditionsIn (now bytes) at) × (eff ≡ effectsIn (now bytes) at) × (pre ≤ 15) × (eff ≤ 15) × (variables ≡ variablesIn (now bytes)) × (variables ≤ 64) × Counts (now bytes) (now counts) variables ⌝ }
-    ensures { λ r. ⌜ readOf r ≡ answer (inOrder (actionFactsChecks (now (bytes .entry)) at)) (actionEnd (now (bytes .entry)) at) ⌝ }
+    ensures { λ r. ⌜ valueOf r ≡ answer (inOrder (actionFactsChecks (now (bytes .entry)) at)) (actionEnd (now (bytes .entry)) at) ⌝ }
 {
     let p = check_facts(bytes, at + 24, pre, variables, counts);
-    let Read::Value(mid) = p else {
+    let Number::Value(mid) = p else {
         return p;
     };
     check_facts(bytes, mid, eff, variables, counts)
 }
 
 // The action at bit `at`, field by field: the bit behind it.
-fn check_action_fields(bytes: &[u8], at: u32, variables: u32, counts: &[u8; 64]) -> Read
+fn check_action_fields(bytes: &[u8], at: u32, variables: u32, counts: &[u8; 64]) -> Number
     requires { ⌜ (at ≤ 398000) × (variables ≡ variablesIn (now bytes)) × (variables ≤ 64) × Counts (now bytes) (now counts) variables ⌝ }
-    ensures { λ r. ⌜ readOf r ≡ answer (inOrder (actionChecks (now (bytes .entry)) at)) (actionEnd (now (bytes .entry)) at) ⌝ }
+    ensures { λ r. ⌜ valueOf r ≡ answer (inOrder (actionChecks (now (bytes .entry)) at)) (actionEnd (now (bytes .entry)) at) ⌝ }
 {
     let c = take(bytes, at, 16);
-    let Read::Value(_) = c else {
+    let Number::Value(_) = c else {
         return c;
     };
     let p = take(bytes, at + 16, 4);
-    let Read::Value(pre) = p else {
+    let Number::Value(pre) = p else {
         return p;
     };
     let e = take(bytes, at + 20, 4);
-    let Read::Value(eff) = e else {
+    let Number::Value(eff) = e else {
         return e;
     };
     check_action_facts(bytes, at, pre, eff, variables, counts)
@@ -240,68 +236,68 @@ fn sound_action(bytes: &[u8], at: usize, counts: &[u8; 64]) -> usize
 }
 
 // The action at bit `at`: the bit behind it.
-fn check_action(bytes: &[u8], at: u32, variables: u32, counts: &[u8; 64]) -> Read
+fn check_action(bytes: &[u8], at: u32, variables: u32, counts: &[u8; 64]) -> Number
     requires { ⌜ (at ≤ 398000) × (variables ≡ variablesIn (now bytes)) × (variables ≤ 64) × Counts (now bytes) (now counts) variables ⌝ }
-    ensures { λ r. ⌜ readOf r ≡ answer (inOrder (actionChecks (now (bytes .entry)) at)) (actionEnd (now (bytes .entry)) at) ⌝ }
+    ensures { λ r. ⌜ valueOf r ≡ answer (inOrder (actionChecks (now (bytes .entry)) at)) (actionEnd (now (bytes .entry)) at) ⌝ }
 {
     let end = sound_action(bytes, at as usize, counts);
     if end == 0 {
         return check_action_fields(bytes, at, variables, counts);
     }
-    Read::Value(end as u32)
+    Number::Value(end as u32)
 }
 
 // All actions, from the bit behind the variables on: the bit behind them.
-fn check_actions(bytes: &[u8], count: u32, variables: u32, counts: &[u8; 64]) -> Read
+fn check_actions(bytes: &[u8], count: u32, variables: u32, counts: &[u8; 64]) -> Number
     requires { ⌜ (count ≤ 1024) × (variables ≡ variablesIn (now bytes)) × (variables ≤ 64) × Counts (now bytes) (now counts) variables ⌝ }
-    ensures { λ r. ⌜ readOf r ≡ answer (inOrder (actionsChecks (now (bytes .entry)) (22 + 20 * variables) count)) (actionsEnd (now (bytes .entry)) (22 + 20 * variables) count) ⌝ }
+    ensures { λ r. ⌜ valueOf r ≡ answer (inOrder (actionsChecks (now (bytes .entry)) (22 + 20 * variables) count)) (actionsEnd (now (bytes .entry)) (22 + 20 * variables) count) ⌝ }
 {
     let mut at = 22 + 20 * variables;
     let mut i: u32 = 0;
     while i < count {
         let a = check_action(bytes, at, variables, counts);
-        let Read::Value(end) = a else {
+        let Number::Value(end) = a else {
             return a;
         };
         at = end;
         i += 1;
     }
-    Read::Value(at)
+    Number::Value(at)
 }
 
 // The goal of the variable at bit `at`, whose greatest value is `last`.
-fn check_goal(bytes: &[u8], at: u32, last: u32) -> Read
+fn check_goal(bytes: &[u8], at: u32, last: u32) -> Number
     requires { ⌜ (at ≤ 2000) × (last ≤ 63) ⌝ }
-    ensures { λ r. ⌜ readOf r ≡ answer (inOrder (goalChecks (now (bytes .entry)) at last)) last ⌝ }
+    ensures { λ r. ⌜ valueOf r ≡ answer (inOrder (goalChecks (now (bytes .entry)) at last)) last ⌝ }
 {
     let p = take(bytes, at + 13, 1);
-    let Read::Value(present) = p else {
+    let Number::Value(present) = p else {
         return p;
     };
     let g = take(bytes, at + 14, 6);
-    let Read::Value(goal) = g else {
+    let Number::Value(goal) = g else {
         return g;
     };
     if last * present < goal {
-        return Read::Refused(Refusal {
+        return Number::Refused(Refusal {
             number: 4,
             place: at + 14,
         });
     }
-    Read::Value(last)
+    Number::Value(last)
 }
 
 // The initial value and the goal of the variable at bit `at`.
-fn check_initial(bytes: &[u8], at: u32, last: u32) -> Read
+fn check_initial(bytes: &[u8], at: u32, last: u32) -> Number
     requires { ⌜ (at ≤ 2000) × (last ≤ 63) ⌝ }
-    ensures { λ r. ⌜ readOf r ≡ answer (inOrder (initialChecks (now (bytes .entry)) at last)) last ⌝ }
+    ensures { λ r. ⌜ valueOf r ≡ answer (inOrder (initialChecks (now (bytes .entry)) at last)) last ⌝ }
 {
     let i = take(bytes, at + 7, 6);
-    let Read::Value(init) = i else {
+    let Number::Value(init) = i else {
         return i;
     };
     if last < init {
-        return Read::Refused(Refusal {
+        return Number::Refused(Refusal {
             number: 4,
             place: at + 7,
         });
@@ -310,16 +306,16 @@ fn check_initial(bytes: &[u8], at: u32, last: u32) -> Read
 }
 
 // The variable at bit `at`, field by field: its greatest value.
-fn check_variable_fields(bytes: &[u8], at: u32) -> Read
+fn check_variable_fields(bytes: &[u8], at: u32) -> Number
     requires { ⌜ at ≤ 2000 ⌝ }
-    ensures { λ r. ⌜ readOf r ≡ answer (inOrder (variableChecks (now (bytes .entry)) at)) (bitsAt (now (bytes .entry)) at 6) ⌝ }
+    ensures { λ r. ⌜ valueOf r ≡ answer (inOrder (variableChecks (now (bytes .entry)) at)) (bitsAt (now (bytes .entry)) at 6) ⌝ }
 {
     let l = take(bytes, at, 6);
-    let Read::Value(last) = l else {
+    let Number::Value(last) = l else {
         return l;
     };
     let b = take(bytes, at + 6, 1);
-    let Read::Value(_) = b else {
+    let Number::Value(_) = b else {
         return b;
     };
     check_initial(bytes, at, last)
@@ -339,9 +335,9 @@ fn is_sound_variable(fields: u64) -> bool
 }
 
 // The variable at bit `at`: its greatest value.
-fn check_variable(bytes: &[u8], at: u32) -> Read
+fn check_variable(bytes: &[u8], at: u32) -> Number
     requires { ⌜ at ≤ 2000 ⌝ }
-    ensures { λ r. ⌜ readOf r ≡ answer (inOrder (variableChecks (now (bytes .entry)) at)) (bitsAt (now (bytes .entry)) at 6) ⌝ }
+    ensures { λ r. ⌜ valueOf r ≡ answer (inOrder (variableChecks (now (bytes .entry)) at)) (bitsAt (now (bytes .entry)) at 6) ⌝ }
 {
     if bytes.len() < 8 {
         return check_variable_fields(bytes, at);
@@ -353,62 +349,62 @@ fn check_variable(bytes: &[u8], at: u32) -> Read
     if !is_sound_variable(w) {
         return check_variable_fields(bytes, at);
     }
-    Read::Value((w / 16384) as u32)
+    Number::Value((w / 16384) as u32)
 }
 
 // All variables: the count of values of each goes to `counts`, which is 0 behind them.
-fn check_variables(bytes: &[u8], count: u32, counts: &mut [u8; 64]) -> Read
+fn check_variables(bytes: &[u8], count: u32, counts: &mut [u8; 64]) -> Number
     requires { ⌜ (count ≤ 64) × (length (now counts) ≡ 64) × Counts (now bytes) (now counts) 0 ⌝ }
-    ensures { λ r. ⌜ (readOf r ≡ answer (inOrder (variablesChecks (now (bytes .entry)) 22 count)) 0) × (readOf r ≡ done 0 → Counts (now (bytes .entry)) (now (counts .exit)) count) ⌝ }
+    ensures { λ r. ⌜ (valueOf r ≡ answer (inOrder (variablesChecks (now (bytes .entry)) 22 count)) 0) × (valueOf r ≡ done 0 → Counts (now (bytes .entry)) (now (counts .exit)) count) ⌝ }
 {
     let mut i: u32 = 0;
     while i < count {
         let v = check_variable(bytes, 22 + 20 * i);
-        let Read::Value(last) = v else {
+        let Number::Value(last) = v else {
             return v;
         };
         counts[i as usize] = ((last + 1) % 256) as u8;
         i += 1;
     }
-    Read::Value(0)
+    Number::Value(0)
 }
 
 // The record from its actions on.
-fn check_from_actions(bytes: &[u8], actions: u32, variables: u32, counts: &[u8; 64]) -> Read
+fn check_from_actions(bytes: &[u8], actions: u32, variables: u32, counts: &[u8; 64]) -> Number
     requires { ⌜ (actions ≡ actionsIn (now bytes)) × (actions ≤ 1024) × (variables ≡ variablesIn (now bytes)) × (variables ≤ 64) × Counts (now bytes) (now counts) variables ⌝ }
-    ensures { λ r. ⌜ readOf r ≡ answer (inOrder (fromActions (now (bytes .entry)))) 0 ⌝ }
+    ensures { λ r. ⌜ valueOf r ≡ answer (inOrder (fromActions (now (bytes .entry)))) 0 ⌝ }
 {
     let a = check_actions(bytes, actions, variables, counts);
-    let Read::Value(end) = a else {
+    let Number::Value(end) = a else {
         return a;
     };
     check_end(bytes, end)
 }
 
 // The record from its variables on.
-fn check_from_variables(bytes: &[u8], actions: u32, variables: u32) -> Read
+fn check_from_variables(bytes: &[u8], actions: u32, variables: u32) -> Number
     requires { ⌜ (actions ≡ actionsIn (now bytes)) × (actions ≤ 1024) × (variables ≡ variablesIn (now bytes)) × (variables ≤ 64) ⌝ }
-    ensures { λ r. ⌜ readOf r ≡ answer (inOrder (fromVariables (now (bytes .entry)))) 0 ⌝ }
+    ensures { λ r. ⌜ valueOf r ≡ answer (inOrder (fromVariables (now (bytes .entry)))) 0 ⌝ }
 {
     let mut counts = [0u8; 64];
     let v = check_variables(bytes, variables, &mut counts);
-    let Read::Value(_) = v else {
+    let Number::Value(_) = v else {
         return v;
     };
     check_from_actions(bytes, actions, variables, &counts)
 }
 
 // The record from its count of actions on.
-fn check_from_action_count(bytes: &[u8], variables: u32) -> Read
+fn check_from_action_count(bytes: &[u8], variables: u32) -> Number
     requires { ⌜ (variables ≡ variablesIn (now bytes)) × (variables ≤ 64) ⌝ }
-    ensures { λ r. ⌜ readOf r ≡ answer (inOrder (fromActionCount (now (bytes .entry)))) 0 ⌝ }
+    ensures { λ r. ⌜ valueOf r ≡ answer (inOrder (fromActionCount (now (bytes .entry)))) 0 ⌝ }
 {
     let a = take(bytes, 11, 11);
-    let Read::Value(actions) = a else {
+    let Number::Value(actions) = a else {
         return a;
     };
     if 1024 < actions {
-        return Read::Refused(Refusal {
+        return Number::Refused(Refusal {
             number: 3,
             place: 11,
         });
@@ -417,21 +413,21 @@ fn check_from_action_count(bytes: &[u8], variables: u32) -> Read
 }
 
 // The record from its count of variables on.
-fn check_from_variable_count(bytes: &[u8]) -> Read
-    ensures { λ r. ⌜ readOf r ≡ answer (inOrder (fromVariableCount (now (bytes .entry)))) 0 ⌝ }
+fn check_from_variable_count(bytes: &[u8]) -> Number
+    ensures { λ r. ⌜ valueOf r ≡ answer (inOrder (fromVariableCount (now (bytes .entry)))) 0 ⌝ }
 {
     let v = take(bytes, 4, 7);
-    let Read::Value(variables) = v else {
+    let Number::Value(variables) = v else {
         return v;
     };
     if variables < 1 {
-        return Read::Refused(Refusal {
+        return Number::Refused(Refusal {
             number: 3,
             place: 4,
         });
     }
     if 64 < variables {
-        return Read::Refused(Refusal {
+        return Number::Refused(Refusal {
             number: 3,
             place: 4,
         });
@@ -440,15 +436,15 @@ fn check_from_variable_count(bytes: &[u8]) -> Read
 }
 
 // The whole record.
-fn check_record(bytes: &[u8]) -> Read
-    ensures { λ r. ⌜ readOf r ≡ answer (recordCheck (now (bytes .entry))) 0 ⌝ }
+fn check_record(bytes: &[u8]) -> Number
+    ensures { λ r. ⌜ valueOf r ≡ answer (recordCheck (now (bytes .entry))) 0 ⌝ }
 {
     let e = take(bytes, 0, 4);
-    let Read::Value(edition) = e else {
+    let Number::Value(edition) = e else {
         return e;
     };
     if edition != 1 {
-        return Read::Refused(Refusal {
+        return Number::Refused(Refusal {
             number: 2,
             place: 0,
         });
@@ -458,10 +454,10 @@ fn check_record(bytes: &[u8]) -> Read
 
 // The check of a record: accepted, or its refusal with its place.
 pub fn check(bytes: &[u8]) -> Checked
-    ensures { λ r. ⌜ checkedOf r ≡ recordCheck (now (bytes .entry)) ⌝ }
+    ensures { λ r. ⌜ checkOf r ≡ recordCheck (now (bytes .entry)) ⌝ }
 {
     let r = check_record(bytes);
-    let Read::Refused(f) = r else {
+    let Number::Refused(f) = r else {
         return Checked::Accepted;
     };
     Checked::Refused(f)

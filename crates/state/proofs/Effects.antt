@@ -12,11 +12,12 @@ use lib.Dec.{T, eqb}
 use lib.ListN.{length, getD, set, length-set}
 use lib.Seq.{slice-cons, slice-empty, getD-set-same, getD-set-other}
 use Rattle.planning.specs.Record.{Fact, Action}
-use Rattle.planning.specs.Runs.{State, Mode, has, touches, holds, step}
+use Rattle.planning.specs.Runs.{State, Mode, has, touches, holds, step, act}
 use Rattle.planning.proofs.Tests.{F→false}
 use Rattle.planning.proofs.Facts.{has→touches}
-use Rattle.table.specs.Table.{factOf, factsIn, effAt, endAt}
-use Rattle.state.specs.Sets.{inSet, setsOf, modeOf, mixed, Rising, actionOf, Listed}
+use Rattle.task.specs.Task.{cell, factOf, factsIn, actionIn, taskIn}
+use Rattle.state.specs.Sets.{inSet, setsOf, modeOf, mixed}
+use Rattle.state.proofs.Listed.{Rising, Listed}
 use Rattle.state.proofs.Members.{inSet-mixed}
 
 -- the sets with one effect, and with each effect of a list in turn
@@ -101,23 +102,23 @@ unfolding putAll
 putAll-end m ms l k t e = rw (factsIn-none l k t e) refl
 
 -- the step's loop: effects from k on are left to put into the sets ms
-pub record Putting (table : List ℕ) (i mode : ℕ) (ms₀ : List ℕ) (end : ℕ) (ms : List ℕ) (k : ℕ) : Type 0 where
-  pub at-end : end ≡ endAt table i
-  pub from : effAt table i ≤ k
+pub record Putting (task : List ℕ) (i mode : ℕ) (ms₀ : List ℕ) (end : ℕ) (ms : List ℕ) (k : ℕ) : Type 0 where
+  pub at-end : end ≡ cell task (1361 + i) 3
+  pub from : cell task (1361 + i) 2 ≤ k
   pub within : k ≤ end
   pub long₀ : length ms₀ ≡ 64
   pub long : length ms ≡ 64
-  pub so-far : putAll (modeOf mode) (factsIn table (effAt table i) (endAt table i)) ms₀ ≡ putAll (modeOf mode) (factsIn table k (endAt table i)) ms
+  pub so-far : putAll (modeOf mode) (factsIn task (cell task (1361 + i) 2) (cell task (1361 + i) 3)) ms₀ ≡ putAll (modeOf mode) (factsIn task k (cell task (1361 + i) 3)) ms
 
-module _ (table : List ℕ) (i mode : ℕ) (ms₀ : List ℕ) (L : Listed table i) where
-  pub putting-start : (end k : ℕ) → end ≡ endAt table i → k ≡ effAt table i → length ms₀ ≡ 64 → Putting table i mode ms₀ end ms₀ k
+module _ (task : List ℕ) (i mode : ℕ) (ms₀ : List ℕ) (L : Listed task i) where
+  pub putting-start : (end k : ℕ) → end ≡ cell task (1361 + i) 3 → k ≡ cell task (1361 + i) 2 → length ms₀ ≡ 64 → Putting task i mode ms₀ end ms₀ k
   putting-start end k e h n = record { at-end = e; from = omega arith; within = omega (arith, L .eff-below); long₀ = n; long = n; so-far = rw h refl }
 
-  module _ (end k : ℕ) (ms : List ℕ) (p : Putting table i mode ms₀ end ms k) where
-    pub putting-small : k < end → getD table k 0 < 4096
+  module _ (end k : ℕ) (ms : List ℕ) (p : Putting task i mode ms₀ end ms k) where
+    pub putting-small : k < end → getD task k 0 < 4096
     putting-small h = L .small k (omega (arith, L .pre-below, p .from)) (omega (arith, p .at-end))
 
-    pub putting-turn : k < end → (f v x w : ℕ) → f ≡ getD table k 0 → v ≡ f / 64 → x ≡ f % 64 → w ≡ mixed (inSet mode v) (getD ms v 0) (2 ^ x) → Putting table i mode ms₀ end (set ms v w) (k + 1)
+    pub putting-turn : k < end → (f v x w : ℕ) → f ≡ getD task k 0 → v ≡ f / 64 → x ≡ f % 64 → w ≡ mixed (inSet mode v) (getD ms v 0) (2 ^ x) → Putting task i mode ms₀ end (set ms v w) (k + 1)
     unfolding put factOf modeOf
     putting-turn h f v x w ef ev ex ew =
         record {
@@ -126,10 +127,10 @@ module _ (table : List ℕ) (i mode : ℕ) (ms₀ : List ℕ) (L : Listed table 
           within = omega arith;
           long₀ = p .long₀;
           long = length-set ms v w ∙ p .long;
-          so-far = p .so-far ∙ putAll-turn table k (endAt table i) (omega (arith, p .at-end)) (L .end-below) (modeOf mode) ms ∙ rw (ew, ex, ev, ef) refl;
+          so-far = p .so-far ∙ putAll-turn task k (cell task (1361 + i) 3) (omega (arith, p .at-end)) (L .end-below) (modeOf mode) ms ∙ rw (ew, ex, ev, ef) refl;
         }
 
-    pub putting-end : end ≤ k → setsOf ms ≡ step (modeOf mode) (actionOf table i) (setsOf ms₀)
-    unfolding actionOf
+    pub putting-end : end ≤ k → setsOf ms ≡ step (modeOf mode) (act (taskIn task) i) (setsOf ms₀)
+    unfolding actionIn
     putting-end h =
-        ap setsOf (sym (p .so-far ∙ putAll-end (modeOf mode) ms table k (endAt table i) (omega (arith, p .within, p .at-end)))) ∙ putAll-step (modeOf mode) (actionOf table i) ms₀ (L .rises) (p .long₀)
+        ap setsOf (sym (p .so-far ∙ putAll-end (modeOf mode) ms task k (cell task (1361 + i) 3) (omega (arith, p .within, p .at-end)))) ∙ putAll-step (modeOf mode) (actionIn task i) ms₀ (L .rises) (p .long₀) ∙ ap (λ (a : Action). step (modeOf mode) a (setsOf ms₀)) (L .states)

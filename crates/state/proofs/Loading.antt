@@ -17,7 +17,7 @@ use Rattle.planning.specs.Record.{Variable, Task}
 use Rattle.planning.specs.Runs.{noVariable, variables, variable, black, initial, goalsFrom, goals}
 use Rattle.planning.proofs.Fields.{variable-past}
 use Rattle.planning.proofs.Formed.{Formed}
-use Rattle.table.specs.Table.{factOf, factsIn}
+use Rattle.task.specs.Task.{factOf, factsIn}
 use Rattle.state.specs.Sets.{inSet, setsOf, modeOf}
 use Rattle.state.proofs.Members.{one-shl, inSet-single, inSet-empty, inSet-or}
 
@@ -64,9 +64,9 @@ pub init-small : (t : Task) (v x : ℕ) → Formed t → x ≡ variable t v .ini
 init-small t v x F e = omega (arith, F .init-below v, F .count-max v)
 
 module _ (t : Task) (n : ℕ) (ms : List ℕ) (v : ℕ) (p : Starting t n ms v) where
-  pub starting-turn : v < n → (x : ℕ) → x ≡ variable t v .init → Starting t n (set ms v (1 * 2 ^ x % 2 ^ 64)) (v + 1)
+  pub starting-turn : v < n → (x w : ℕ) → x ≡ variable t v .init → w ≡ 2 ^ x → Starting t n (set ms v w) (v + 1)
   unfolding setsOf
-  starting-turn h x ex = rw (one-shl x (init-small t v x (p .over .formed) ex)) (record {
+  starting-turn h x w ex ew = rw ew (record {
     over = over-turn t n v (p .over) h;
     long = length-set ms v (2 ^ x) ∙ p .long;
     filled = λ w d. go w d (ℕ-discrete w v);
@@ -95,10 +95,10 @@ pub painting-start : (t : Task) (n : ℕ) → Formed t → n ≡ variables t →
 painting-start t n F e = record { over = over-start t n F e; filled = λ w. rw (inSet-empty w, le-ltb w 0 (omega arith)) refl }
 
 module _ (t : Task) (n m v : ℕ) (p : Painting t n m v) (h : v < n) where
-  pub painting-black : (b : Bool) → b ≡ black t v → b ≡ true → Painting t n (bitOr m (1 * 2 ^ v % 2 ^ 64)) (v + 1)
-  painting-black b eb et = record {
+  pub painting-black : (b : Bool) (o : ℕ) → b ≡ black t v → b ≡ true → o ≡ 2 ^ v → Painting t n (bitOr m o) (v + 1)
+  painting-black b o eb et eo = record {
     over = over-turn t n v (p .over) h;
-    filled = λ w. rw (one-shl v (omega (arith, p .over .most)), inSet-or m (2 ^ v) w, inSet-single v w, p .filled w) (go w (ℕ-discrete w v));
+    filled = λ w. rw (eo, inSet-or m (2 ^ v) w, inSet-single v w, p .filled w) (go w (ℕ-discrete w v));
   }
     where
       go : (w : ℕ) → Dec (w ≡ v) → ((ltb w v && black t w) || eqb w v) ≡ (ltb w (v + 1) && black t w)

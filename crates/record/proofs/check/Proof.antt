@@ -1,5 +1,5 @@
-use Rattle.bits.proofs.Stages.{passed, handed-on}
-use Rattle.bits.specs.Answers.{refusalOf}
+use Rattle.answers.proofs.Stages.{passed, handed-on}
+use Rattle.answers.specs.Answers.{refusalOf}
 use mathlib.Core.Path.{sym, ap}
 use borrow.Author.Needs.{needs}
 use Rattle.record.proofs.check.Statement.{statement}

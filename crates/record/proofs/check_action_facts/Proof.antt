@@ -1,5 +1,5 @@
 use Rattle.record.proofs.Laws.{pre-refused, eff-answer}
-use Rattle.bits.proofs.Stages.{passed}
+use Rattle.answers.proofs.Stages.{passed}
 use native.Mathlib.Omega.{arith}
 use borrow.Author.Needs.{needs}
 use Rattle.record.proofs.check_action_facts.Statement.{statement}

@@ -1,6 +1,6 @@
 use Prim.Native.Nat.{_+_}
 use Rattle.bits.proofs.Window.{bitsAt-lt}
-use Rattle.bits.proofs.Stages.{passed, skip, stops}
+use Rattle.answers.proofs.Stages.{passed, skip, stops}
 use Rattle.record.specs.Stages.{actionFactsChecks}
 use Rattle.planning.specs.Record.{actionChecks, preconditionsIn, effectsIn}
 use native.Mathlib.Omega.{arith}

@@ -1,5 +1,5 @@
 use Rattle.record.proofs.Laws.{Behind, actions-start, action-stops, actions-turn, actions-done}
-use Rattle.bits.proofs.Stages.{passed}
+use Rattle.answers.proofs.Stages.{passed}
 use borrow.Author.Needs.{needs}
 use Prim.Native.Nat.{_+_, _*_, _-_}
 use native.Mathlib.Omega.{arith}

@@ -1,6 +1,6 @@
 -- The checks one by one: each field is there (`passed`) or refuses (`stops`), each test is decided by the code's.
 use Rattle.record.proofs.Laws.{var-above, var-low, var-right, val-above, val-right}
-use Rattle.bits.proofs.Stages.{passed, skip, hit, stops, pass-end}
+use Rattle.answers.proofs.Stages.{passed, skip, hit, stops, pass-end}
 use Rattle.planning.specs.Record.{factChecks}
 use Rattle.planning.specs.Basics.{done}
 use mathlib.Core.Path.{sym, ap, _∙_}

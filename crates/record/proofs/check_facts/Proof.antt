@@ -1,6 +1,6 @@
 use Rattle.record.proofs.Laws.{facts-start, facts-step, facts-turn, facts-none}
 use Rattle.bits.proofs.Window.{bitsAt-lt}
-use Rattle.bits.proofs.Stages.{passed, stops-stage}
+use Rattle.answers.proofs.Stages.{passed, stops-stage}
 use Rattle.planning.specs.Record.{factsChecks}
 use Rattle.planning.specs.Basics.{inOrder, answer}
 use borrow.Author.Needs.{needs}

@@ -1,7 +1,7 @@
 use Rattle.planning.specs.Record.{actionsIn}
 use Rattle.record.proofs.Laws.{count-above, count-right}
 use Rattle.record.specs.Stages.{fromActionCount}
-use Rattle.bits.proofs.Stages.{passed, skip, hit, stops}
+use Rattle.answers.proofs.Stages.{passed, skip, hit, stops}
 use native.Mathlib.Omega.{arith}
 use mathlib.Core.Path.{sym}
 use borrow.Author.Needs.{needs}

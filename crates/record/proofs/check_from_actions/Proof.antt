@@ -1,5 +1,5 @@
 use Rattle.record.proofs.Laws.{actions-refused, actions-passed, actions-end}
-use Rattle.bits.proofs.Stages.{passed}
+use Rattle.answers.proofs.Stages.{passed}
 use native.Mathlib.Omega.{arith}
 use borrow.Author.Needs.{needs}
 use Rattle.record.proofs.check_from_actions.Statement.{statement}

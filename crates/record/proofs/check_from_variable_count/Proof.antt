@@ -1,7 +1,7 @@
 use Rattle.planning.specs.Record.{variablesIn}
 use Rattle.record.proofs.Laws.{range-low, range-high, range-right}
 use Rattle.record.specs.Stages.{fromVariableCount}
-use Rattle.bits.proofs.Stages.{passed, skip, hit, stops}
+use Rattle.answers.proofs.Stages.{passed, skip, hit, stops}
 use native.Mathlib.Omega.{arith}
 use mathlib.Core.Path.{sym}
 use Rattle.record.proofs.check_from_variable_count.Statement.{statement}

@@ -1,5 +1,5 @@
 use Rattle.record.proofs.Laws.{no-counts, variables-refused, variables-passed}
-use Rattle.bits.proofs.Stages.{passed, answer-passes}
+use Rattle.answers.proofs.Stages.{passed, answer-passes}
 use native.Mathlib.Omega.{arith}
 use mathlib.Core.Path.{refl}
 use borrow.Author.Needs.{needs}

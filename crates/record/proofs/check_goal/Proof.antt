@@ -1,8 +1,8 @@
-use Rattle.bits.proofs.Stages.{pass-end}
+use Rattle.answers.proofs.Stages.{pass-end}
 use Prim.Native.Nat.{_+_}
 use Rattle.record.proofs.Laws.{bit-times, goal-above, goal-right}
 use Rattle.bits.proofs.Window.{bitsAt-lt}
-use Rattle.bits.proofs.Stages.{passed, skip, hit, stops}
+use Rattle.answers.proofs.Stages.{passed, skip, hit, stops}
 use Rattle.record.specs.Stages.{goalChecks}
 use native.Mathlib.Omega.{arith}
 use Rattle.record.proofs.check_goal.Statement.{statement}

@@ -1,5 +1,5 @@
 use Rattle.record.proofs.Laws.{value-above, value-right}
-use Rattle.bits.proofs.Stages.{passed, skip, hit, stops}
+use Rattle.answers.proofs.Stages.{passed, skip, hit, stops}
 use Rattle.record.specs.Stages.{initialChecks}
 use native.Mathlib.Omega.{arith}
 use Rattle.record.proofs.check_initial.Statement.{statement}

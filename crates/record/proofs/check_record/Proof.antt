@@ -1,5 +1,5 @@
 use Rattle.record.proofs.Laws.{edition-wrong, edition-right, recordCheck-is}
-use Rattle.bits.proofs.Stages.{passed, skip, hit, stops}
+use Rattle.answers.proofs.Stages.{passed, skip, hit, stops}
 use native.Mathlib.Omega.{arith}
 use Rattle.record.proofs.check_record.Statement.{statement}
 use Rattle.record.proofs.check_record.Tie as tie

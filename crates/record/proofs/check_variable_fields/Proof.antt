@@ -1,6 +1,6 @@
 use Rattle.record.proofs.Laws.{variable-rest}
 use Rattle.bits.proofs.Window.{bitsAt-lt}
-use Rattle.bits.proofs.Stages.{passed, skip, stops}
+use Rattle.answers.proofs.Stages.{passed, skip, stops}
 use Rattle.planning.specs.Record.{variableChecks}
 use native.Mathlib.Omega.{arith}
 use borrow.Author.Needs.{needs}

@@ -1,6 +1,6 @@
 use Rattle.record.proofs.Laws.{Seen, variables-start, variable-stops, variables-turn, variables-done, not-done}
 use Rattle.bits.proofs.Window.{bitsAt-lt}
-use Rattle.bits.proofs.Stages.{passed}
+use Rattle.answers.proofs.Stages.{passed}
 use Prim.Native.Nat.{_+_, _*_, _-_}
 use native.Mathlib.Omega.{arith}
 use Rattle.record.proofs.check_variables.Statement.{statement}

@@ -4,17 +4,17 @@ use Prim.Native.Nat.{_-_, _≤_, _<_}
 use native.Mathlib.Omega.{arith}
 use borrow.Author.Tests.{not-true, not-false}
 use Rattle.planning.specs.Runs.{holds}
-use Rattle.table.specs.Table.{factsIn}
+use Rattle.task.specs.Task.{factsIn}
 use Rattle.state.specs.Sets.{setsOf}
 use Rattle.state.proofs.Effects.{holds-fails, holds-passes, holds-end}
 use Rattle.state.proofs.all_hold.Statement.{statement}
 use Rattle.state.proofs.all_hold.Tie as tie
 
 abbrev Inv-loop : tie.InvT-loop
-Inv-loop masks sets facts from to k₀ k = (from ≤ k) × (k ≤ to) × (holds (setsOf sets) (factsIn facts from to) ≡ holds (setsOf sets) (factsIn facts k to))
+Inv-loop sets facts from to k₀ k = (from ≤ k) × (k ≤ to) × (holds (setsOf sets) (factsIn facts from to) ≡ holds (setsOf sets) (factsIn facts k to))
 
 abbrev μ-loop : tie.MeasureT-loop
-μ-loop masks sets facts from to k₀ k = to - k
+μ-loop sets facts from to k₀ k = to - k
 
 loop-holds : tie.Need-loop-holds Inv-loop μ-loop
 loop-holds c = (search needs, search needs, refl)
@@ -29,10 +29,10 @@ wide-requires : tie.Need-wide-requires Inv-loop μ-loop
 wide-requires c κs = search needs
 
 small : (c : tie.After-wide Inv-loop μ-loop) → c .wide .result < 4096
-small c = omega (arith, c .wide .ensures, c .before .before .before .before .before .pre .3 (c .before .before .before .loop .k) (omega arith) (omega arith))
+small c = omega (arith, c .wide .ensures, c .before .before .before .before .before .pre .2 (c .before .before .before .loop .k) (omega arith) (omega arith))
 
 holds-requires : tie.Need-holds-requires Inv-loop μ-loop
-holds-requires c κs = (omega (arith, small c), omega (arith, small c), search needs)
+holds-requires c κs = small c
 
 returns : tie.Need-returns Inv-loop μ-loop
 returns c = let a = c .before .before .before .before .before .before .before .args in sym (c .before .before .before .before .before .loop .inv .2 ∙ holds-fails (a .facts .now) (c .before .before .before .before .before .loop .k) (a .to) (omega arith) (omega arith) (setsOf (a .sets .now)) _ (c .before .before .wide .ensures) (sym (c .before .holds .ensures) ∙ not-true _ (c .if1 .taken)))

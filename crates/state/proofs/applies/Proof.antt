@@ -1,62 +1,34 @@
-use borrow.Author.Needs.{needs}
-use mathlib.Core.Path.{refl, _∙_}
+use mathlib.Core.Path.{ap, _∙_}
 use native.Mathlib.Omega.{arith}
-use Rattle.state.specs.Sets.{actionOf}
+use Rattle.planning.specs.Record.{Action}
+use Rattle.planning.specs.Runs.{holds}
+use Rattle.task.specs.Task.{actionIn}
+use Rattle.state.specs.Sets.{setsOf}
+use Rattle.state.proofs.Listed.{Listed}
+use Rattle.state.proofs.Listing.{loaded-listed}
+use borrow.Author.Needs.{needs}
 use Rattle.state.proofs.applies.Statement.{statement}
 use Rattle.state.proofs.applies.Tie as tie
 
-mul-wide : tie.Need-mul-wide
-mul-wide c = search needs
+pre-start-requires : tie.Need-pre-start-requires
+pre-start-requires c κs = search needs
 
-add-wide : tie.Need-add-wide
-add-wide c = search needs
-
-mul-wide-2 : tie.Need-mul-wide-2
-mul-wide-2 c = search needs
-
-shared-slice-read-wide : tie.Need-shared-slice-read-wide
-shared-slice-read-wide c = search needs
-
-wide-requires : tie.Need-wide-requires
-wide-requires c κs = search needs
-
-mul-wide-3 : tie.Need-mul-wide-3
-mul-wide-3 c = search needs
-
-add-wide-2 : tie.Need-add-wide-2
-add-wide-2 c = search needs
-
-mul-wide-4 : tie.Need-mul-wide-4
-mul-wide-4 c = search needs
-
-shared-slice-read-wide-2 : tie.Need-shared-slice-read-wide-2
-shared-slice-read-wide-2 c = search needs
-
-wide-requires-2 : tie.Need-wide-requires-2
-wide-requires-2 c κs = search needs
+eff-start-requires : tie.Need-eff-start-requires
+eff-start-requires c κs = search needs
 
 all-hold-requires : tie.Need-all-hold-requires
 all-hold-requires c κs =
-    let L = c .before .before .before .before .before .pre .0 in
-    (omega (arith, L .pre-below, c .before .before .wide .ensures, c .wide2 .ensures), omega (arith, L .eff-below, L .end-below, c .wide2 .ensures), search needs, λ k a b. L .small k (omega (arith, c .before .before .wide .ensures)) (omega (arith, L .eff-below, c .wide2 .ensures)))
+    let L = loaded-listed _ (c .before .before .before .pre .0) _ (c .before .before .before .pre .1) in
+    let from = c .before .pre-start .ensures in
+    let to = c .eff-start .ensures in
+    (omega (arith, L .pre-below, from, to), omega (arith, L .eff-below, L .end-below, to), λ k a b. L .small k (omega (arith, from)) (omega (arith, L .eff-below, to)))
 
 returns : tie.Need-returns
-unfolding actionOf
-returns c = c .all-hold .ensures ∙ rw (c .before .before .before .wide .ensures, c .before .wide2 .ensures) refl
+unfolding actionIn
+returns c =
+    let s = c .before .before .before .before .args .sets .now in
+    let L = loaded-listed _ (c .before .before .before .before .pre .0) _ (c .before .before .before .before .pre .1) in
+    c .all-hold .ensures ∙ rw (c .before .before .pre-start .ensures, c .before .eff-start .ensures) (ap (λ (a : Action). holds (setsOf s) (a .pre)) (L .states))
 
 pub applies-spec : {M : Type 1} → statement M
-applies-spec =
-    tie.close
-    (tie.spec
-    mul-wide
-    add-wide
-    mul-wide-2
-    shared-slice-read-wide
-    wide-requires
-    mul-wide-3
-    add-wide-2
-    mul-wide-4
-    shared-slice-read-wide-2
-    wide-requires-2
-    all-hold-requires
-    returns)
+applies-spec = tie.close (tie.spec pre-start-requires eff-start-requires all-hold-requires returns)

@@ -2,30 +2,29 @@ use borrow.Author.Needs.{needs}
 use Prim.Native.Nat.{_-_, _<_}
 use native.Mathlib.Omega.{arith}
 use lib.ListN.{set}
-use Rattle.planning.specs.Record.{taskOf}
-use Rattle.planning.proofs.Formed.{formed-of}
+use Rattle.task.specs.Task.{taskIn}
 use mathlib.Core.Logic.{⊎-elim}
 use Rattle.state.proofs.Loading.{Painting, painting-start, painting-black, painting-red, painting-end}
 use Rattle.state.proofs.painted.Statement.{statement}
 use Rattle.state.proofs.painted.Tie as tie
 
 abbrev Inv-loop : tie.InvT-loop
-Inv-loop bytes n set₀ v₀ set v = Painting (taskOf bytes) n set v
+Inv-loop task n set₀ v₀ set v = Painting (taskIn task) n set v
 
 abbrev μ-loop : tie.MeasureT-loop
-μ-loop bytes n set₀ v₀ set v = n - v
+μ-loop task n set₀ v₀ set v = n - v
 
 variables-requires : tie.Need-variables-requires Inv-loop μ-loop
 variables-requires c κs = search needs
 
 loop-holds : tie.Need-loop-holds Inv-loop μ-loop
-loop-holds c = painting-start _ _ (formed-of _ (c .before .before .pre)) (c .variables .ensures)
+loop-holds c = painting-start _ _ (c .before .before .pre .formed) (c .variables .ensures)
+
+single-requires : tie.Need-single-requires Inv-loop μ-loop
+single-requires c κs = omega (arith, c .before .loop .inv .over .most)
 
 is-black-requires : tie.Need-is-black-requires Inv-loop μ-loop
-is-black-requires c κs = (c .before .before .before .before .pre, omega (arith, c .before .loop .inv .over .all))
-
-shl-set : tie.Need-shl-set Inv-loop μ-loop
-shl-set c = omega (arith, c .before .before .before .loop .inv .over .most)
+is-black-requires c κs = (c .before .before .before .before .before .pre, omega (arith, c .before .before .loop .inv .over .all))
 
 add-v : tie.Need-add-v Inv-loop μ-loop
 add-v c = search needs
@@ -35,10 +34,10 @@ loop-less c = search needs
 
 loop-again : tie.Need-loop-again Inv-loop μ-loop
 loop-again c =
-    let p = c .before .before .before .loop .inv in
-    let h : c .before .before .before .loop .v < c .before .before .before .before .variables .result = omega arith in
+    let p = c .before .before .before .before .loop .inv in
+    let h : c .before .before .before .before .loop .v < c .before .before .before .before .before .variables .result = omega arith in
     ⊎-elim
-    (λ w. rw (w .1) (painting-black _ _ _ _ p h _ (c .before .is-black .ensures) (w .0 .taken)))
+    (λ w. rw (w .1) (painting-black _ _ _ _ p h _ _ (c .before .is-black .ensures) (w .0 .taken) (c .before .before .single .ensures)))
     (λ w. rw (w .1) (painting-red _ _ _ _ p h _ (c .before .is-black .ensures) (w .0 .left)))
     (c .if1 .came)
 
@@ -53,8 +52,8 @@ painted-spec =
     μ-loop
     variables-requires
     loop-holds
+    single-requires
     is-black-requires
-    shl-set
     add-v
     loop-less
     loop-again

@@ -1,0 +1,20 @@
+use mathlib.Core.Path.{sym, ap}
+use Rattle.answers.specs.Answers.{refusalOf}
+use borrow.Author.Needs.{needs}
+use Rattle.answers.proofs.refusal_of.Statement.{statement}
+use Rattle.answers.proofs.refusal_of.Tie as tie
+
+enum-known-n : tie.Need-enum-known-n
+enum-known-n c = search needs
+
+enum-told : tie.Need-enum-told
+enum-told c = search needs
+
+returns : tie.Need-returns
+returns c = sym (ap refusalOf (c .enum-told .given .1))
+
+returns-2 : tie.Need-returns-2
+returns-2 c = search needs
+
+pub refusal-of-spec : {M : Type 1} → statement M
+refusal-of-spec = tie.close (tie.spec enum-known-n enum-told returns returns-2)

@@ -1,0 +1,45 @@
+// What the parts of the library answer: a check passes or refuses, a search or a reading gives a number or refuses. A refusal has its
+// number in the table and its place.
+ghost use mathlib.Core.Path.{_≡_};
+ghost use Rattle.answers.specs.Answers.{refusalIn, refusalOf};
+
+pub struct Refusal {
+    pub number: u8,
+    pub place: u32,
+}
+
+pub enum Checked {
+    Accepted,
+    Refused(Refusal),
+}
+
+pub enum Number {
+    Value(u32),
+    Refused(Refusal),
+}
+
+// The refusal of a check that has one.
+pub fn refusal_in(c: Checked) -> Refusal
+    ensures { λ f. ⌜ f ≡ refusalIn c ⌝ }
+{
+    let Checked::Refused(f) = c else {
+        return Refusal {
+            number: 0,
+            place: 0,
+        };
+    };
+    f
+}
+
+// The refusal of a number that was not given.
+pub fn refusal_of(n: Number) -> Refusal
+    ensures { λ f. ⌜ f ≡ refusalOf n ⌝ }
+{
+    let Number::Refused(f) = n else {
+        return Refusal {
+            number: 0,
+            place: 0,
+        };
+    };
+    f
+}

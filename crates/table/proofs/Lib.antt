@@ -1,4 +1,0 @@
-pub mod Cut
-pub mod Size
-pub mod Loading
-pub mod Fields

@@ -1,4 +1,0 @@
-pub mod Table
-pub mod Size
-pub mod Loaded
-pub mod Goals

@@ -1,0 +1,6 @@
+pub mod Cut
+pub mod Size
+mod Rows
+pub mod Reading
+pub mod Relinking
+pub mod Loading

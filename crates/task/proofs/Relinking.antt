@@ -1,0 +1,91 @@
+-- What is written into the parts for chains and order leaves the task alone: all that the task is read from lies outside of them.
+use mathlib.Core.Path.{_≡_, refl, sym, ap, _∙_}
+use mathlib.Core.Logic.{_⊎_, inl, inr}
+use mathlib.Core.List.{List}
+use Prim.Native.Nat.{ℕ, zero, suc, _+_, _-_, _*_, _<_, _≤_}
+use native.Mathlib.Omega.{arith}
+use lib.ListN.{length, getD, set, length-set}
+use lib.Seq.{slice, slice-cons, slice-empty, getD-set-other}
+use Rattle.planning.specs.Runs.{actions}
+use Rattle.task.specs.Task.{cell, factsIn, variableIn, actionIn, each, taskIn, preAt, effAt, endAt, Row, Loaded}
+use Rattle.task.specs.Links.{Link, Relinked}
+use Rattle.task.proofs.Reading.{taskIn-variables, taskIn-actions}
+
+pub relinked-none : (task : List ℕ) → Relinked task task
+relinked-none task = record { long = refl; kept = λ k h. refl }
+
+pub relinked-set : (before after : List ℕ) (k w : ℕ) → Link k → Relinked before after → Relinked before (set after k w)
+relinked-set before after k w l R = record {
+  long = length-set after k w ∙ R .long;
+  kept = λ j h. getD-set-other after k j w 0 (λ q. h (rw q l)) ∙ R .kept j h;
+}
+
+pub relinked-trans : (a b c : List ℕ) → Relinked a b → Relinked b c → Relinked a c
+relinked-trans a b c R S = record { long = S .long ∙ R .long; kept = λ k h. S .kept k h ∙ R .kept k h }
+
+-- equal numbers from f up to t make equal parts
+slice-same : (n f t : ℕ) (a b : List ℕ) → t ≡ f + n → t ≤ length a → t ≤ length b → ((k : ℕ) → f ≤ k → k < t → getD a k 0 ≡ getD b k 0) → slice f t a ≡ slice f t b
+slice-same zero f t a b e la lb h = let q : t ≡ f = omega arith in rw q (slice-empty f a ∙ sym (slice-empty f b))
+slice-same (suc n) f t a b e la lb h =
+    slice-cons f t a 0 (omega arith) la
+    ∙ rw (h f (omega arith) (omega arith), slice-same n (suc f) t a b (omega arith) la lb (λ k x y. h k (omega arith) y)) refl
+    ∙ sym (slice-cons f t b 0 (omega arith) lb)
+
+each-same : {A : Type 0} (f g : ℕ → A) (a n : ℕ) → ((k : ℕ) → a ≤ k → k < a + n → f k ≡ g k) → each f a n ≡ each g a n
+unfolding each
+each-same f g a zero h = refl
+each-same f g a (suc n) h = rw (h a (omega arith) (omega arith), each-same f g (suc a) n (λ k x y. h k (omega arith) (omega arith))) refl
+
+outside-head : (k : ℕ) → k < 260 → (k ≡ 2 → ⊥) → Link k → ⊥
+outside-head k h n (inl e) = n e
+outside-head k h n (inr e) = omega (arith, e .0)
+
+outside-rows : (k : ℕ) → 5444 ≤ k → Link k → ⊥
+outside-rows k h (inl e) = omega arith
+outside-rows k h (inr e) = omega (arith, e .1)
+
+module _ (before after : List ℕ) (L : Loaded before) (R : Relinked before after) where
+  head-kept : (k : ℕ) → k < 260 → (k ≡ 2 → ⊥) → getD after k 0 ≡ getD before k 0
+  head-kept k h n = R .kept k (outside-head k h n)
+
+  rows-kept : (k : ℕ) → 5444 ≤ k → getD after k 0 ≡ getD before k 0
+  rows-kept k h = R .kept k (outside-rows k h)
+
+  cell-kept : (i d : ℕ) → cell after (1361 + i) d ≡ cell before (1361 + i) d
+  cell-kept i d = rows-kept (4 * (1361 + i) + d) (omega arith)
+
+  variable-kept : (v : ℕ) → v < 64 → variableIn after v ≡ variableIn before v
+  unfolding variableIn
+  variable-kept v h =
+      let k : (d : ℕ) → d < 4 → cell after (1 + v) d ≡ cell before (1 + v) d = λ d l. head-kept (4 * (1 + v) + d) (omega arith) (λ q. omega arith) in
+      rw (k 0 (omega arith), k 1 (omega arith), k 2 (omega arith), k 3 (omega arith)) refl
+
+  facts-kept : (a b : ℕ) → 5444 ≤ a → a ≤ b → b ≤ length before → factsIn after a b ≡ factsIn before a b
+  unfolding factsIn
+  facts-kept a b h l m = rw (slice-same (b - a) a b after before (omega arith) (omega (arith, R .long)) m (λ k x y. rows-kept k (omega arith))) refl
+
+  action-kept : (i : ℕ) → i < actions (taskIn before) → actionIn after i ≡ actionIn before i
+  unfolding actionIn
+  action-kept i h =
+      let r = L .rows i h in
+      rw (cell-kept i 0, cell-kept i 1, cell-kept i 2, cell-kept i 3, facts-kept (preAt before i) (effAt before i) (r .behind) (r .pre-below) (omega (arith, r .eff-below, r .end-below)), facts-kept (effAt before i) (endAt before i) (omega (arith, r .behind, r .pre-below)) (r .eff-below) (r .end-below)) refl
+
+  pub relinked-task : taskIn after ≡ taskIn before
+  unfolding taskIn
+  relinked-task =
+      let e₀ = head-kept 0 (omega arith) (λ q. omega arith) in
+      let e₁ = head-kept 1 (omega arith) (λ q. omega arith) in
+      rw (e₀, e₁, each-same (variableIn after) (variableIn before) 0 (cell before 0 0) (λ v x y. variable-kept v (omega (arith, L .formed .variables-max, taskIn-variables before))), each-same (actionIn after) (actionIn before) 0 (cell before 0 1) (λ i x y. action-kept i (omega (arith, taskIn-actions before)))) refl
+
+  pub relinked-loaded : Loaded after
+  relinked-loaded = record {
+    formed = rw relinked-task (L .formed);
+    head = omega (arith, L .head, R .long);
+    rows = λ i h. let r = L .rows i (omega (arith, ap actions relinked-task)) in record {
+      room = omega (arith, r .room, R .long);
+      behind = omega (arith, r .behind, cell-kept i 1);
+      pre-below = omega (arith, r .pre-below, cell-kept i 1, cell-kept i 2);
+      eff-below = omega (arith, r .eff-below, cell-kept i 2, cell-kept i 3);
+      end-below = omega (arith, r .end-below, cell-kept i 3, R .long);
+    };
+  }

@@ -1,0 +1,5 @@
+pub mod Task
+pub mod Links
+pub mod Size
+pub mod Loading
+pub mod Goals

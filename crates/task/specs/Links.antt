@@ -1,0 +1,56 @@
+-- The parts of a loaded task that are written once the painting is looked at: chains of actions by the black fact that they set, and
+-- the clients-first order. Check 8 and the search for paths go through a chain instead of all actions.
+use mathlib.Core.Path.{_≡_}
+use mathlib.Core.Logic.{_⊎_}
+use mathlib.Core.List.{List}
+use mathlib.Core.Option.{none}
+use Prim.Native.Nat.{ℕ, _+_, _*_, _<_, _≤_}
+use lib.Dec.{T}
+use lib.ListN.{length, getD}
+use lib.Seq.{slice}
+use Rattle.planning.specs.Record.{Task}
+use Rattle.planning.specs.Runs.{has, actions, act, black}
+use Rattle.planning.specs.Painting.{cyclic, unreturned}
+use Rattle.planning.specs.Repair.{order}
+use Rattle.task.specs.Task.{cell, taskIn, Loaded}
+
+abbrev pub headAt : List ℕ → ℕ → ℕ
+headAt task f = getD task (324 + f) 0
+
+abbrev pub nextAt : List ℕ → ℕ → ℕ
+nextAt task i = getD task (4420 + i) 0
+
+unfoldable pub orderIn : List ℕ → List ℕ
+orderIn task = slice 260 (260 + cell task 0 2) task
+
+-- x is the least number from a on, below n, that P holds of; 65,535 if there is none
+pub record Next (n : ℕ) (P : ℕ → Type 0) (a x : ℕ) : Type 0 where
+  pub least : (j : ℕ) → a ≤ j → j < n → j < x → P j → ⊥
+  pub found : (x ≡ 65535) ⊎ ((a ≤ x) × (x < n) × P x)
+
+-- action i sets v to e
+abbrev pub Sets : Task → ℕ → ℕ → ℕ → Type 0
+Sets t v e i = T (has (act t i .eff) v e)
+
+-- for each fact of a black variable the actions that set it, rising: the first of them, and the next behind each
+pub record Chained (t : Task) (task : List ℕ) : Type 0 where
+  pub heads : (v e : ℕ) → v < 64 → e < 64 → T (black t v) → Next (actions t) (Sets t v e) 0 (headAt task (64 * v + e))
+  pub links : (v e i : ℕ) → T (black t v) → i < actions t → Sets t v e i → Next (actions t) (Sets t v e) (i + 1) (nextAt task i)
+
+-- what searches and repair stand on: a loaded task whose painting passed, with its chains and its order
+pub record Prepared (task : List ℕ) : Type 0 where
+  pub loaded : Loaded task
+  pub acyclic : cyclic (taskIn task) ≡ none
+  pub returns : unreturned (taskIn task) ≡ none
+  pub chained : Chained (taskIn task) task
+  pub few : cell task 0 2 ≤ 64
+  pub ordered : orderIn task ≡ order (taskIn task)
+
+-- a place of the three parts, or of the number of black variables
+abbrev pub Link : ℕ → Type 0
+Link k = (k ≡ 2) ⊎ ((260 ≤ k) × (k < 5444))
+
+-- the list differs from what it was before in such places alone
+pub record Relinked (before after : List ℕ) : Type 0 where
+  pub long : length after ≡ length before
+  pub kept : (k : ℕ) → (Link k → ⊥) → getD after k 0 ≡ getD before k 0

@@ -1,0 +1,81 @@
+-- The loaded task: one list of numbers, in rows of four.
+--   row 0          the number of variables, the number of actions, the number of black variables in the order, 0
+--   row 1 + v      variable v: its count of values, 1 if it is black, its initial value, its goal (64 + value, or 0 for none)
+--   from 260 on    the clients-first order of the black variables                              64 places
+--   from 324 on    for each fact 64 × variable + value the first action that sets it           4,096 places
+--   from 4,420 on  for each action the next one that sets the same black fact                  1,024 places
+--   row 1361 + i   action i: its cost, where its preconditions start, where its effects start, where they end
+--   behind         facts, each 64 × variable + value
+-- The loader writes all but the three parts from 260 on, which are written once the painting is looked at (Links.antt).
+use mathlib.Core.List.{List, [], _∷_, map}
+use Prim.Native.Nat.{ℕ, zero, suc, _+_, _*_, _/_, _%_, _<_, _≤_}
+use lib.Dec.{eqb}
+use lib.ListN.{length, getD}
+use lib.Seq.{slice}
+use Rattle.planning.specs.Record.{Fact, Action, Variable, Task, goalOf}
+use Rattle.planning.specs.Runs.{actions}
+use Rattle.planning.proofs.Formed.{Formed}
+
+abbrev pub cell : List ℕ → ℕ → ℕ → ℕ
+cell task r k = getD task (4 * r + k) 0
+
+unfoldable pub factOf : ℕ → Fact
+factOf w = record { var = w / 64; val = w % 64 }
+
+-- the facts in the numbers from place a up to place b
+unfoldable pub factsIn : List ℕ → ℕ → ℕ → List Fact
+factsIn task a b = map factOf (slice a b task)
+
+unfoldable pub variableIn : List ℕ → ℕ → Variable
+variableIn task v = record {
+  count = cell task (1 + v) 0;
+  black = eqb (cell task (1 + v) 1) 1;
+  init = cell task (1 + v) 2;
+  goal = goalOf (cell task (1 + v) 3 / 64) (cell task (1 + v) 3 % 64);
+}
+
+-- the fields of action i
+abbrev pub costAt : List ℕ → ℕ → ℕ
+costAt task i = cell task (1361 + i) 0
+
+abbrev pub preAt : List ℕ → ℕ → ℕ
+preAt task i = cell task (1361 + i) 1
+
+abbrev pub effAt : List ℕ → ℕ → ℕ
+effAt task i = cell task (1361 + i) 2
+
+abbrev pub endAt : List ℕ → ℕ → ℕ
+endAt task i = cell task (1361 + i) 3
+
+unfoldable pub actionIn : List ℕ → ℕ → Action
+actionIn task i = record {
+  cost = costAt task i;
+  pre = factsIn task (preAt task i) (effAt task i);
+  eff = factsIn task (effAt task i) (endAt task i);
+}
+
+-- f a, f (a + 1) and so on, n of them
+unfoldable pub each : {A : Type 0} → (ℕ → A) → ℕ → ℕ → List A
+each f a zero = []
+each f a (suc n) = f a ∷ each f (suc a) n
+
+-- the task that the list states
+unfoldable pub taskIn : List ℕ → Task
+taskIn task = record {
+  vars = each (variableIn task) 0 (cell task 0 0);
+  acts = each (actionIn task) 0 (cell task 0 1);
+}
+
+-- row r says where facts stand, and they are there, behind the fixed parts
+pub record Row (task : List ℕ) (r : ℕ) : Type 0 where
+  pub room : 4 * r + 4 ≤ length task
+  pub behind : 5444 ≤ cell task r 1
+  pub pre-below : cell task r 1 ≤ cell task r 2
+  pub eff-below : cell task r 2 ≤ cell task r 3
+  pub end-below : cell task r 3 ≤ length task
+
+-- the list states a task of an accepted record
+pub record Loaded (task : List ℕ) : Type 0 where
+  pub formed : Formed (taskIn task)
+  pub head : 5444 ≤ length task
+  pub rows : (i : ℕ) → i < actions (taskIn task) → Row task (1361 + i)
