@@ -2,11 +2,11 @@
 ghost use mathlib.Core.Path.{_≡_};
 ghost use mathlib.Core.Option.{none};
 ghost use Prim.Native.Nat.{_+_, _*_, _<_, _≤_};
-ghost use lib.ListN.{length};
+ghost use lib.ListN.{length, getD};
 ghost use Rattle.planning.specs.Record.{taskOf, recordCheck, variablesIn, actionsIn};
 ghost use Rattle.planning.specs.Runs.{variables, actions, variable, count, black};
 ghost use Rattle.task.specs.Task.{taskIn, Loaded, costAt, preAt, effAt, endAt};
-ghost use Rattle.task.specs.Links.{headAt, nextAt};
+ghost use Rattle.task.specs.Links.{headAt, nextAt, orderIn, Prepared};
 ghost use Rattle.task.specs.Size.{taskSize};
 ghost use Rattle.task.specs.Loading.{RowWritten, FactsLoaded, Room, ActionLoaded, VariableLoaded, Headed};
 ghost use Rattle.task.specs.Goals.{optionOf};
@@ -114,6 +114,22 @@ pub fn next_setter(task: &[u16], i: usize) -> usize
     ensures { λ r. ⌜ r ≡ nextAt (now (task .entry)) i ⌝ }
 {
     lists::wide(task[4420 + i])
+}
+
+// The number of black variables in the clients-first order.
+pub fn ordered(task: &[u16]) -> usize
+    requires { ⌜ Prepared (now task) ⌝ }
+    ensures { λ r. ⌜ r ≡ length (orderIn (now (task .entry))) ⌝ }
+{
+    lists::wide(task[2])
+}
+
+// The black variable at place p of that order.
+pub fn order_at(task: &[u16], p: usize) -> usize
+    requires { ⌜ Prepared (now task) × (p < length (orderIn (now task))) ⌝ }
+    ensures { λ r. ⌜ r ≡ getD (orderIn (now (task .entry))) p 0 ⌝ }
+{
+    lists::wide(task[260 + p])
 }
 
 // Row r.
