@@ -41,12 +41,7 @@ pub fn need(task: &[u16], i: usize, v: usize) -> usize
     requires { ⌜ Loaded (now task) × (i < actions (taskIn (now task))) ⌝ }
     ensures { λ r. ⌜ Asked (look (act (taskIn (now (task .entry))) i .pre) v) r ⌝ }
 {
-    state::asked(
-        task,
-        task::pre_start(task, i),
-        task::eff_start(task, i),
-        v,
-    )
+    state::asked(task, task::pre_start(task, i), task::eff_start(task, i), v)
 }
 
 // The value to which action i sets v, 64 for none.
@@ -63,7 +58,11 @@ fn sources(task: &[u16], i: usize, v: usize, rest: u64) -> u64
     ensures { λ r. ⌜ ((c : ℕ) → inSet r c ≡ (inSet rest c && fits (look (act (taskIn (now (task .entry))) i .pre) v) c)) ⌝ }
 {
     let d = need(task, i, v);
-    if d < 64 { rest & state::single(d) } else { rest }
+    if d < 64 {
+        rest & state::single(d)
+    } else {
+        rest
+    }
 }
 
 // The values of the set from which action i gives a usable arc of v: none if it is not usable.
@@ -128,14 +127,7 @@ fn arrive(
 }
 
 // The layer behind the layer front: values of the set rest with a usable arc into front, the least action noted for each.
-fn layer(
-    task: &[u16],
-    ever: &[u64; 64],
-    row: &mut [u16],
-    v: usize,
-    front: u64,
-    rest: u64,
-) -> u64
+fn layer(task: &[u16], ever: &[u64; 64], row: &mut [u16], v: usize, front: u64, rest: u64) -> u64
     requires { ⌜ Prepared (now task) × T (black (taskIn (now task)) v) × (length (now row) ≡ 64) ⌝ }
     requires { ⌜ Apart front rest × Marked (taskIn (now task)) (setsOf (now ever)) v front rest 0 (now row) 0 ⌝ }
     ensures { λ r. ⌜ Marked (taskIn (now (task .entry))) (setsOf (now (ever .entry))) v front rest 64 (now (row .exit)) r ⌝ }
