@@ -18,8 +18,8 @@ abbrev pub passOf : Task → State → ℕ → ℕ → List ℕ → List Fact �
 passOf t K v c l w = pass (act t) (pathsOf t K v) v c l w
 
 -- the facts of a whole list of numbers
-abbrev pub wantedIn : List ℕ → List Fact
-wantedIn l = factsIn l 0 (length l)
+abbrev pub factsOf : List ℕ → List Fact
+factsOf l = factsIn l 0 (length l)
 
 -- the value asked by the number d: 64 and more ask none
 unfoldable pub askedBy : ℕ → Option ℕ

@@ -11,7 +11,7 @@ ghost use Rattle.task.specs.Task.{taskIn};
 ghost use Rattle.task.specs.Links.{Prepared};
 ghost use Rattle.state.specs.Sets.{setsOf};
 ghost use Rattle.paths.specs.Paths.{pathsOf, Memo, Put};
-ghost use Rattle.passes.specs.Passes.{askedBy, passOf, wantedIn, Fitting, Entries, Blank, Behind};
+ghost use Rattle.passes.specs.Passes.{askedBy, passOf, factsOf, Fitting, Entries, Blank, Behind};
 
 // The memo with no row in it.
 pub fn forget(memo: &mut [u16])
@@ -80,8 +80,8 @@ pub fn pass(
     out: &mut [u16],
 ) -> Written
     requires { ⌜ Prepared (now task) × T (black (taskIn (now task)) v) × Memo (taskIn (now task)) (setsOf (now ever)) v (now memo) ⌝ }
-    requires { ⌜ (start < count (taskIn (now task)) v) × Entries (taskIn (now task)) (now list) × Fitting (taskIn (now task)) (wantedIn (now wanted)) ⌝ }
-    ensures { λ r. ⌜ Put (now (out .entry)) (now (out .exit)) 0 (passOf (taskIn (now (task .entry))) (setsOf (now (ever .entry))) v start (now (list .entry)) (wantedIn (now (wanted .entry)))) r ⌝ }
+    requires { ⌜ (start < count (taskIn (now task)) v) × Entries (taskIn (now task)) (now list) × Fitting (taskIn (now task)) (factsOf (now wanted)) ⌝ }
+    ensures { λ r. ⌜ Put (now (out .entry)) (now (out .exit)) 0 (passOf (taskIn (now (task .entry))) (setsOf (now (ever .entry))) v start (now (list .entry)) (factsOf (now (wanted .entry)))) r ⌝ }
     ensures { λ _. ⌜ Memo (taskIn (now (task .entry))) (setsOf (now (ever .entry))) v (now (memo .exit)) ⌝ }
 {
     let mut c = start;

@@ -12,14 +12,14 @@ use Rattle.planning.proofs.Formed.{Formed}
 use Rattle.task.specs.Task.{taskIn}
 use Rattle.state.specs.Sets.{setsOf}
 use Rattle.paths.specs.Paths.{pathsOf, Put}
-use Rattle.passes.specs.Passes.{askedBy, wantedIn}
+use Rattle.passes.specs.Passes.{askedBy, factsOf}
 use Rattle.passes.proofs.Putting.{asked-fits}
 use Rattle.passes.proofs.Passing.{Passing, passing-start, passing-fits, passing-turn, passing-long, passing-end}
 use Rattle.passes.proofs.pass.Statement.{statement}
 use Rattle.passes.proofs.pass.Tie as tie
 
 abbrev Inv-loop : tie.InvT-loop
-Inv-loop task ever memo₀ v start list wanted out₀ c₀ e₀ j₀ memo out c e j = Passing (taskIn task) (setsOf ever) v start list (wantedIn wanted) out₀ out memo c e j
+Inv-loop task ever memo₀ v start list wanted out₀ c₀ e₀ j₀ memo out c e j = Passing (taskIn task) (setsOf ever) v start list (factsOf wanted) out₀ out memo c e j
 
 abbrev μ-loop : tie.MeasureT-loop
 μ-loop task ever memo₀ v start list wanted out₀ c₀ e₀ j₀ memo out c e j = length list - j
