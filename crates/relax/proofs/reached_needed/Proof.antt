@@ -14,6 +14,7 @@ use Rattle.relax.proofs.Laws.{reachedNeeded-hit, reachedNeeded-miss, re
 use Rattle.relax.proofs.reached_needed.Statement.{statement}
 use Rattle.relax.proofs.reached_needed.Tie as tie
 
+-- The test over all effects is the test over those from place k on, as none before it was met.
 abbrev Inv-loop : tie.InvT-loop
 Inv-loop needed first task i to k₀ k =
     (to ≡ endAt task i) × (effAt task i ≤ k) × (k ≤ to)
@@ -89,7 +90,7 @@ loop-again c =
     let a = start head .args in
     let I = head .loop .inv in
     let step = reachedNeeded-miss (byOf (a .first .now)) (setsOf (a .needed .now)) (a .i) (a .task .now) _ _ (omega (arith, I .0)) (listed head .end-below) _ (at-wide .wide .ensures)
-        (sym (c .if1 .left) ∙ c .before .first-needed .ensures) in
+    (sym (c .if1 .left) ∙ c .before .first-needed .ensures) in
     (I .0, omega (arith, I .1), omega arith, I .3 ∙ step)
 
 returns-2 : tie.Need-returns-2 Inv-loop μ-loop
