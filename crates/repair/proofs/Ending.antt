@@ -1,14 +1,12 @@
 -- The goals as a front part of a list of facts, and the answer from the front parts of both lists.
 use mathlib.Core.Path.{_≡_, refl, sym, ap, _∙_, subst}
 use mathlib.Core.List.{List, [], _++_, map}
-use mathlib.Core.Option.{none}
 use Prim.Native.Nat.{ℕ, _<_, _≤_, min}
 use native.Mathlib.Omega.{arith}
-use borrow.Author.Tests.{le-leb, lt-leb}
 use lib.Dec.{leb, leb→le}
 use lib.ListN.{length, getD, take}
 use lib.Seq.{take-length, getD-take, length-take-le, take-append-le}
-use Rattle.planning.specs.Basics.{check, refuse, answer, done, refused}
+use Rattle.planning.specs.Basics.{answer}
 use Rattle.planning.specs.Record.{Fact, Task}
 use Rattle.planning.specs.Runs.{State, variables, count, goals}
 use Rattle.planning.specs.Calls.{capacity, capacityOf, roomCheck}
@@ -19,6 +17,7 @@ use Rattle.answers.specs.Answers.{valueOf}
 use Rattle.answers.specs.declared.Number.{Number}
 use Rattle.answers.specs.declared.Number.the-variants.{Value, Refused}
 use Rattle.answers.proofs.Stages.{answer-done}
+use Rattle.lists.proofs.Laying.{capacity-le, room-fits, room-short}
 use Rattle.task.specs.Task.{factOf, factsIn}
 use Rattle.state.specs.Sets.{GoalsOf}
 use Rattle.state.specs.declared.Goals.{Goals}
@@ -52,15 +51,6 @@ module _ (t : Task) (F : Formed t) (g : Goals) (G : GoalsOf t g) (few : g .count
   pub goals-moves : (K s : State) (plan plan′ : List ℕ) (a : ℕ) (r : Written) → Put plan plan′ a (moved t K s (factsOf front)) r → Put plan plan′ a (moved t K s (goals t)) r
   goals-moves K s plan plan′ a r p = subst (λ (w : List Fact). Put plan plan′ a (moved t K s w) r) goals-are p
 
--- the room check decided
-room-fits : (n m : ℕ) → n ≤ m → roomCheck n m ≡ none
-unfolding roomCheck check
-room-fits n m h = rw (le-leb n m h) refl
-
-room-short : (n m : ℕ) → m < n → roomCheck n m ≡ refuse 11 m
-unfolding roomCheck check
-room-short n m h = rw (lt-leb n m h) refl
-
 -- what the front parts of the two lists say of the whole
 module _ (plan work : List ℕ) (less room : ℕ) (ea : less ≡ min (length plan) (length work)) (eb : room ≡ capacity less) where
   room-is : room ≡ capacityOf (length plan) (length work)
@@ -68,8 +58,7 @@ module _ (plan work : List ℕ) (less room : ℕ) (ea : less ≡ min (length pla
   room-is = eb ∙ ap capacity ea
 
   pub room-bounds : (room ≤ length plan) × (room ≤ length work) × (room ≤ 32768)
-  unfolding capacity
-  room-bounds = (omega arith, omega arith, omega arith)
+  room-bounds = let c = capacity-le less in (omega (arith, c), omega (arith, c), omega (arith, c))
 
   front-length : length (take room plan) ≡ room
   front-length = length-take-le room plan (room-bounds .0)

@@ -1,15 +1,15 @@
--- The small loops of the repair: the present value, the copy, the test of black facts, a list run step by step.
+-- The small loops of the repair: the present value, the test of black facts, a list run step by step.
 use mathlib.Core.Path.{_≡_, refl, sym, _∙_, subst}
 use mathlib.Core.Bool.{Bool, true, false, not, _&&_, _||_}
-use mathlib.Core.List.{List, _∷_, _++_, append-assoc}
+use mathlib.Core.List.{List, _∷_}
 use mathlib.Core.Option.{Option, none, some}
-use Prim.Native.Nat.{ℕ, suc, _+_, _-_, _/_, _%_, _<_, _≤_}
+use Prim.Native.Nat.{ℕ, _+_, _-_, _/_, _%_, _<_, _≤_}
 use native.Mathlib.Numerals.{add-one}
 use native.Mathlib.Omega.{arith}
 use native.Mathlib.Decide.{decLt}
 use lib.Dec.{T}
-use lib.ListN.{length, getD, take, drop, set}
-use lib.Seq.{slice, slice-cons, slice-empty, length-slice, getD-take, getD-drop, drop-cons, take-suc, take-length, set-at, length-take-le}
+use lib.ListN.{length, getD, take}
+use lib.Seq.{slice, slice-cons, slice-empty, length-slice, getD-take, getD-drop}
 use Rattle.planning.specs.Basics.{first}
 use Rattle.planning.specs.Record.{Task}
 use Rattle.planning.specs.Runs.{State, Mode, step, run, actions, act}
@@ -111,20 +111,6 @@ module _ {t : Task} {m : Mode} {l : List ℕ} {from to : ℕ} {sets₀ sets : Li
   running-end h =
       let z : k ≡ to = omega (arith, R .within) in
       sym (R .so-far ∙ rw (z, slice-empty to l) refl)
-
--- one entry more is copied
-pub copy-turn : (d s : List ℕ) (k : ℕ) → k < length s → length s ≤ length d → set (take k s ++ drop k d) k (getD s k 0) ≡ take (k + 1) s ++ drop (k + 1) d
-copy-turn d s k h b =
-    rw (
-      drop-cons d k 0 (omega arith),
-      set-at (take k s) (getD d k 0) (drop (suc k) d) (getD s k 0) k (length-take-le k s (omega arith)),
-      add-one,
-      take-suc s k 0 h,
-      append-assoc,
-    ) refl
-
-pub copy-end : (d s : List ℕ) (k : ℕ) → k ≡ length s → take k s ++ drop k d ≡ s ++ drop (length s) d
-copy-end d s k e = rw (e, take-length s) refl
 
 -- a black fact that is not held
 pub unmet-black : (b h x : Bool) → h ≡ x → b ≡ true → not h ≡ (b && not x)

@@ -8,44 +8,18 @@ use state::Goals;
 use state::State;
 ghost use mathlib.Core.Path.{_≡_};
 ghost use mathlib.Core.Bool.{not, _&&_};
-ghost use mathlib.Core.List.{_++_};
-ghost use Prim.Native.Nat.{_/_, _%_, _<_, _≤_, min};
-ghost use lib.ListN.{length, drop};
+ghost use Prim.Native.Nat.{_/_, _%_, _<_, _≤_};
+ghost use lib.ListN.{length};
 ghost use lib.Seq.{slice};
 ghost use Rattle.planning.specs.Runs.{run, variables, actions, count, act, black};
 ghost use Rattle.planning.specs.Repair.{value, blackMet, repaired};
-ghost use Rattle.planning.specs.Calls.{capacity, capacityOf};
+ghost use Rattle.planning.specs.Calls.{capacityOf};
 ghost use Rattle.task.specs.Task.{taskIn, Loaded};
 ghost use Rattle.task.specs.Links.{Prepared};
 ghost use Rattle.state.specs.Sets.{setsOf, modeOf};
 ghost use Rattle.paths.specs.Paths.{Put};
 ghost use Rattle.passes.specs.Passes.{factsOf, Entries};
 ghost use Rattle.repair.specs.Repairs.{Wanted, Lent, filled, moved, stepsFor, lastMoves, Held};
-
-fn lesser(a: usize, b: usize) -> usize
-    ensures { λ r. ⌜ r ≡ min a b ⌝ }
-{
-    if a < b { a } else { b }
-}
-
-// The capacity of a plan list of n entries.
-fn capacity(n: usize) -> usize
-    ensures { λ r. ⌜ r ≡ capacity n ⌝ }
-{
-    lesser(n, 32768)
-}
-
-// The whole list in the front of another.
-fn copy(from: &[u16], to: &mut [u16])
-    requires { ⌜ length (now from) ≤ length (now to) ⌝ }
-    ensures { λ _. ⌜ now (to .exit) ≡ now (from .entry) ++ drop (length (now (from .entry))) (now (to .entry)) ⌝ }
-{
-    let mut k: usize = 0;
-    while k < from.len() {
-        to[k] = from[k];
-        k += 1;
-    }
-}
 
 // The present value of v.
 fn value(task: &[u16], sets: &[u64; 64], v: usize) -> usize
@@ -120,7 +94,7 @@ fn fill(
         let Written::Upto(x) = w else {
             return Written::Long;
         };
-        copy(&work[..x], plan);
+        lists::copy(&work[..x], plan);
         e = x;
         p += 1;
     }
@@ -233,7 +207,7 @@ pub fn repair(task: &[u16], relaxed: &[u16], plan: &mut [u16], work: &mut [u16])
     requires { ⌜ Prepared (now task) × Entries (taskIn (now task)) (now relaxed) ⌝ }
     ensures { λ r. ⌜ Held (repaired (taskIn (now (task .entry))) (now (relaxed .entry))) (now (plan .exit)) (capacityOf (length (now (plan .entry))) (length (now (work .entry)))) r ⌝ }
 {
-    let room = capacity(lesser(plan.len(), work.len()));
+    let room = lists::capacity(lists::lesser(plan.len(), work.len()));
     let mut memo = [0u16; 4160];
     let w = repair_from(
         task,

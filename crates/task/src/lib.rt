@@ -7,7 +7,7 @@ ghost use Rattle.planning.specs.Record.{taskOf, recordCheck, variablesIn, actio
 ghost use Rattle.planning.specs.Runs.{variables, actions, variable, count, black};
 ghost use Rattle.task.specs.Task.{taskIn, Loaded, costAt, preAt, effAt, endAt};
 ghost use Rattle.task.specs.Links.{headAt, nextAt, orderIn, Prepared};
-ghost use Rattle.task.specs.Size.{taskSize};
+ghost use Rattle.task.specs.Size.{taskSize, roomFor};
 ghost use Rattle.task.specs.Loading.{RowWritten, FactsLoaded, Room, ActionLoaded, VariableLoaded, Headed};
 ghost use Rattle.task.specs.Goals.{optionOf};
 
@@ -201,6 +201,19 @@ fn load_variables(bytes: &[u8], task: &mut [u16], n: usize, count: usize)
         load_variable(bytes, task, v);
         v += 1;
     }
+}
+
+// Lengths of a list for a loaded task: one for the short records, one for every record.
+pub const SHORT: usize = 9280;
+
+pub const LONG: usize = 40260;
+
+// A list of SHORT numbers is enough for the record; for any other one of LONG is.
+pub fn is_short(bytes: &[u8]) -> bool
+    requires { ⌜ recordCheck (now bytes) ≡ none ⌝ }
+    ensures { λ r. ⌜ taskSize (now (bytes .entry)) ≤ roomFor r ⌝ }
+{
+    bytes.len() <= 2877
 }
 
 // The task of an accepted record.

@@ -1,6 +1,6 @@
 use Rattle.planning.specs.Calls.{capacity}
-use Rattle.repair.proofs.capacity.Statement.{statement}
-use Rattle.repair.proofs.capacity.Tie as tie
+use Rattle.lists.proofs.capacity.Statement.{statement}
+use Rattle.lists.proofs.capacity.Tie as tie
 
 lesser-requires : tie.Need-lesser-requires
 lesser-requires c κs = tt

@@ -1,9 +1,9 @@
 use mathlib.Core.Path.{sym, _∙_}
 use native.Mathlib.Omega.{arith}
 use lib.ListN.{length}
-use Rattle.forward.proofs.Answers.{room-short, room-fits, laid-short, laid-whole, capacity-le}
-use Rattle.forward.proofs.lay.Statement.{statement}
-use Rattle.forward.proofs.lay.Tie as tie
+use Rattle.lists.proofs.Laying.{room-short, room-fits, laid-short, laid-whole, capacity-le}
+use Rattle.lists.proofs.lay.Statement.{statement}
+use Rattle.lists.proofs.lay.Tie as tie
 
 capacity-requires : tie.Need-capacity-requires
 capacity-requires c κs = tt
@@ -46,7 +46,8 @@ returns-2 c =
     let at-start = at-capacity .before .before .before in
     let a = at-start .args in
     let e = at-capacity .capacity .ensures in
-    (sym (room-fits (length (a .list .now)) _ (omega (arith, e))), c .before .before .blank-from .ensures ∙ laid-whole (a .list .now) (a .plan .now) _ e (at-copy .before .before .if1 .left) _ (at-copy .copy .ensures))
+    let whole = laid-whole (a .list .now) (a .plan .now) _ e (at-copy .before .before .if1 .left) _ (at-copy .copy .ensures) in
+    (sym (room-fits (length (a .list .now)) _ (omega (arith, e))), c .before .before .blank-from .ensures ∙ whole)
 
 pub lay-spec : {M : Type 1} → statement M
 lay-spec =
