@@ -1,3 +1,4 @@
 pub mod Putting
 pub mod Passing
 pub mod Holding
+pub mod Serving

@@ -1,9 +1,9 @@
 -- What a pass is handed, and the paths that it inserts.
 use mathlib.Core.Path.{_≡_}
-use mathlib.Core.Bool.{true, false}
+use mathlib.Core.Bool.{Bool, true, false}
 use mathlib.Core.List.{List, [], _∷_, _++_}
 use mathlib.Core.Option.{Option, none, some}
-use Prim.Native.Nat.{ℕ, _+_, _<_}
+use Prim.Native.Nat.{ℕ, _+_, _/_, _%_, _<_}
 use lib.Dec.{ltb}
 use lib.ListN.{length, getD}
 use Rattle.planning.specs.Record.{Fact, Task}
@@ -16,6 +16,15 @@ use Rattle.paths.specs.declared.Written.{Written}
 -- the pass for v, whose value is c, over the list l, where the facts K are known and the facts w are wanted
 abbrev pub passOf : Task → State → ℕ → ℕ → List ℕ → List Fact → List ℕ
 passOf t K v c l w = pass (act t) (pathsOf t K v) v c l w
+
+-- the pass for the variable of fact f, which it has now
+abbrev pub served : Task → State → ℕ → List ℕ → List Fact → List ℕ
+served t K f l w = passOf t K (f / 64) (f % 64) l w
+
+-- no entry of the list needs a value of v
+unfoldable pub unasked : Task → ℕ → List ℕ → Bool
+unasked t v [] = true
+unasked t v (i ∷ l) = elim (look (act t i .pre) v) [ none ↦ unasked t v l | some d ↦ false ]
 
 -- the facts of a whole list of numbers
 abbrev pub factsOf : List ℕ → List Fact

@@ -5,14 +5,14 @@ ghost use mathlib.Core.Path.{_≡_};
 ghost use mathlib.Core.Bool.{not, _&&_};
 ghost use Prim.Native.Nat.{_/_, _%_, _<_, _≤_};
 ghost use lib.Dec.{T};
-ghost use lib.ListN.{length};
+ghost use lib.ListN.{length, take};
 ghost use Rattle.planning.specs.Runs.{relaxed, step, actions, count, act, black};
 ghost use Rattle.planning.specs.Repair.{toward, after, blackMet};
 ghost use Rattle.task.specs.Task.{taskIn, Loaded};
 ghost use Rattle.task.specs.Links.{Prepared};
 ghost use Rattle.state.specs.Sets.{setsOf, modeOf};
 ghost use Rattle.paths.specs.Paths.{pathsOf, Memo, Covers, Put};
-ghost use Rattle.passes.specs.Passes.{askedBy, passOf, factsOf, Fitting, Entries, Blank, Behind};
+ghost use Rattle.passes.specs.Passes.{askedBy, passOf, served, unasked, factsOf, Fitting, Entries, Blank, Behind};
 
 // The memo with no row in it.
 pub fn forget(memo: &mut [u16])
@@ -110,7 +110,7 @@ pub fn push(w: Written, i: u16, list: &mut [u16]) -> Written
 }
 
 // The pass for v, whose value is c, over the list, into another one.
-pub fn pass(
+fn pass(
     task: &[u16],
     ever: &[u64; 64],
     memo: &mut [u16],
@@ -141,4 +141,51 @@ pub fn pass(
     }
     let d = state::asked(wanted, 0, wanted.len(), v);
     lead_to(task, ever, memo, v, c, d, out, e)
+}
+
+// No entry of the list before place e needs a value of v.
+fn idle(task: &[u16], v: usize, list: &[u16], e: usize) -> bool
+    requires { ⌜ Loaded (now task) × (e ≤ length (now list)) × Entries (taskIn (now task)) (take e (now list)) ⌝ }
+    ensures { λ r. ⌜ r ≡ unasked (taskIn (now (task .entry))) v (take e (now (list .entry))) ⌝ }
+{
+    let mut k: usize = 0;
+    while k < e {
+        if paths::need(task, lists::wide(list[k]), v) < 64 {
+            return false;
+        }
+        k += 1;
+    }
+    true
+}
+
+// The pass for the variable of fact f, its present one, over the list in front of place e. Where no entry needs the variable, the path
+// is written behind the list; else the list is rebuilt in the work list and copied back.
+pub fn serve(
+    task: &[u16],
+    ever: &[u64; 64],
+    memo: &mut [u16],
+    f: usize,
+    want: &[u16],
+    plan: &mut [u16],
+    e: usize,
+    work: &mut [u16],
+) -> Written
+    requires { ⌜ Prepared (now task) × T (black (taskIn (now task)) (f / 64)) × Memo (taskIn (now task)) (setsOf (now ever)) (now memo) ⌝ }
+    requires { ⌜ (f % 64 < count (taskIn (now task)) (f / 64)) × Fitting (taskIn (now task)) (factsOf (now want)) ⌝ }
+    requires { ⌜ (e ≤ length (now plan)) × (length (now work) ≡ length (now plan)) × Entries (taskIn (now task)) (take e (now plan)) ⌝ }
+    ensures { λ r. ⌜ Put (now (plan .entry)) (now (plan .exit)) 0 (served (taskIn (now (task .entry))) (setsOf (now (ever .entry))) f (take e (now (plan .entry))) (factsOf (now (want .entry)))) r ⌝ }
+    ensures { λ _. ⌜ Memo (taskIn (now (task .entry))) (setsOf (now (ever .entry))) (now (memo .exit)) ⌝ }
+{
+    let v = f / 64;
+    let c = f % 64;
+    if idle(task, v, plan, e) {
+        let d = state::asked(want, 0, want.len(), v);
+        return lead_to(task, ever, memo, v, c, d, plan, e);
+    }
+    let w = pass(task, ever, memo, v, c, &plan[..e], want, work);
+    let Written::Upto(n) = w else {
+        return Written::Long;
+    };
+    lists::copy(&work[..n], plan);
+    Written::Upto(n)
 }

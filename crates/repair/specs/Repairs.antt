@@ -2,7 +2,7 @@
 use mathlib.Core.Path.{_≡_}
 use mathlib.Core.Bool.{true, false}
 use mathlib.Core.List.{List, [], _∷_, _++_}
-use Prim.Native.Nat.{ℕ, _/_, _<_, _≤_}
+use Prim.Native.Nat.{ℕ, _/_, _%_, _<_, _≤_}
 use lib.ListN.{length, getD, take}
 use Rattle.planning.specs.Basics.{answer}
 use Rattle.planning.specs.Record.{Fact, Task}
@@ -14,6 +14,12 @@ use Rattle.answers.specs.declared.Number.{Number}
 use Rattle.answers.specs.declared.Number.the-variants.{Value}
 use Rattle.paths.specs.Paths.{pathsOf}
 use Rattle.passes.specs.Passes.{factsOf, Fitting}
+
+-- r is the fact, 64 × variable + value, that v has in the state s
+pub record Present (t : Task) (s : State) (v r : ℕ) : Type 0 where
+  pub of : r / 64 ≡ v
+  pub is : r % 64 ≡ value (count t) s v
+  pub below : r % 64 < count t v
 
 -- facts of the task in a list of numbers
 pub record Wanted (t : Task) (facts : List ℕ) : Type 0 where

@@ -1,5 +1,5 @@
 // The repair of a relaxed plan. Steps so far stand in the front of the plan list, the moves under construction behind them;
-// each pass rebuilds the moves in the work list. Passes only insert and applying only appends, so as soon as steps and moves do
+// a pass that rebuilds the moves does so in the work list. Passes only insert and applying only appends, so as soon as steps and moves do
 // not fit, the whole plan does not.
 use answers::Number;
 use answers::Refusal;
@@ -11,23 +11,27 @@ ghost use mathlib.Core.Bool.{not, _&&_};
 ghost use Prim.Native.Nat.{_/_, _%_, _<_, _≤_};
 ghost use lib.ListN.{length};
 ghost use lib.Seq.{slice};
-ghost use Rattle.planning.specs.Runs.{relaxed, holds, run, variables, actions, count, act, black};
-ghost use Rattle.planning.specs.Repair.{value, blackMet, repaired};
+ghost use Rattle.planning.specs.Runs.{relaxed, holds, run, variables, actions, act, black};
+ghost use Rattle.planning.specs.Repair.{blackMet, repaired};
 ghost use Rattle.planning.specs.Calls.{capacityOf};
 ghost use Rattle.task.specs.Task.{taskIn, Loaded};
 ghost use Rattle.task.specs.Links.{Prepared};
 ghost use Rattle.state.specs.Sets.{setsOf, modeOf};
 ghost use Rattle.paths.specs.Paths.{Memo, Covers, Put};
 ghost use Rattle.passes.specs.Passes.{factsOf, Entries, Blank};
-ghost use Rattle.repair.specs.Repairs.{Wanted, Lent, filled, moved, stepsFor, lastMoves, Held};
+ghost use Rattle.repair.specs.Repairs.{Present, Wanted, Lent, filled, moved, stepsFor, lastMoves, Held};
 
-// The present value of v.
-fn value(task: &[u16], sets: &[u64; 64], v: usize) -> usize
+// The present fact of v.
+fn present(task: &[u16], sets: &[u64; 64], v: usize) -> usize
     requires { ⌜ Loaded (now task) × (v < variables (taskIn (now task))) ⌝ }
-    ensures { λ r. ⌜ (r ≡ value (count (taskIn (now (task .entry)))) (setsOf (now (sets .entry))) v) × (r < count (taskIn (now (task .entry))) v) ⌝ }
+    ensures { λ r. ⌜ Present (taskIn (now (task .entry))) (setsOf (now (sets .entry))) v r ⌝ }
 {
-    let r = paths::next_member(sets[v], 0);
-    if r < task::count(task, v) { r } else { 0 }
+    let x = paths::next_member(sets[v], 0);
+    if x < task::count(task, v) {
+        64 * v + x
+    } else {
+        64 * v
+    }
 }
 
 // The fact f is black and not held.
@@ -126,12 +130,11 @@ fn fill(
     let mut p: usize = 0;
     while p < n {
         let v = task::order_at(task, p);
-        let c = value(task, sets, v);
-        let w = passes::pass(task, ever, memo, v, c, &plan[..e], wanted, work);
+        let f = present(task, sets, v);
+        let w = passes::serve(task, ever, memo, f, wanted, plan, e, work);
         let Written::Upto(x) = w else {
             return Written::Long;
         };
-        lists::copy(&work[..x], plan);
         e = x;
         p += 1;
     }
