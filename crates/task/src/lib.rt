@@ -11,6 +11,11 @@ ghost use Rattle.task.specs.Size.{taskSize};
 ghost use Rattle.task.specs.Loading.{RowWritten, FactsLoaded, Room, ActionLoaded, VariableLoaded, Headed};
 ghost use Rattle.task.specs.Goals.{optionOf};
 
+// How long a list serves every record, and how long one serves a record of at most `SMALL_RECORD` bytes.
+pub const LARGE_TASK: usize = 40260;
+pub const SMALL_TASK: usize = 9280;
+pub const SMALL_RECORD: usize = 2877;
+
 // The number of variables.
 pub fn variables(task: &[u16]) -> usize
     requires { ⌜ Loaded (now task) ⌝ }
