@@ -10,19 +10,8 @@ use Rattle.planning.specs.Record.{Task, taskOf, recordCheck}
 use Rattle.planning.specs.Runs.{Judgement, judgement}
 use Rattle.planning.specs.Calls.{lengthCheck, entriesCheck, judgeCall}
 use Rattle.planning.proofs.Checks.{check-none, inOrder-passed, inOrder-pass}
-use Rattle.answers.specs.declared.Refusal.{Refusal}
-use Rattle.answers.specs.declared.Checked.{Checked}
-use Rattle.answers.specs.declared.Checked.the-variants.{Accepted, Refused}
-use Rattle.answers.specs.Answers.{checkOf}
 use Rattle.judge.specs.Answers.{Entries, listCheck, judgedList}
 use Rattle.judge.proofs.Lists.{entries-below}
-
--- what the check of the record answered, taken apart
-pub accepted : (c : Checked) (s : List ℕ) → c ≡ Accepted → checkOf c ≡ recordCheck s → recordCheck s ≡ none
-accepted c s e h = sym h ∙ ap checkOf e
-
-pub handed-on : (c : Checked) (f : Refusal) (s : List ℕ) → c ≡ Refused f → checkOf c ≡ recordCheck s → recordCheck s ≡ refuse (f .number) (f .place)
-handed-on c f s e h = sym h ∙ ap checkOf e
 
 module _ (s l : List ℕ) where
   pub judge-refused : (n p : ℕ) → recordCheck s ≡ refuse n p → refused n p ≡ judgeCall s l

@@ -5,9 +5,9 @@ use native.Mathlib.Omega.{arith}
 use lib.ListN.{length, drop}
 use Rattle.planning.specs.Calls.{notBelow}
 use Rattle.sheet.proofs.Entries.{entry-passes, entry-fails, no-entry-left}
-use Rattle.sheet.proofs.lowest_over.Statement.{statement}
-use Rattle.sheet.proofs.lowest_over.Tie as tie
-use Rattle.sheet.specs.Answers.{faultAs}
+use Rattle.sheet.proofs.check_each.Statement.{statement}
+use Rattle.sheet.proofs.check_each.Tie as tie
+use Rattle.planning.specs.Basics.{refuseAt}
 
 abbrev Inv-loop : tie.InvT-loop
 Inv-loop list i₀ i = (i ≤ length list) × (notBelow 1024 0 list ≡ notBelow 1024 i (drop i list))
@@ -24,9 +24,12 @@ mul-if1 c = omega arith
 shared-slice-read-if1 : tie.Need-shared-slice-read-if1 Inv-loop μ-loop
 shared-slice-read-if1 c = omega arith
 
+cast-t7 : tie.Need-cast-t7 Inv-loop μ-loop
+cast-t7 c = omega (arith, c .before .before .before .before .pre)
+
 returns : tie.Need-returns Inv-loop μ-loop
-unfolding faultAs
-returns c = sym (c .before .before .before .loop .inv .1 ∙ entry-fails 1024 _ _ (omega arith) (omega arith))
+unfolding refuseAt
+returns c = rw (c .before .before .before .loop .inv .1 ∙ entry-fails 1024 _ _ (omega arith) (omega arith)) refl
 
 add-i : tie.Need-add-i Inv-loop μ-loop
 add-i c = omega arith
@@ -38,11 +41,11 @@ loop-again : tie.Need-loop-again Inv-loop μ-loop
 loop-again c = (omega arith, c .before .before .before .loop .inv .1 ∙ entry-passes 1024 _ _ (omega arith) (omega arith))
 
 returns-2 : tie.Need-returns-2 Inv-loop μ-loop
-unfolding faultAs
-returns-2 c = sym (c .before .loop .inv .1 ∙ no-entry-left 1024 _ _ (omega arith))
+unfolding refuseAt
+returns-2 c = rw (c .before .loop .inv .1 ∙ no-entry-left 1024 _ _ (omega arith)) refl
 
-pub lowest-over-spec : {M : Type 1} → statement M
-lowest-over-spec =
+pub check-each-spec : {M : Type 1} → statement M
+check-each-spec =
     tie.close
     (tie.spec
     Inv-loop
@@ -50,6 +53,7 @@ lowest-over-spec =
     loop-holds
     mul-if1
     shared-slice-read-if1
+    cast-t7
     returns
     add-i
     loop-less
