@@ -12,11 +12,11 @@ use lib.Dec.{T, eqb}
 use lib.ListN.{length, getD, set, length-set}
 use lib.Seq.{slice-cons, slice-empty, getD-set-same, getD-set-other}
 use Rattle.planning.specs.Record.{Fact, Action}
-use Rattle.planning.specs.Runs.{State, Mode, has, touches, holds, step, act}
+use Rattle.planning.specs.Runs.{State, Mode, has, look, touches, holds, step, act}
 use Rattle.planning.proofs.Tests.{F→false}
 use Rattle.planning.proofs.Facts.{has→touches}
 use Rattle.task.specs.Task.{cell, factOf, factsIn, actionIn, taskIn}
-use Rattle.state.specs.Sets.{inSet, setsOf, modeOf, mixed}
+use Rattle.state.specs.Sets.{inSet, setsOf, modeOf, mixed, Asked}
 use Rattle.state.proofs.Listed.{Rising, Listed}
 use Rattle.state.proofs.Members.{inSet-mixed}
 
@@ -85,6 +85,14 @@ module _ (l : List ℕ) (k t : ℕ) (h : k < t) (b : t ≤ length l) where
   unfolding holds factOf
   holds-passes s f ef e = rw (factsIn-cons, ← ef, e) refl
 
+  pub look-here : (v f : ℕ) → f ≡ getD l k 0 → f / 64 ≡ v → Asked (look (factsIn l k t) v) (f % 64)
+  unfolding look factOf
+  look-here v f ef e = rw (factsIn-cons, ← ef, eq-eqb v (f / 64) (sym e), look) (ap (λ (w : ℕ). w % 64) ef, omega arith)
+
+  pub look-later : (v f : ℕ) → f ≡ getD l k 0 → (f / 64 ≡ v → ⊥) → look (factsIn l k t) v ≡ look (factsIn l (k + 1) t) v
+  unfolding look factOf
+  look-later v f ef e = rw (factsIn-cons, ← ef, ne-eqb v (f / 64) (λ q. e (sym q)), look) refl
+
   pub putAll-turn : (m : Mode) (ms : List ℕ) → putAll m (factsIn l k t) ms ≡ putAll m (factsIn l (k + 1) t) (put m (factOf (getD l k 0)) ms)
   unfolding putAll
   putAll-turn m ms = rw factsIn-cons refl
@@ -96,6 +104,10 @@ factsIn-none l k t e = rw (e, slice-empty t l) refl
 pub holds-end : (s : State) (l : List ℕ) (k t : ℕ) → k ≡ t → holds s (factsIn l k t) ≡ true
 unfolding holds
 holds-end s l k t e = rw (factsIn-none l k t e) refl
+
+pub look-end : (l : List ℕ) (k t v : ℕ) → k ≡ t → Asked (look (factsIn l k t) v) 64
+unfolding look
+look-end l k t v e = rw (factsIn-none l k t e) refl
 
 pub putAll-end : (m : Mode) (ms l : List ℕ) (k t : ℕ) → k ≡ t → putAll m (factsIn l k t) ms ≡ ms
 unfolding putAll

@@ -2,6 +2,7 @@
 use mathlib.Core.Path.{_≡_}
 use mathlib.Core.Bool.{Bool, true, false}
 use mathlib.Core.List.{List}
+use mathlib.Core.Option.{Option, none, some}
 use Prim.Native.Nat.{ℕ, _/_, _%_, _^_, _<_, _≤_}
 use lib.Bits.{bitOr}
 use lib.Dec.{eqb}
@@ -37,3 +38,8 @@ pub record GoalsOf (t : Task) (g : Goals) : Type 0 where
 -- values of the task's variables only
 abbrev pub Within : Task → State → Type 0
 Within t s = (v d : ℕ) → s v d ≡ true → (v < variables t) × (d < count t v)
+
+-- r is the value asked, 64 for none
+abbrev pub Asked : Option ℕ → ℕ → Type 0
+Asked none r = r ≡ 64
+Asked (some d) r = (r ≡ d) × (d < 64)

@@ -4,9 +4,9 @@ use task::Goal;
 ghost use mathlib.Core.Path.{_≡_};
 ghost use Prim.Native.Nat.{ℕ, _+_, _*_, _/_, _%_, _^_, _<_, _≤_};
 ghost use lib.ListN.{length, getD};
-ghost use Rattle.planning.specs.Runs.{actions, act, holds, step, initial, black, size};
+ghost use Rattle.planning.specs.Runs.{actions, act, holds, look, step, initial, black, size};
 ghost use Rattle.task.specs.Task.{factsIn, taskIn, Loaded};
-ghost use Rattle.state.specs.Sets.{inSet, mixed, setsOf, modeOf, GoalsOf};
+ghost use Rattle.state.specs.Sets.{inSet, mixed, setsOf, modeOf, GoalsOf, Asked};
 
 // The set of value x alone.
 pub fn single(x: usize) -> u64
@@ -58,6 +58,22 @@ pub fn applies(sets: &[u64; 64], task: &[u16], i: usize) -> bool
         task::pre_start(task, i),
         task::eff_start(task, i),
     )
+}
+
+// The value that the facts from place `from` up to `to` ask of variable v, 64 for none.
+pub fn asked(facts: &[u16], from: usize, to: usize, v: usize) -> usize
+    requires { ⌜ (from ≤ to) × (to ≤ length (now facts)) ⌝ }
+    ensures { λ r. ⌜ Asked (look (factsIn (now (facts .entry)) from to) v) r ⌝ }
+{
+    let mut k = from;
+    while k < to {
+        let f = lists::wide(facts[k]);
+        if f / 64 == v {
+            return f % 64;
+        }
+        k += 1;
+    }
+    64
 }
 
 // The set after an effect: value x alone where the variable acts as black, else x and what was there.
