@@ -1,8 +1,8 @@
 use mathlib.Core.Path.{refl}
 use Rattle.planning.specs.Basics.{code}
 use borrow.Author.Needs.{needs}
-use Rattle.mardiskos.proofs.runs.relaxed_code.Statement.{statement}
-use Rattle.mardiskos.proofs.runs.relaxed_code.Tie as tie
+use Rattle.mardiskos.proofs.number_code.Statement.{statement}
+use Rattle.mardiskos.proofs.number_code.Tie as tie
 
 enum-known-a : tie.Need-enum-known-a
 enum-known-a c = search needs
@@ -21,5 +21,5 @@ returns-2 : tie.Need-returns-2
 unfolding code
 returns-2 c = rw (c .before .before .a .given .1) (c .code-of .ensures)
 
-pub relaxed-code-spec : {M : Type 1} → statement M
-relaxed-code-spec = tie.close (tie.spec enum-known-a enum-told returns code-of-requires returns-2)
+pub number-code-spec : {M : Type 1} → statement M
+number-code-spec = tie.close (tie.spec enum-known-a enum-told returns code-of-requires returns-2)
