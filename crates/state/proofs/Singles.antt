@@ -4,10 +4,13 @@ use mathlib.Core.Bool.{Bool, true, not, _&&_}
 use Prim.Native.Nat.{ℕ, zero, suc, _+_, _^_}
 use Rattle.state.specs.Sets.{inSet}
 
-pub rows : ℕ → Bool
+abbrev rowOf : ℕ → Bool
+rowOf x = inSet (2 ^ x) x && (not (inSet (2 ^ (x + 1)) x) && not (inSet (2 ^ x) (x + 1)))
+
+unfoldable pub rows : ℕ → Bool
 rows zero = true
-rows (suc x) = rows x && (inSet (2 ^ x) x && (not (inSet (2 ^ (x + 1)) x) && not (inSet (2 ^ x) (x + 1))))
+rows (suc x) = rows x && rowOf x
 
 pub singles-computed : rows 64 ≡ true
-unfolding inSet
+unfolding rows inSet
 singles-computed = refl
