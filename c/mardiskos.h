@@ -38,7 +38,7 @@
  *
  * Anything may be handed over: any bytes as a record or a sheet, any numbers as a list, and all of it
  * may be empty, the lists lent for writing too. What stands in these before a call makes no difference.
- * No pointer may be null, also where its length is 0; with length 0 nothing is read or written there.
+ * A pointer may be null where its length is 0: nothing is read or written there.
  * What is lent stays the caller's: it is used only during the call, and no pointer to it is kept.
  * Areas lent for writing must not overlap with anything else lent to the same call. Nothing is
  * allocated. Calls may run at the same time in several threads. 256 KiB of stack are enough.
@@ -57,8 +57,52 @@
 extern "C" {
 #endif
 
+/* The version, as text and as 10,000 * major + 100 * minor + patch. */
+#define MARDISKOS_VERSION "0.1.0"
+#define MARDISKOS_VERSION_NUMBER 100
+
 #define MARDISKOS_NUMBER(code) ((unsigned)((code) % 32))
 #define MARDISKOS_PLACE(code) ((code) / 32)
+
+/* The numbers of the table above. */
+enum mardiskos_number {
+    MARDISKOS_ACCEPTED = 0,
+    MARDISKOS_RECORD_CUT_SHORT = 1,
+    MARDISKOS_WRONG_EDITION = 2,
+    MARDISKOS_WRONG_COUNT = 3,
+    MARDISKOS_WRONG_VALUE = 4,
+    MARDISKOS_WRONG_VARIABLE = 5,
+    MARDISKOS_WRONG_END = 6,
+    MARDISKOS_BLACK_CYCLE = 7,
+    MARDISKOS_NO_RETURN = 8,
+    MARDISKOS_WRONG_ENTRY = 9,
+    MARDISKOS_NO_PLAN = 10,
+    MARDISKOS_NO_ROOM = 11,
+    MARDISKOS_WRONG_SHEET = 12,
+    MARDISKOS_LIST_TOO_LARGE = 13
+};
+
+/* A number in words; never null. */
+static inline const char *mardiskos_words(unsigned number)
+{
+    static const char *const words[] = {
+        "accepted",
+        "the record ends inside or before a field",
+        "the record's edition is not 1",
+        "the count of variables is not 1 to 64, or there are more than 1,024 actions",
+        "a value does not exist in its variable, or a goal value is given where there is no goal",
+        "a fact's variable does not exist, or the variables of a list do not rise",
+        "padding is not 0, or bytes follow the record",
+        "the black causal graph has a cycle",
+        "an arc of a black variable lacks its return",
+        "a list entry is no action or does not apply, or a goal is missed",
+        "no plan exists",
+        "the result is longer than the room lent",
+        "the sheet is cut short, of another edition or over 32,768 steps, or its end is not clean",
+        "the list is over 32,768 entries, or an entry is too large for a sheet",
+    };
+    return number < sizeof words / sizeof words[0] ? words[number] : "no such number";
+}
 
 /* The longest record and the longest sheet in bytes, and the most steps of a plan. */
 #define MARDISKOS_LONGEST_RECORD 49315
