@@ -104,7 +104,10 @@ static inline const char *mardiskos_words(unsigned number)
     return number < sizeof words / sizeof words[0] ? words[number] : "no such number";
 }
 
-/* The longest record and the longest sheet in bytes, and the most steps of a plan. */
+/* The most variables and actions of a record, the longest record and the longest sheet in bytes, and the most
+ * steps of a plan. */
+#define MARDISKOS_MOST_VARIABLES 64
+#define MARDISKOS_MOST_ACTIONS 1024
 #define MARDISKOS_LONGEST_RECORD 49315
 #define MARDISKOS_LONGEST_SHEET 40967
 #define MARDISKOS_MOST_STEPS 32768
