@@ -90,10 +90,10 @@ pub fn judge(record: &[u8], list: &[u16]) -> Result<Judgement, Refusal> {
 
 /// The forward run: until every goal is reached, the lowest applicable action that adds a fact. Refuses with 10 too.
 pub fn forward(record: &[u8]) -> Result<ForwardRun, Refusal> {
-    let mut list = room();
-    let run = lent::forward(record, &mut list);
+    let mut plan = list(MAX_STEPS);
+    let run = lent::forward(record, &mut plan);
     outcome(run.code)?;
-    Ok(ForwardRun { steps: front(list, run.steps), reached: run.reached })
+    Ok(ForwardRun { steps: front(plan, run.steps), reached: run.reached })
 }
 
 /// The relaxed plan: what the forward run needs of itself for the goals. Refuses with 10 too.
@@ -106,10 +106,10 @@ pub fn forward(record: &[u8]) -> Result<ForwardRun, Refusal> {
 /// # }
 /// ```
 pub fn relax(record: &[u8]) -> Result<Vec<u16>, Refusal> {
-    let mut list = room();
-    let found = lent::relax(record, &mut list);
+    let mut plan = list(MAX_STEPS);
+    let found = lent::relax(record, &mut plan);
     outcome(found.code)?;
-    Ok(front(list, found.steps))
+    Ok(front(plan, found.steps))
 }
 
 /// The planner: the repair of the record's relaxed plan, with room for [`MAX_STEPS`]. Refuses with 7, 8, 10 and 11 too.
@@ -124,9 +124,23 @@ pub fn relax(record: &[u8]) -> Result<Vec<u16>, Refusal> {
 /// # }
 /// ```
 pub fn plan(record: &[u8]) -> Result<Plan, Refusal> {
-    let mut list = room();
-    let planned = lent::plan(record, &mut list, &mut room());
-    plan_of(planned, list)
+    plan_within(record, MAX_STEPS)
+}
+
+/// The planner with room for so many steps: a longer plan is refused with 11.
+///
+/// ```
+/// # fn main() -> Result<(), Box<dyn std::error::Error>> {
+/// let record = std::fs::read("../../examples/two-shelves.record")?;
+/// assert_eq!(mardiskos::plan_within(&record, 4)?.steps.len(), 4);
+/// assert_eq!(mardiskos::plan_within(&record, 3).unwrap_err().number(), 11);
+/// # Ok(())
+/// # }
+/// ```
+pub fn plan_within(record: &[u8], room: usize) -> Result<Plan, Refusal> {
+    let (mut plan, mut work) = (list(room), list(room));
+    let planned = lent::plan(record, &mut plan, &mut work);
+    plan_of(planned, plan)
 }
 
 /// The same for the caller's own relaxed plan. Refuses with 7, 8, 13, 9 and 11 too.
@@ -141,9 +155,14 @@ pub fn plan(record: &[u8]) -> Result<Plan, Refusal> {
 /// # Ok(())
 /// # }
 /// ```
-pub fn repair(record: &[u8], list: &[u16]) -> Result<Plan, Refusal> {
-    let mut plan = room();
-    let repaired = lent::repair(record, list, &mut plan, &mut room());
+pub fn repair(record: &[u8], relaxed: &[u16]) -> Result<Plan, Refusal> {
+    repair_within(record, relaxed, MAX_STEPS)
+}
+
+/// The repair with room for so many steps: a longer plan is refused with 11.
+pub fn repair_within(record: &[u8], relaxed: &[u16], room: usize) -> Result<Plan, Refusal> {
+    let (mut plan, mut work) = (list(room), list(room));
+    let repaired = lent::repair(record, relaxed, &mut plan, &mut work);
     plan_of(repaired, plan)
 }
 
@@ -173,14 +192,14 @@ pub fn write_sheet(steps: &[u16], cost: u32, real: bool) -> Result<Vec<u8>, Refu
 /// assert_eq!(mardiskos::read_sheet(&[0x18]).unwrap_err().to_string().split(':').next(), Some("refused 12 5"));
 /// ```
 pub fn read_sheet(bytes: &[u8]) -> Result<Sheet, Refusal> {
-    let mut list = room();
-    let sheet = lent::read_sheet(bytes, &mut list);
+    let mut steps = list(MAX_STEPS);
+    let sheet = lent::read_sheet(bytes, &mut steps);
     outcome(sheet.code)?;
-    Ok(Sheet { steps: front(list, sheet.steps), cost: sheet.cost, real: sheet.real })
+    Ok(Sheet { steps: front(steps, sheet.steps), cost: sheet.cost, real: sheet.real })
 }
 
-fn room() -> Vec<u16> {
-    vec![0; MAX_STEPS]
+fn list(entries: usize) -> Vec<u16> {
+    vec![0; entries]
 }
 
 fn front(mut list: Vec<u16>, steps: u32) -> Vec<u16> {

@@ -4,7 +4,8 @@ mod calls;
 pub mod lent;
 mod refusal;
 
-pub use calls::{check, forward, judge, plan, read_sheet, relax, repair, write_sheet};
+pub use calls::{check, forward, judge, read_sheet, relax, write_sheet};
+pub use calls::{plan, plan_within, repair, repair_within};
 pub use calls::{ForwardRun, Judgement, Plan, Run, Sheet};
 pub use refusal::{outcome, Reason, Refusal};
 
