@@ -28,7 +28,7 @@ MAX_SHEET = 40967
 
 WORDS = (
     "accepted",
-    "the record ends inside or before a field",
+    "the record stops before all its fields are there",
     "the record's edition is not 1",
     "the count of variables is not 1 to 64, or there are more than 1,024 actions",
     "a value does not exist in its variable, or a goal value is given where there is no goal",
@@ -58,7 +58,7 @@ class Refused(Exception):
 
 
 class Run(NamedTuple):
-    """The steps before the first that does not apply, and whether all run and every goal holds at the end."""
+    """How many steps run until one does not apply, and whether all run and reach every goal."""
 
     steps: int
     is_plan: bool
@@ -180,7 +180,7 @@ def judge(record: bytes, actions: Iterable[int]) -> Judgement:
 
 
 def forward(record: bytes) -> ForwardRun:
-    """Until every goal is reached, the lowest applicable action that adds a fact. Refuses with 10 too."""
+    """As long as a goal is missing, the lowest action that applies and reaches something new. Refuses with 10 too."""
     room = _room(MAX_STEPS)
     run = _library.mardiskos_forward(*_bytes(record), *_lend(room))
     _accept(run.code)

@@ -5,7 +5,7 @@ use crate::{lent, outcome, Refusal, MAX_SHEET, MAX_STEPS};
 /// A run of a list of actions.
 #[derive(Clone, Copy, Debug, PartialEq, Eq)]
 pub struct Run {
-    /// The steps before the first that does not apply.
+    /// How many steps run until one does not apply.
     pub steps: usize,
     /// Whether all steps run and every goal holds at the end.
     pub is_plan: bool,
@@ -36,7 +36,7 @@ pub struct Plan {
     pub steps: Vec<u16>,
     /// The sum of the costs of the steps.
     pub cost: u32,
-    /// The steps that run for real before the first that does not apply.
+    /// How many steps run for real until one does not apply.
     pub runs: usize,
     /// Whether it is a plan in a real run.
     pub real: bool,
@@ -88,7 +88,8 @@ pub fn judge(record: &[u8], list: &[u16]) -> Result<Judgement, Refusal> {
     })
 }
 
-/// The forward run: until every goal is reached, the lowest applicable action that adds a fact. Refuses with 10 too.
+/// The forward run: as long as a goal is missing, the lowest action that applies and reaches something new.
+/// Refuses with 10 too.
 pub fn forward(record: &[u8]) -> Result<ForwardRun, Refusal> {
     let mut plan = list(MAX_STEPS);
     let run = lent::forward(record, &mut plan);

@@ -45,7 +45,7 @@ impl Reason {
     /// The reason in words.
     pub fn words(self) -> &'static str {
         match self {
-            RecordCutShort => "the record ends inside or before a field",
+            RecordCutShort => "the record stops before all its fields are there",
             WrongEdition => "the record's edition is not 1",
             WrongCount => {
                 "the count of variables is not 1 to 64, or there are more than 1,024 actions"
