@@ -27,8 +27,8 @@
  * actions count from 0 too. Fields are looked at in their order, and the first fault is told. Room is the
  * length of the list lent, of the shorter one where two are lent, and never more than 32,768.
  *
- * A record and a sheet are unsigned numbers without gaps between them, most significant bit first. Zero bits fill the last
- * byte. Their fields, with their bits:
+ * A record and a sheet are unsigned numbers without gaps between them, most significant bit first. Zero bits fill the
+ * last byte, and nothing follows. Their fields, with their bits:
  *
  *   record   4  the edition, 1
  *            7  how many variables there are, 1 to 64
