@@ -25,6 +25,7 @@ pub struct Judgement {
 /// The forward run of a record.
 #[derive(Clone, Debug, PartialEq, Eq)]
 pub struct ForwardRun {
+    /// The actions taken.
     pub steps: Vec<u16>,
     /// Facts reached.
     pub reached: u32,
@@ -33,6 +34,7 @@ pub struct ForwardRun {
 /// A repaired plan.
 #[derive(Clone, Debug, PartialEq, Eq)]
 pub struct Plan {
+    /// The actions in turn.
     pub steps: Vec<u16>,
     /// The sum of the costs of the steps.
     pub cost: u32,
@@ -52,8 +54,11 @@ impl Plan {
 /// What a plan sheet says.
 #[derive(Clone, Debug, PartialEq, Eq)]
 pub struct Sheet {
+    /// The actions in turn.
     pub steps: Vec<u16>,
+    /// The cost that was written; nothing checks it.
     pub cost: u32,
+    /// The verdict that was written; nothing checks it.
     pub real: bool,
 }
 

@@ -3,22 +3,35 @@
 use std::error::Error;
 use std::fmt;
 
-/// Why the library refused; `reason as u8` is the number.
+/// Why the library refused, with what the place then is; `reason as u8` is the number.
 #[derive(Clone, Copy, Debug, PartialEq, Eq, Hash)]
 #[repr(u8)]
 pub enum Reason {
+    /// The record stops early; the bit where the missing field starts.
     RecordCutShort = 1,
+    /// The record is of another edition; 0.
     WrongEdition = 2,
+    /// Too many variables or actions, or no variable; the bit where the count starts.
     WrongCount = 3,
+    /// A value that its variable does not have; the bit where it starts.
     WrongValue = 4,
+    /// A variable that does not exist or is out of order; the bit where it starts.
     WrongVariable = 5,
+    /// Padding that is not 0, or bytes behind it; the bit where the last field ends.
     WrongEnd = 6,
+    /// Black variables that depend on one another in a circle; the lowest of them.
     BlackCycle = 7,
+    /// An arc without its return; the lowest action with such an arc.
     NoReturn = 8,
+    /// A list entry that is no action or does not apply; its position. A missed goal; the list's length.
     WrongEntry = 9,
+    /// There is no plan; how many facts can be reached.
     NoPlan = 10,
+    /// Too little room; the entries or bytes that there are.
     NoRoom = 11,
+    /// No whole sheet; the bit where the faulty field starts, or where the last step ends.
     WrongSheet = 12,
+    /// A list that is too long; 32,768. An entry that fits no sheet; its position.
     ListTooLarge = 13,
 }
 
@@ -70,8 +83,7 @@ impl Reason {
     }
 }
 
-/// What the library answers instead of a result. The guide (`docs/GUIDE.md`) says of each number what its place
-/// counts: a bit, a variable, an action, an entry, facts reached, or the room lent.
+/// What the library answers instead of a result. [`Reason`] says what the place is.
 ///
 /// ```
 /// use mardiskos::Reason;
@@ -82,7 +94,9 @@ impl Reason {
 /// ```
 #[derive(Clone, Copy, Debug, PartialEq, Eq, Hash)]
 pub struct Refusal {
+    /// Why.
     pub reason: Reason,
+    /// Where, as the reason says.
     pub place: u64,
 }
 
