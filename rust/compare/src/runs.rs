@@ -6,7 +6,7 @@ use compare::lists;
 use compare::suite::{hex, list_hex, same, same_lent, Options};
 use generate::{mixture, Random};
 use mardiskos::lent::{ForwardRun, Judgement, RelaxedPlan};
-use reference::{entry, record, Refusal};
+use reference::{entry, examples, record, Refusal};
 
 const COUNT: usize = 100_000;
 const MOST_ENTRIES: usize = 41_000;
@@ -20,6 +20,7 @@ pub fn run(options: &Options) -> Result<String, String> {
         lent: Lent::new(MOST_ENTRIES),
         calls: 0,
     };
+    runs.examples()?;
     let records = options.count.unwrap_or(COUNT);
     for _ in 0..records {
         let bytes = mixture::record(&mut runs.random);
@@ -39,6 +40,19 @@ struct Runs {
 }
 
 impl Runs {
+    /// The store examples: every short list judged, every short length lent.
+    fn examples(&mut self) -> Result<(), String> {
+        for (_, bytes) in examples::files() {
+            let task = record::read(&bytes).unwrap_or_default();
+            lists::every_short(&task).iter().try_for_each(|list| self.judge(&bytes, list))?;
+            for len in 0..8 {
+                self.forward(&bytes, len)?;
+                self.relax(&bytes, len)?;
+            }
+        }
+        Ok(())
+    }
+
     fn judge_several(&mut self, bytes: &[u8]) -> Result<(), String> {
         let task = record::read(bytes).unwrap_or_default();
         for _ in 0..4 {
