@@ -1,4 +1,4 @@
-// Plan sheets: a list of steps, its cost and its verdict, written into bytes that the caller lends and read from bytes.
+// Plan sheets (clause 8): a list of steps, its cost and its verdict, written into bytes that the caller lends and read from bytes.
 use answers::Checked;
 use answers::Number;
 use answers::Refusal;
@@ -176,7 +176,7 @@ fn refused(place: u32) -> Reading
     Reading::Refused(Refusal { number: 12, place })
 }
 
-// "zero bits to a whole byte", and nothing behind
+// the padding is 0 and there is no byte behind it (8.4)
 fn ends(bytes: &[u8], end: usize) -> bool
     requires { ⌜ (end ≤ 8 * length (now bytes)) × (end ≤ 400000) ⌝ }
     ensures { λ r. ⌜ r ≡ endsAt (now (bytes .entry)) end ⌝ }
