@@ -14,15 +14,15 @@ use lib.Dec.{T, T-not, not-T, eqb, eqb→eq, eqb-refl}
 use lib.ListN.{length, getD, set, length-set, replicate, length-replicate, getD-replicate, List·getD-eq-default}
 use lib.Seq.{getD-set-same, getD-set-other}
 use Rattle.planning.specs.Basics.{tally, first}
-use Rattle.planning.specs.Record.{Action}
-use Rattle.planning.specs.Runs.{State, has, holds}
+use Rattle.planning.specs.Runs.{State, has, holds, act}
 use Rattle.planning.specs.Relaxed.{adds}
 use Rattle.planning.proofs.Tests.{and-l, and-r, and-i, or-l, or-r, or-cases}
 use Rattle.planning.proofs.Below.{First, First?, first-is, tally-le, tally-cases}
 use Rattle.planning.proofs.Facts.{_⊆_, holds→sub, sub→holds}
+use Rattle.task.specs.Task.{preAt, effAt, taskIn}
 use Rattle.state.specs.Sets.{setsOf}
 use Rattle.state.proofs.Members.{inSet-empty}
-use Rattle.forward.specs.Waiting.{reaches, member, Lowest, With, Without, Settled, goes, waits, mem, Each, Chain, Sites}
+use Rattle.forward.specs.Waiting.{reaches, member, Passing, Lowest, With, Without, headAt, linkAt, placeAt, hung, Looked, Settles, goes, waits, mem, Each, Chain, Sites}
 
 -- a function changed at one place
 pub put : {B : Type 0} → (ℕ → B) → ℕ → B → ℕ → B
@@ -108,29 +108,63 @@ first-none-is n p h = go (first n p) (first-is n p)
     go (some j) G = absurd (h j (G .below) (G .passes))
 
 -- chains
-chain-distinct : (next : List ℕ) (l : List ℕ) (h : ℕ) → Chain next h l → Distinct l
-chain-distinct next [] h c = tt
-chain-distinct next (j ∷ l) h c = (c .2, chain-distinct next l (getD next j 0) (c .3))
+chain-distinct : (work : List ℕ) (l : List ℕ) (h : ℕ) → Chain work h l → Distinct l
+chain-distinct work [] h c = tt
+chain-distinct work (j ∷ l) h c = (c .2, chain-distinct work l (linkAt work j) (c .3))
 
-chain-set : (next : List ℕ) (j x : ℕ) (l : List ℕ) (h : ℕ) → Each (λ i. i ≢ j) l → Chain next h l → Chain (set next j x) h l
-chain-set next j x [] h n c = c
-chain-set next j x (i ∷ l) h n c = (c .0, c .1, c .2, rw (getD-set-other next j i x 0 (n .0)) (chain-set next j x l (getD next i 0) (n .1) (c .3)))
+-- links that are the same make the same chain
+chain-same : (work new : List ℕ) (P : ℕ → Type 0) → ((i : ℕ) → P i → i < 1024 → linkAt new i ≡ linkAt work i) → (l : List ℕ) (h : ℕ) → Each P l → Chain work h l → Chain new h l
+chain-same work new P f [] h p c = c
+chain-same work new P f (i ∷ l) h p c = (c .0, c .1, c .2, rw (f i (p .0) (c .1)) (chain-same work new P f l (linkAt work i) (p .1) (c .3)))
 
-empty-by-end : (next : List ℕ) (l : List ℕ) (h : ℕ) → Chain next h l → 1024 ≤ h → l ≡ []
-empty-by-end next [] h c e = refl
-empty-by-end next (j ∷ l) h c e = absurd (omega (arith, c .0, c .1))
+empty-by-end : (work : List ℕ) (l : List ℕ) (h : ℕ) → Chain work h l → 1024 ≤ h → l ≡ []
+empty-by-end work [] h c e = refl
+empty-by-end work (j ∷ l) h c e = absurd (omega (arith, c .0, c .1))
 
 empty-by-length : (l : List ℕ) → length l ≤ 0 → l ≡ []
 empty-by-length [] e = refl
 empty-by-length (j ∷ l) e = absurd (omega arith)
 
-module _ (act : ℕ → Action) (A : ℕ) (s owed : State) (head next ready : List ℕ) where
+-- action h in front of the chain of f: what the list then says
+module _ (work : List ℕ) (f h : ℕ) (n : length work ≡ 6144) (g : f < 4096) (b : h < 1024) where
+  abbrev linked : List ℕ
+  linked = set work (4096 + h) (headAt work f)
+
+  hung-long : length (hung work f h) ≡ 6144
+  unfolding hung
+  hung-long = simp length-set n
+
+  hung-head : headAt (hung work f h) f ≡ h
+  unfolding hung
+  hung-head = getD-set-same linked f h 0 (rw length-set (omega arith))
+
+  hung-heads : (x : ℕ) → x < 4096 → x ≢ f → headAt (hung work f h) x ≡ headAt work x
+  unfolding hung
+  hung-heads x l q = getD-set-other linked f x h 0 q ∙ getD-set-other work (4096 + h) x (headAt work f) 0 (omega arith)
+
+  hung-link : linkAt (hung work f h) h ≡ headAt work f
+  unfolding hung
+  hung-link = getD-set-other linked f (4096 + h) h 0 (omega arith) ∙ getD-set-same work (4096 + h) (headAt work f) 0 (omega arith)
+
+  hung-links : (i : ℕ) → i ≢ h → linkAt (hung work f h) i ≡ linkAt work i
+  unfolding hung
+  hung-links i q = getD-set-other linked f (4096 + i) h 0 (omega arith) ∙ getD-set-other work (4096 + h) (4096 + i) (headAt work f) 0 (omega arith)
+
+  hung-places : (j : ℕ) → placeAt (hung work f h) j ≡ placeAt work j
+  unfolding hung
+  hung-places j = getD-set-other linked f (5120 + j) h 0 (omega arith) ∙ getD-set-other work (4096 + h) (5120 + j) (headAt work f) 0 (omega arith)
+
+-- places that are passed stay passed in a larger state
+pub passing-up : (s s′ : State) (l : List ℕ) (a b k : ℕ) → s ⊆ s′ → Passing s l a b k → Passing s′ l a b k
+unfolding reaches
+passing-up s s′ l a b k up P = record { from = P .from; to = P .to; passed = λ x p q. up (getD l x 0 / 64) (getD l x 0 % 64) (P .passed x p q) }
+
+module _ {task : List ℕ} {A : ℕ} {s owed : State} {work ready : List ℕ} where
   -- nothing is left to settle
-  at-rest : (h n : ℕ) (S : Sites act A s owed head next ready h n) → S .rest ≡ [] → Sites act A s owed head next ready 65535 0
-  at-rest h n S e = record {
+  at-rest : {h n : ℕ} (S : Sites task A s owed work ready h n) → S .rest ≡ [] → Sites task A s owed work ready 65535 0
+  at-rest S e = record {
     few = S .few;
-    head-long = S .head-long;
-    next-long = S .next-long;
+    long = S .long;
     ready-long = S .ready-long;
     w = S .w;
     line = S .line;
@@ -146,30 +180,66 @@ module _ (act : ℕ → Action) (A : ℕ) (s owed : State) (head next ready : Li
     unreached = S .unreached;
     out = S .out;
     sound = S .sound;
+    places = S .places;
   }
 
-  pub sites-ended : (h n : ℕ) → Sites act A s owed head next ready h n → 1024 ≤ h → Sites act A s owed head next ready 65535 0
-  sites-ended h n S e = at-rest h n S (empty-by-end next (S .rest) h (S .chained-rest) e)
+  pub sites-ended : {h n : ℕ} → Sites task A s owed work ready h n → 1024 ≤ h → Sites task A s owed work ready 65535 0
+  sites-ended {h} S e = at-rest S (empty-by-end work (S .rest) h (S .chained-rest) e)
 
-  pub sites-spent : (h n : ℕ) → Sites act A s owed head next ready h n → n ≤ 0 → Sites act A s owed head next ready 65535 0
-  sites-spent h n S e = at-rest h n S (empty-by-length (S .rest) (omega (arith, S .left)))
+  pub sites-spent : {h n : ℕ} → Sites task A s owed work ready h n → n ≤ 0 → Sites task A s owed work ready 65535 0
+  sites-spent S e = at-rest S (empty-by-length (S .rest) (omega (arith, S .left)))
+
+  -- the place of action x is noted
+  module _ {h n : ℕ} (S : Sites task A s owed work ready h n) (x p : ℕ) (b : x < 1024) (P : x < A → Looked s task x p) where
+    abbrev noted : List ℕ
+    noted = set work (5120 + x) p
+
+    pub noted-link : (i : ℕ) → i < 1024 → linkAt noted i ≡ linkAt work i
+    noted-link i l = getD-set-other work (5120 + x) (4096 + i) p 0 (omega arith)
+
+    pub sites-noted : Sites task A s owed noted ready h n
+    sites-noted = record {
+      few = S .few;
+      long = simp length-set (S .long);
+      ready-long = S .ready-long;
+      w = S .w;
+      line = S .line;
+      rest = S .rest;
+      left = S .left;
+      chained = λ f l. rw (getD-set-other work (5120 + x) f p 0 (omega arith))
+          (chain-same work noted (λ j. (S .w j ≡ f) × (j < A)) (λ i _. noted-link i) (S .line f) (headAt work f) (S .owns f l) (S .chained f l));
+      chained-rest = chain-same work noted (λ j. (S .w j ≡ 4096) × (j < A)) (λ i _. noted-link i) (S .rest) h (S .owns-rest) (S .chained-rest);
+      owns = S .owns;
+      owns-rest = S .owns-rest;
+      on-line = S .on-line;
+      on-rest = S .on-rest;
+      needs = S .needs;
+      unreached = S .unreached;
+      out = S .out;
+      sound = S .sound;
+      places = λ j l. go j l (ℕ-discrete j x);
+    }
+      where
+        go : (j : ℕ) → j < A → Dec (j ≡ x) → Looked s task j (placeAt noted j)
+        go j l (yes e) = rw (e, getD-set-same work (5120 + x) p 0 (omega (arith, S .long))) (P (omega arith))
+        go j l (no q) = rw (getD-set-other work (5120 + x) (5120 + j) p 0 (omega arith)) (S .places j l)
 
   -- the action in front of those that are left is settled
-  pub record Front (h n : ℕ) (S : Sites act A s owed head next ready h n) : Type 0 where
+  pub record Front (h n : ℕ) (S : Sites task A s owed work ready h n) : Type 0 where
     pub below : h < A
     pub place : S .w h ≡ 4096
     pub tail : List ℕ
     pub short : suc (length tail) ≤ n
-    pub chain : Chain next (getD next h 0) tail
+    pub chain : Chain work (linkAt work h) tail
     pub apart : Each (λ i. i ≢ h) tail
     pub own : Each (λ j. (S .w j ≡ 4096) × (j < A)) tail
     pub others : (j : ℕ) → j ≢ h → j < A → S .w j ≡ 4096 → T (mem j tail)
 
-  pub front : (h n : ℕ) (S : Sites act A s owed head next ready h n) → h < 1024 → Front h n S
+  pub front : {h n : ℕ} (S : Sites task A s owed work ready h n) → h < 1024 → Front h n S
   unfolding mem
-  front h n S b = go (S .rest) (S .left) (S .chained-rest) (S .owns-rest) (S .on-rest)
+  front {h} {n} S b = go (S .rest) (S .left) (S .chained-rest) (S .owns-rest) (S .on-rest)
     where
-      go : (r : List ℕ) → length r ≤ n → Chain next h r → Each (λ j. (S .w j ≡ 4096) × (j < A)) r → ((j : ℕ) → j < A → S .w j ≡ 4096 → T (mem j r)) → Front h n S
+      go : (r : List ℕ) → length r ≤ n → Chain work h r → Each (λ j. (S .w j ≡ 4096) × (j < A)) r → ((j : ℕ) → j < A → S .w j ≡ 4096 → T (mem j r)) → Front h n S
       go [] k c o f = absurd (omega arith)
       go (i ∷ r) k c o f =
           let e = c .0 in
@@ -184,21 +254,23 @@ module _ (act : ℕ → Action) (A : ℕ) (s owed : State) (head next ready : Li
             others = λ j q l p. elim (or-cases (eqb j i) (mem j r) (f j l p)) [ inl z ↦ absurd (q (eqb→eq j i z ∙ sym e)) | inr z ↦ z ];
           }
 
-  module _ (h n : ℕ) (S : Sites act A s owed head next ready h n) (b : h < 1024) where
+  module _ {h n : ℕ} (S : Sites task A s owed work ready h n) (b : h < 1024) where
     F : Front h n S
-    F = front h n S b
+    F = front S b
 
     not-h : (f : ℕ) → f < 4096 → Each (λ i. i ≢ h) (S .line f)
-    not-h f l = each-map (λ i. (S .w i ≡ f) × (i < A)) (λ i. i ≢ h) (λ i o e. let z : S .w h ≡ f = rw e at (o .0) in omega (arith, F .place)) (S .line f) (S .owns f l)
+    not-h f l =
+        each-map (λ i. (S .w i ≡ f) × (i < A)) (λ i. i ≢ h)
+        (λ i o e. let z : S .w h ≡ f = rw e at (o .0) in omega (arith, F .place)) (S .line f) (S .owns f l)
 
     still : (v f : ℕ) (l : List ℕ) → Each (λ i. i ≢ h) l → Each (λ j. (S .w j ≡ f) × (j < A)) l → Each (λ j. (put (S .w) h v j ≡ f) × (j < A)) l
-    still v f l a o = each-both (λ i. i ≢ h) (λ j. (S .w j ≡ f) × (j < A)) (λ j. (put (S .w) h v j ≡ f) × (j < A)) (λ j q p. (put-other (S .w) h v j q ∙ p .0, p .1)) l a o
+    still v f l a o =
+        each-both (λ i. i ≢ h) (λ j. (S .w j ≡ f) × (j < A)) (λ j. (put (S .w) h v j ≡ f) × (j < A)) (λ j q p. (put-other (S .w) h v j q ∙ p .0, p .1)) l a o
 
-    pub settled-goes : (ready′ : List ℕ) → T (holds s (act h .pre)) → With ready h ready′ → Sites act A s owed head next ready′ (getD next h 0) (n - 1)
+    settled-goes : (ready′ : List ℕ) → T (holds s (act (taskIn task) h .pre)) → With ready h ready′ → Sites task A s owed work ready′ (linkAt work h) (n - 1)
     settled-goes ready′ p W = record {
       few = S .few;
-      head-long = S .head-long;
-      next-long = S .next-long;
+      long = S .long;
       ready-long = W .long ∙ S .ready-long;
       w = put (S .w) h 4097;
       line = S .line;
@@ -210,46 +282,51 @@ module _ (act : ℕ → Action) (A : ℕ) (s owed : State) (head next ready : Li
       owns-rest = still 4097 4096 (F .tail) (F .apart) (F .own);
       on-line = put-cases (λ j y. j < A → y < 4096 → T (mem j (S .line y))) (S .w) h 4097 (λ _ l. absurd (omega arith)) (λ j _. S .on-line j);
       on-rest = put-cases (λ j y. j < A → y ≡ 4096 → T (mem j (F .tail))) (S .w) h 4097 (λ _ l. absurd (omega arith)) (λ j q. F .others j q);
-      needs = put-cases (λ j y. j < A → y < 4096 → T (has (act j .pre) (y / 64) (y % 64))) (S .w) h 4097 (λ _ l. absurd (omega arith)) (λ j _. S .needs j);
+      needs = put-cases (λ j y. j < A → y < 4096 → T (has (act (taskIn task) j .pre) (y / 64) (y % 64))) (S .w) h 4097 (λ _ l. absurd (omega arith)) (λ j _. S .needs j);
       unreached = put-cases (λ j y. j < A → y < 4096 → T (reaches s y) → T (reaches owed y)) (S .w) h 4097 (λ _ l. absurd (omega arith)) (λ j _. S .unreached j);
-      out = put-cases (λ j y. j < A → 4096 < y → T (member ready′ j) ⊎ T (holds s (act j .eff))) (S .w) h 4097
+      out = put-cases (λ j y. j < A → 4096 < y → T (member ready′ j) ⊎ T (holds s (act (taskIn task) j .eff))) (S .w) h 4097
           (λ _ _. inl (rw (W .are h) (or-l (eqb h h) (member ready h) (eqb-refl h))))
           (λ j _ l g. elim (S .out j l g) [ inl m ↦ inl (rw (W .are j) (or-r (eqb j h) (member ready j) m)) | inr e ↦ inr e ]);
       sound = λ j m. elim (or-cases (eqb j h) (member ready j) (rw (W .are j) at m)) [
         | inl e ↦ rw (eqb→eq j h e) (F .below, p)
         | inr k ↦ S .sound j k
       ];
+      places = S .places;
     }
 
     module _ (f : ℕ) (g : f < 4096) where
-      abbrev next′ : List ℕ
-      next′ = set next h (getD head f 0)
+      abbrev new : List ℕ
+      new = hung work f h
 
       abbrev line′ : ℕ → List ℕ
       line′ = put (S .line) f (h ∷ S .line f)
 
-      linked : (x : ℕ) (l : List ℕ) → Each (λ i. i ≢ h) l → Chain next x l → Chain next′ x l
-      linked x l a c = chain-set next h (getD head f 0) l x a c
+      relinked : (x : ℕ) (l : List ℕ) → Each (λ i. i ≢ h) l → Chain work x l → Chain new x l
+      relinked x l a c = chain-same work new (λ i. i ≢ h) (λ i q _. hung-links work f h (S .long) g b i q) l x a c
 
       lined : (j y : ℕ) → T (mem j (S .line y)) → T (mem j (line′ y))
       unfolding mem
       lined j = put-cases (λ y l. T (mem j (S .line y)) → T (mem j l)) (S .line) f (h ∷ S .line f) (λ t. or-r (eqb j h) (mem j (S .line f)) t) (λ y _ t. t)
 
-      pub settled-waits : T (has (act h .pre) (f / 64) (f % 64)) → reaches s f ≡ false → Sites act A s owed (set head f h) next′ ready (getD next h 0) (n - 1)
+      settled-waits : T (has (act (taskIn task) h .pre) (f / 64) (f % 64)) → reaches s f ≡ false → Sites task A s owed new ready (linkAt work h) (n - 1)
       unfolding mem
       settled-waits p u = record {
         few = S .few;
-        head-long = simp length-set (S .head-long);
-        next-long = simp length-set (S .next-long);
+        long = hung-long work f h (S .long) g b;
         ready-long = S .ready-long;
         w = put (S .w) h f;
         line = line′;
         rest = F .tail;
         left = omega (arith, F .short);
-        chained = put-cases (λ x l. x < 4096 → Chain next′ (getD (set head f h) x 0) l) (S .line) f (h ∷ S .line f)
-            (λ l. (getD-set-same head f h 0 (omega (arith, S .head-long)), b, not-h f l, rw (getD-set-same next h (getD head f 0) 0 (omega (arith, S .next-long))) (linked (getD head f 0) (S .line f) (not-h f l) (S .chained f l))))
-            (λ x q l. rw (getD-set-other head f x h 0 q) (linked (getD head x 0) (S .line x) (not-h x l) (S .chained x l)));
-        chained-rest = linked (getD next h 0) (F .tail) (F .apart) (F .chain);
+        chained = put-cases (λ x l. x < 4096 → Chain new (headAt new x) l) (S .line) f (h ∷ S .line f)
+            (λ l. (
+              hung-head work f h (S .long) g b,
+              b,
+              not-h f l,
+              rw (hung-link work f h (S .long) g b) (relinked (headAt work f) (S .line f) (not-h f l) (S .chained f l)),
+            ))
+            (λ x q l. rw (hung-heads work f h (S .long) g b x l q) (relinked (headAt work x) (S .line x) (not-h x l) (S .chained x l)));
+        chained-rest = relinked (linkAt work h) (F .tail) (F .apart) (F .chain);
         owns = put-cases (λ x l. x < 4096 → Each (λ j. (put (S .w) h f j ≡ x) × (j < A)) l) (S .line) f (h ∷ S .line f)
             (λ l. ((put-same (S .w) h f, F .below), still f f (S .line f) (not-h f l) (S .owns f l)))
             (λ x q l. still f x (S .line x) (not-h x l) (S .owns x l));
@@ -258,18 +335,18 @@ module _ (act : ℕ → Action) (A : ℕ) (s owed : State) (head next ready : Li
             (λ _ _. rw (put-same (S .line) f (h ∷ S .line f)) (or-l (eqb h h) (mem h (S .line f)) (eqb-refl h)))
             (λ j _ l k. lined j (S .w j) (S .on-line j l k));
         on-rest = put-cases (λ j y. j < A → y ≡ 4096 → T (mem j (F .tail))) (S .w) h f (λ _ l. absurd (omega arith)) (λ j q. F .others j q);
-        needs = put-cases (λ j y. j < A → y < 4096 → T (has (act j .pre) (y / 64) (y % 64))) (S .w) h f (λ _ _. p) (λ j _. S .needs j);
+        needs = put-cases (λ j y. j < A → y < 4096 → T (has (act (taskIn task) j .pre) (y / 64) (y % 64))) (S .w) h f (λ _ _. p) (λ j _. S .needs j);
         unreached = put-cases (λ j y. j < A → y < 4096 → T (reaches s y) → T (reaches owed y)) (S .w) h f (λ _ _ t. absurd (rw u at t)) (λ j _. S .unreached j);
-        out = put-cases (λ j y. j < A → 4096 < y → T (member ready j) ⊎ T (holds s (act j .eff))) (S .w) h f (λ _ l. absurd (omega arith)) (λ j _. S .out j);
+        out = put-cases (λ j y. j < A → 4096 < y → T (member ready j) ⊎ T (holds s (act (taskIn task) j .eff))) (S .w) h f (λ _ l. absurd (omega arith)) (λ j _. S .out j);
         sound = S .sound;
+        places = λ j l. rw (hung-places work f h (S .long) g b j) (S .places j l);
       }
 
-    pub sites-settled : (head′ next′ ready′ : List ℕ) → Settled s (act h) h head next ready head′ next′ ready′ → Sites act A s owed head′ next′ ready′ (getD next h 0) (n - 1)
-    sites-settled head′ next′ ready′ (goes p W eh en) = rw (eh, en) (settled-goes ready′ p W)
-    sites-settled head′ next′ ready′ (waits f g p u eh en er) = rw (eh, en, er) (settled-waits f g p u)
-
   -- the chain of fact f is taken off, to be settled
-  module _ (S : Sites act A s owed head next ready 65535 0) (f : ℕ) (g : f < 4096) where
+  module _ (S : Sites task A s owed work ready 65535 0) (f : ℕ) (g : f < 4096) where
+    abbrev taken : List ℕ
+    taken = set work f 65535
+
     abbrev w′ : ℕ → ℕ
     w′ x = put (λ y. y) f 4096 (S .w x)
 
@@ -287,20 +364,27 @@ module _ (act : ℕ → Action) (A : ℕ) (s owed : State) (head next ready : Li
     unfolding mem
     none-left x b e = rw (empty-by-length (S .rest) (S .left)) at (S .on-rest x b e)
 
-    pub sites-off : (owed′ : State) → ((y : ℕ) → y ≢ f → T (reaches owed y) → T (reaches owed′ y)) → Sites act A s owed′ (set head f 65535) next ready (getD head f 0) 1024
+    rechained : (x : ℕ) → x < 4096 → Chain taken (headAt work x) (S .line x)
+    rechained x l =
+        chain-same work taken (λ j. (S .w j ≡ x) × (j < A)) (λ i _ _. getD-set-other work f (4096 + i) 65535 0 (omega arith)) (S .line x) (headAt work x) (S .owns x l) (S .chained x l)
+
+    pub sites-off : (owed′ : State) → ((y : ℕ) → y ≢ f → T (reaches owed y) → T (reaches owed′ y)) → Sites task A s owed′ taken ready (headAt work f) 1024
     sites-off owed′ o = record {
       few = S .few;
-      head-long = simp length-set (S .head-long);
-      next-long = S .next-long;
+      long = simp length-set (S .long);
       ready-long = S .ready-long;
       w = w′;
       line = put (S .line) f [];
       rest = S .line f;
-      left = omega (arith, S .few, distinct-length A (S .line f) (each-map (λ j. (S .w j ≡ f) × (j < A)) (λ j. j < A) (λ j p. p .1) (S .line f) (S .owns f g)) (chain-distinct next (S .line f) (getD head f 0) (S .chained f g)));
-      chained = put-cases (λ x l. x < 4096 → Chain next (getD (set head f 65535) x 0) l) (S .line) f []
-          (λ l. rw (getD-set-same head f 65535 0 (omega (arith, S .head-long))) (omega arith))
-          (λ x q l. rw (getD-set-other head f x 65535 0 q) (S .chained x l));
-      chained-rest = S .chained f g;
+      left = omega (
+        arith,
+        S .few,
+        distinct-length A (S .line f) (each-map (λ j. (S .w j ≡ f) × (j < A)) (λ j. j < A) (λ j p. p .1) (S .line f) (S .owns f g)) (chain-distinct work (S .line f) (headAt work f) (S .chained f g)),
+      );
+      chained = put-cases (λ x l. x < 4096 → Chain taken (headAt taken x) l) (S .line) f []
+          (λ l. rw (getD-set-same work f 65535 0 (omega (arith, S .long))) (omega arith))
+          (λ x q l. rw (getD-set-other work f x 65535 0 q) (rechained x l));
+      chained-rest = rechained f g;
       owns = put-cases (λ x l. x < 4096 → Each (λ j. (w′ j ≡ x) × (j < A)) l) (S .line) f [] (λ _. tt)
           (λ x q l. each-map (λ j. (S .w j ≡ x) × (j < A)) (λ j. (w′ j ≡ x) × (j < A)) (λ j p. (w-other j (λ e. q (sym (p .0) ∙ e)) ∙ p .0, p .1)) (S .line x) (S .owns x l));
       owns-rest = each-map (λ j. (S .w j ≡ f) × (j < A)) (λ j. (w′ j ≡ 4096) × (j < A)) (λ j p. (w-f j (p .0), p .1)) (S .line f) (S .owns f g);
@@ -309,20 +393,20 @@ module _ (act : ℕ → Action) (A : ℕ) (s owed : State) (head next ready : Li
         | yes q ↦ subst (λ y. T (mem j (S .line y))) q (S .on-line j b (omega arith))
         | no q ↦ absurd (none-left j b (sym (w-other j q) ∙ e))
       ];
-      needs = λ j b l. stays (λ y. y < 4096 → T (has (act j .pre) (y / 64) (y % 64))) j (omega arith) (λ _. S .needs j b) l;
+      needs = λ j b l. stays (λ y. y < 4096 → T (has (act (taskIn task) j .pre) (y / 64) (y % 64))) j (omega arith) (λ _. S .needs j b) l;
       unreached = λ j b l. stays (λ y. y < 4096 → T (reaches s y) → T (reaches owed′ y)) j (omega arith) (λ q k t. o (S .w j) q (S .unreached j b k t)) l;
-      out = λ j b l. stays (λ y. 4096 < y → T (member ready j) ⊎ T (holds s (act j .eff))) j (omega arith) (λ _. S .out j b) l;
+      out = λ j b l. stays (λ y. 4096 < y → T (member ready j) ⊎ T (holds s (act (taskIn task) j .eff))) j (omega arith) (λ _. S .out j b) l;
       sound = S .sound;
+      places = λ j b. rw (getD-set-other work f (5120 + j) 65535 0 (omega arith)) (S .places j b);
     }
 
   -- the state grows, and i, whose effects it then has, leaves the ready ones
-  pub sites-leave : (s′ owed′ : State) (i : ℕ) (ready′ : List ℕ) → Sites act A s owed head next ready 65535 0 → s ⊆ s′ → T (holds s′ (act i .eff))
+  pub sites-leave : (s′ owed′ : State) (i : ℕ) (ready′ : List ℕ) → Sites task A s owed work ready 65535 0 → s ⊆ s′ → T (holds s′ (act (taskIn task) i .eff))
       → ((y : ℕ) → T (reaches s′ y) → T (reaches s y) ⊎ T (reaches owed′ y)) → ((y : ℕ) → T (reaches owed y) → T (reaches owed′ y)) → Without ready i ready′
-      → Sites act A s′ owed′ head next ready′ 65535 0
+      → Sites task A s′ owed′ work ready′ 65535 0
   sites-leave s′ owed′ i ready′ S up e more owes W = record {
     few = S .few;
-    head-long = S .head-long;
-    next-long = S .next-long;
+    long = S .long;
     ready-long = W .long ∙ S .ready-long;
     w = S .w;
     line = S .line;
@@ -337,59 +421,77 @@ module _ (act : ℕ → Action) (A : ℕ) (s owed : State) (head next ready : Li
     needs = S .needs;
     unreached = λ j b l t. elim (more (S .w j) t) [ inl p ↦ owes (S .w j) (S .unreached j b l p) | inr p ↦ p ];
     out = λ j b l. leaves j b (S .out j b l) (ℕ-discrete j i);
-    sound = λ j m. let k = S .sound j (and-l (member ready j) (not (eqb j i)) (rw (W .are j) at m)) in (k .0, grows (act j .pre) (k .1));
+    sound = λ j m. let k = S .sound j (and-l (member ready j) (not (eqb j i)) (rw (W .are j) at m)) in (k .0, grows (act (taskIn task) j .pre) (k .1));
+    places = λ j b. passing-up s s′ task (preAt task j) (effAt task j) (placeAt work j) up (S .places j b);
   }
     where
       grows : (fs : List _) → T (holds s fs) → T (holds s′ fs)
       grows fs t = sub→holds s′ fs (λ v d h. up v d (holds→sub s fs t v d h))
 
-      leaves : (j : ℕ) → j < A → T (member ready j) ⊎ T (holds s (act j .eff)) → Dec (j ≡ i) → T (member ready′ j) ⊎ T (holds s′ (act j .eff))
+      leaves : (j : ℕ) → j < A → T (member ready j) ⊎ T (holds s (act (taskIn task) j .eff)) → Dec (j ≡ i) → T (member ready′ j) ⊎ T (holds s′ (act (taskIn task) j .eff))
       leaves j b p (yes q) = inr (rw q e)
       leaves j b (inl p) (no q) = inl (rw (W .are j, ne-eqb j i q) (and-i (member ready j) true p tt))
-      leaves j b (inr p) (no q) = inr (grows (act j .eff) p)
+      leaves j b (inr p) (no q) = inr (grows (act (taskIn task) j .eff) p)
 
   -- what adds a fact is ready
-  adds-ready : Sites act A s owed head next ready 65535 0 → ((y : ℕ) → T (reaches owed y) → ⊥) → (j : ℕ) → j < A → T (adds act s j) → T (member ready j)
-  unfolding adds reaches mem
-  adds-ready S free j b t = go (ℕ-discrete (S .w j) 4096)
-    where
-      pre : T (holds s (act j .pre))
-      pre = and-l (holds s (act j .pre)) (not (holds s (act j .eff))) t
+  module _ (S : Sites task A s owed work ready 65535 0) (free : (y : ℕ) → T (reaches owed y) → ⊥) where
+    adds-ready : (j : ℕ) → j < A → T (adds (act (taskIn task)) s j) → T (member ready j)
+    unfolding adds reaches mem
+    adds-ready j b t = go (ℕ-discrete (S .w j) 4096)
+      where
+        pre : T (holds s (act (taskIn task) j .pre))
+        pre = and-l (holds s (act (taskIn task) j .pre)) (not (holds s (act (taskIn task) j .eff))) t
 
-      new : T (holds s (act j .eff)) → ⊥
-      new = T-not (holds s (act j .eff)) (and-r (holds s (act j .pre)) (not (holds s (act j .eff))) t)
+        new : T (holds s (act (taskIn task) j .eff)) → ⊥
+        new = T-not (holds s (act (taskIn task) j .eff)) (and-r (holds s (act (taskIn task) j .pre)) (not (holds s (act (taskIn task) j .eff))) t)
 
-      on : S .w j < 4096 → T (member ready j)
-      on l = absurd (free (S .w j) (S .unreached j b l (holds→sub s (act j .pre) pre (S .w j / 64) (S .w j % 64) (S .needs j b l))))
+        on : S .w j < 4096 → T (member ready j)
+        on l = absurd (free (S .w j) (S .unreached j b l (holds→sub s (act (taskIn task) j .pre) pre (S .w j / 64) (S .w j % 64) (S .needs j b l))))
 
-      off : 4096 < S .w j → T (member ready j)
-      off l = elim (S .out j b l) [ inl m ↦ m | inr e ↦ absurd (new e) ]
+        off : 4096 < S .w j → T (member ready j)
+        off l = elim (S .out j b l) [ inl m ↦ m | inr e ↦ absurd (new e) ]
 
-      go : Dec (S .w j ≡ 4096) → T (member ready j)
-      go (yes e) = absurd (rw (empty-by-length (S .rest) (S .left)) at (S .on-rest j b e))
-      go (no n) = elim (below-or (S .w j) 4096 n) [ inl l ↦ on l | inr l ↦ off l ]
+        go : Dec (S .w j ≡ 4096) → T (member ready j)
+        go (yes e) = absurd (rw (empty-by-length (S .rest) (S .left)) at (S .on-rest j b e))
+        go (no n) = elim (below-or (S .w j) 4096 n) [ inl l ↦ on l | inr l ↦ off l ]
 
-  pub sites-none : Sites act A s owed head next ready 65535 0 → ((y : ℕ) → T (reaches owed y) → ⊥) → Lowest ready 1024 → first A (adds act s) ≡ none
-  sites-none S free L = first-none-is A (adds act s) (λ i b t. L .least i (omega (arith, S .few)) (adds-ready S free i b t))
+    pub sites-none : Lowest ready 1024 → first A (adds (act (taskIn task)) s) ≡ none
+    sites-none L = first-none-is A (adds (act (taskIn task)) s) (λ i b t. L .least i (omega (arith, S .few)) (adds-ready i b t))
 
-  pub sites-first : (i : ℕ) → Sites act A s owed head next ready 65535 0 → ((y : ℕ) → T (reaches owed y) → ⊥) → Lowest ready i → i < 1024 → holds s (act i .eff) ≡ false → first A (adds act s) ≡ some i
-  unfolding adds
-  sites-first i S free L b e =
-      let k = S .sound i (L .is b) in
-      first-some-is A (adds act s) i
-      (record { below = k .0; passes = and-i (holds s (act i .pre)) (not (holds s (act i .eff))) (k .1) (rw e tt); least = λ j l t. L .least j l (adds-ready S free j (omega (arith, k .0)) t) })
+    pub sites-first : (i : ℕ) → Lowest ready i → i < 1024 → holds s (act (taskIn task) i .eff) ≡ false → first A (adds (act (taskIn task)) s) ≡ some i
+    unfolding adds
+    sites-first i L b e =
+        let k = S .sound i (L .is b) in
+        first-some-is A (adds (act (taskIn task)) s) i
+        (record {
+          below = k .0;
+          passes = and-i (holds s (act (taskIn task) i .pre)) (not (holds s (act (taskIn task) i .eff))) (k .1) (rw e tt);
+          least = λ j l t. L .least j l (adds-ready j (omega (arith, k .0)) t);
+        })
+
+-- an action is settled: its place is noted, and it is ready or waits
+pub sites-settled : {task : List ℕ} {A : ℕ} {s owed : State} {work ready : List ℕ} {h n : ℕ} → Sites task A s owed work ready h n → h < 1024
+    → (work′ ready′ : List ℕ) → Settles s task h work ready work′ ready′ → Sites task A s owed work′ ready′ (linkAt work h) (n - 1)
+sites-settled {task} {A} {s} {owed} {work} {ready} {h} {n} S b work′ ready′ (goes k P p W e) =
+    rw (e, ← noted-link S h k b (λ _. P) h b) (settled-goes (sites-noted S h k b (λ _. P)) b ready′ p W)
+sites-settled {task} {A} {s} {owed} {work} {ready} {h} {n} S b work′ ready′ (waits k P f g p u e er) =
+    rw (e, er, ← noted-link S h k b (λ _. P) h b) (settled-waits (sites-noted S h k b (λ _. P)) b f g p u)
 
 pub zeros : (n x : ℕ) → _≡_ {A = ℕ} (getD (replicate n 0) x 0) 0
 zeros n x = let z : ℕ = 0 in elim (decLt x n) [ yes l ↦ getD-replicate n x z z l | no l ↦ List·getD-eq-default (replicate n z) z (rw (length-replicate n z) (omega arith)) ]
 
+-- the actions below j are settled, and no link is set from j on
+pub record Entered (task : List ℕ) (s owed : State) (work ready : List ℕ) (j : ℕ) : Type 0 where
+  pub sites : Sites task j s owed work ready 65535 0
+  pub unlinked : (x : ℕ) → j ≤ x → x < 1024 → linkAt work x ≡ 65535
+
 -- One action more: it is on no chain, and left to settle.
-module _ (act : ℕ → Action) (s owed : State) where
-  pub sites-enter : (j : ℕ) (head next ready : List ℕ) → Sites act j s owed head next ready 65535 0 → j < 1024 → 1024 ≤ getD next j 0 → Sites act (j + 1) s owed head next ready j 1
+module _ {task : List ℕ} {s owed : State} where
+  sites-enter : {j : ℕ} {work ready : List ℕ} → Sites task j s owed work ready 65535 0 → j < 1024 → 1024 ≤ linkAt work j → Looked s task j (placeAt work j) → Sites task (j + 1) s owed work ready j 1
   unfolding mem
-  sites-enter j head next ready S b e = record {
+  sites-enter {j} {work} {ready} S b e P = record {
     few = omega arith;
-    head-long = S .head-long;
-    next-long = S .next-long;
+    long = S .long;
     ready-long = S .ready-long;
     w = put (S .w) j 4096;
     line = S .line;
@@ -397,34 +499,35 @@ module _ (act : ℕ → Action) (s owed : State) where
     left = omega arith;
     chained = S .chained;
     chained-rest = (refl, b, tt, e);
-    owns = λ f l. each-map (λ i. (S .w i ≡ f) × (i < j)) (λ i. (put (S .w) j 4096 i ≡ f) × (i < j + 1)) (λ i p. (put-other (S .w) j 4096 i (omega (arith, p .1)) ∙ p .0, omega (arith, p .1))) (S .line f) (S .owns f l);
+    owns = λ f l. each-map (λ i. (S .w i ≡ f) × (i < j)) (λ i. (put (S .w) j 4096 i ≡ f) × (i < j + 1))
+        (λ i p. (put-other (S .w) j 4096 i (omega (arith, p .1)) ∙ p .0, omega (arith, p .1))) (S .line f) (S .owns f l);
     owns-rest = ((put-same (S .w) j 4096, omega arith), tt);
     on-line = put-cases (λ i y. i < j + 1 → y < 4096 → T (mem i (S .line y))) (S .w) j 4096 (λ _ l. absurd (omega arith)) (λ i q l. S .on-line i (omega arith));
-    on-rest = put-cases (λ i y. i < j + 1 → y ≡ 4096 → T (mem i (j ∷ []))) (S .w) j 4096 (λ _ _. or-l (eqb j j) (mem j []) (eqb-refl j)) (λ i q l z. absurd (rw (empty-by-length (S .rest) (S .left)) at (S .on-rest i (omega arith) z)));
-    needs = put-cases (λ i y. i < j + 1 → y < 4096 → T (has (act i .pre) (y / 64) (y % 64))) (S .w) j 4096 (λ _ l. absurd (omega arith)) (λ i q l. S .needs i (omega arith));
+    on-rest = put-cases (λ i y. i < j + 1 → y ≡ 4096 → T (mem i (j ∷ []))) (S .w) j 4096 (λ _ _. or-l (eqb j j) (mem j []) (eqb-refl j))
+        (λ i q l z. absurd (rw (empty-by-length (S .rest) (S .left)) at (S .on-rest i (omega arith) z)));
+    needs = put-cases (λ i y. i < j + 1 → y < 4096 → T (has (act (taskIn task) i .pre) (y / 64) (y % 64))) (S .w) j 4096 (λ _ l. absurd (omega arith)) (λ i q l. S .needs i (omega arith));
     unreached = put-cases (λ i y. i < j + 1 → y < 4096 → T (reaches s y) → T (reaches owed y)) (S .w) j 4096 (λ _ l. absurd (omega arith)) (λ i q l. S .unreached i (omega arith));
-    out = put-cases (λ i y. i < j + 1 → 4096 < y → T (member ready i) ⊎ T (holds s (act i .eff))) (S .w) j 4096 (λ _ l. absurd (omega arith)) (λ i q l. S .out i (omega arith));
+    out = put-cases (λ i y. i < j + 1 → 4096 < y → T (member ready i) ⊎ T (holds s (act (taskIn task) i .eff))) (S .w) j 4096 (λ _ l. absurd (omega arith)) (λ i q l. S .out i (omega arith));
     sound = λ i m. let k = S .sound i m in (omega (arith, k .0), k .1);
+    places = λ i l. go i l (ℕ-discrete i j);
   }
+    where
+      go : (i : ℕ) → i < j + 1 → Dec (i ≡ j) → Looked s task i (placeAt work i)
+      go i l (yes q) = rw q P
+      go i l (no q) = S .places i (omega arith)
 
-  -- the actions below j are settled, and no link is set from j on
-  pub record Entered (head next ready : List ℕ) (j : ℕ) : Type 0 where
-    pub sites : Sites act j s owed head next ready 65535 0
-    pub unlinked : (x : ℕ) → j ≤ x → x < 1024 → getD next x 0 ≡ 65535
-
-  pub entered-start : (head next ready : List ℕ) → head ≡ replicate 4096 65535 → next ≡ replicate 1024 65535 → ready ≡ replicate 16 0 → Entered head next ready 0
+  pub entered-start : {work ready : List ℕ} → work ≡ replicate 6144 65535 → ready ≡ replicate 16 0 → Entered task s owed work ready 0
   unfolding member setsOf
-  entered-start head next ready eh en er = rw (eh, en, er) (record {
+  entered-start ew er = rw (ew, er) (record {
     sites = record {
       few = omega arith;
-      head-long = length-replicate {A = ℕ} 4096 65535;
-      next-long = length-replicate {A = ℕ} 1024 65535;
+      long = length-replicate {A = ℕ} 6144 65535;
       ready-long = length-replicate {A = ℕ} 16 0;
       w = λ _. 0;
       line = λ _. [];
       rest = [];
       left = omega arith;
-      chained = λ f l. rw (getD-replicate {A = ℕ} 4096 f 65535 0 l) (omega arith);
+      chained = λ f l. rw (getD-replicate {A = ℕ} 6144 f 65535 0 (omega arith)) (omega arith);
       chained-rest = omega arith;
       owns = λ f l. tt;
       owns-rest = tt;
@@ -434,18 +537,30 @@ module _ (act : ℕ → Action) (s owed : State) where
       unreached = λ j b. absurd (omega arith);
       out = λ j b. absurd (omega arith);
       sound = λ j m. absurd (rw (zeros 16 (j / 64), inSet-empty (j % 64)) at m);
+      places = λ j b. absurd (omega arith);
     };
-    unlinked = λ x _ l. getD-replicate {A = ℕ} 1024 x 65535 0 l;
+    unlinked = λ x _ l. getD-replicate {A = ℕ} 6144 (4096 + x) 65535 0 (omega arith);
   })
 
-  pub entered-turn : (j : ℕ) (head next ready head′ next′ ready′ : List ℕ) → Entered head next ready j → j < 1024 → Settled s (act j) j head next ready head′ next′ ready′ → Entered head′ next′ ready′ (j + 1)
-  entered-turn j head next ready head′ next′ ready′ E b Z =
-      let e : 1024 ≤ getD next j 0 = omega (arith, E .unlinked j (omega arith) b) in
-      record {
-        sites = sites-ended act (j + 1) s owed head′ next′ ready′ (getD next j 0) 0 (sites-settled act (j + 1) s owed head next ready j 1 (sites-enter j head next ready (E .sites) b e) b head′ next′ ready′ Z) e;
-        unlinked = λ x p l. links Z x (omega arith) ∙ E .unlinked x (omega arith) l;
-      }
-    where
-      links : Settled s (act j) j head next ready head′ next′ ready′ → (x : ℕ) → x ≢ j → getD next′ x 0 ≡ getD next x 0
-      links (goes p W eh en) x q = rw en refl
-      links (waits f g p u eh en er) x q = rw en (getD-set-other next j x (getD head f 0) 0 q)
+  -- action j enters, with the place of its first precondition, and is settled
+  module _ {work ready : List ℕ} {j : ℕ} (E : Entered task s owed work ready j) (b : j < 1024) (p : ℕ) (ep : p ≡ preAt task j) (o : preAt task j ≤ effAt task j) where
+    begun : Looked s task j p
+    begun = record { from = omega arith; to = omega arith; passed = λ x l m. absurd (omega arith) }
+
+    pub entered-place : Looked s task j (placeAt (set work (5120 + j) p) j)
+    entered-place = rw (getD-set-same work (5120 + j) p 0 (omega (arith, E .sites .long))) begun
+
+    pub entered-turn : (work′ ready′ : List ℕ) → Settles s task j (set work (5120 + j) p) ready work′ ready′ → Entered task s owed work′ ready′ (j + 1)
+    entered-turn work′ ready′ Z =
+        let link : (x : ℕ) → x < 1024 → linkAt (set work (5120 + j) p) x ≡ linkAt work x = noted-link (E .sites) j p b (λ _. begun) in
+        let e : 1024 ≤ linkAt (set work (5120 + j) p) j = omega (arith, link j b, E .unlinked j (omega arith) b) in
+        record {
+          sites = sites-ended (sites-settled (sites-enter (sites-noted (E .sites) j p b (λ _. begun)) b e entered-place) b work′ ready′ Z) e;
+          unlinked = λ x q l. links Z x (omega arith) l ∙ link x l ∙ E .unlinked x (omega arith) l;
+        }
+      where
+        links : Settles s task j (set work (5120 + j) p) ready work′ ready′ → (x : ℕ) → x ≢ j → x < 1024 → linkAt work′ x ≡ linkAt (set work (5120 + j) p) x
+        links (goes k P r W ew) x q l = rw ew (getD-set-other (set work (5120 + j) p) (5120 + j) (4096 + x) k 0 (omega arith))
+        links (waits k P f g r u ew er) x q l =
+            let n : length (set (set work (5120 + j) p) (5120 + j) k) ≡ 6144 = simp length-set (E .sites .long) in
+            rw ew (hung-links (set (set work (5120 + j) p) (5120 + j) k) f j n g b x q ∙ getD-set-other (set work (5120 + j) p) (5120 + j) (4096 + x) k 0 (omega arith))

@@ -1,38 +1,32 @@
 -- Facts by their places in a list of numbers: a list of facts has exactly those at its places, so that a test of it is a test at each
 -- place. The loops over facts stand on this.
-use mathlib.Core.Path.{_≡_, refl, sym, _∙_, subst}
+use mathlib.Core.Path.{_≡_, refl, sym, ap, _∙_, subst}
 use mathlib.Core.Logic.{_⊎_, inl, inr, _≢_}
 use mathlib.Core.Bool.{Bool, true, false, not, _&&_, _||_}
 use mathlib.Core.List.{List, [], _∷_}
 use Prim.Native.Nat.{ℕ, zero, suc, _+_, _-_, _/_, _%_, _<_, _≤_}
 use native.Mathlib.Omega.{arith}
-use native.Mathlib.Decide.{ℕ-discrete}
+use native.Mathlib.Decide.{ℕ-discrete, decLt}
 use lib.Dec.{T, eqb, eqb→eq, eqb-refl}
 use lib.ListN.{length, getD, set, length-set}
-use lib.Seq.{slice-cons, slice-empty, getD-set-same, getD-set-other}
-use Rattle.planning.specs.Runs.{State, has, holds}
+use lib.Seq.{getD-set-same, getD-set-other}
+use Rattle.planning.specs.Runs.{State, has, holds, act}
 use Rattle.planning.proofs.Tests.{T→true, F→false, and-l, and-r, and-i, or-l, or-r, or-cases}
 use Rattle.planning.proofs.Facts.{holds→sub, sub→holds}
-use Rattle.table.specs.Table.{factOf, factsIn, preAt, effAt}
-use Rattle.state.specs.Sets.{actionOf, Listed}
-use Rattle.forward.specs.Waiting.{reaches, Unmet, Noted}
+use Rattle.planning.specs.Record.{Action}
+use Rattle.task.specs.Task.{factOf, factsIn, preAt, effAt, actionIn, taskIn}
+use Rattle.state.proofs.Listed.{Listed}
+use Rattle.state.proofs.Effects.{factsIn-cons, factsIn-none}
+use Rattle.forward.specs.Waiting.{reaches, Passing, Unmet, Looked, Noted}
 
 module _ (l : List ℕ) where
-  pub factsIn-more : (a b : ℕ) → a < b → b ≤ length l → factsIn l a b ≡ factOf (getD l a 0) ∷ factsIn l (suc a) b
-  unfolding factsIn
-  factsIn-more a b h g = rw (slice-cons a b l 0 h g) refl
-
-  pub factsIn-none : (a : ℕ) → factsIn l a a ≡ []
-  unfolding factsIn
-  factsIn-none a = rw (slice-empty a l) refl
-
   at-has′ : (n a b v d : ℕ) → a + n ≡ b → b ≤ length l → T (has (factsIn l a b) v d) → (x : ℕ) × (a ≤ x) × (x < b) × (v ≡ getD l x 0 / 64) × (d ≡ getD l x 0 % 64)
   unfolding has factOf
-  at-has′ zero a b v d e h t = let q : a ≡ b = omega arith in absurd (rw (q, factsIn-none b) at t)
-  at-has′ (suc n) a b v d e h t = go (or-cases (eqb v (getD l a 0 / 64) && eqb d (getD l a 0 % 64)) (has (factsIn l (suc a) b) v d) (rw (factsIn-more a b (omega arith) h) at t)) (at-has′ n (suc a) b v d (omega arith) h)
+  at-has′ zero a b v d e h t = absurd (rw (factsIn-none l a b (omega arith)) at t)
+  at-has′ (suc n) a b v d e h t = go (or-cases (eqb v (getD l a 0 / 64) && eqb d (getD l a 0 % 64)) (has (factsIn l (a + 1) b) v d) (rw (factsIn-cons l a b (omega arith) h) at t)) (at-has′ n (a + 1) b v d (omega arith) h)
     where
-      go : T (eqb v (getD l a 0 / 64) && eqb d (getD l a 0 % 64)) ⊎ T (has (factsIn l (suc a) b) v d)
-          → (T (has (factsIn l (suc a) b) v d) → (x : ℕ) × (suc a ≤ x) × (x < b) × (v ≡ getD l x 0 / 64) × (d ≡ getD l x 0 % 64))
+      go : T (eqb v (getD l a 0 / 64) && eqb d (getD l a 0 % 64)) ⊎ T (has (factsIn l (a + 1) b) v d)
+          → (T (has (factsIn l (a + 1) b) v d) → (x : ℕ) × (a + 1 ≤ x) × (x < b) × (v ≡ getD l x 0 / 64) × (d ≡ getD l x 0 % 64))
           → (x : ℕ) × (a ≤ x) × (x < b) × (v ≡ getD l x 0 / 64) × (d ≡ getD l x 0 % 64)
       go (inl k) f = (
         a,
@@ -46,7 +40,7 @@ module _ (l : List ℕ) where
   has-at′ : (n a b x : ℕ) → a + n ≡ b → b ≤ length l → a ≤ x → x < b → T (has (factsIn l a b) (getD l x 0 / 64) (getD l x 0 % 64))
   unfolding has factOf
   has-at′ zero a b x e h p q = absurd (omega arith)
-  has-at′ (suc n) a b x e h p q = rw (factsIn-more a b (omega arith) h) (go (ℕ-discrete x a) (has-at′ n (suc a) b x (omega arith) h))
+  has-at′ (suc n) a b x e h p q = rw (factsIn-cons l a b (omega arith) h) (go (ℕ-discrete x a) (has-at′ n (a + 1) b x (omega arith) h))
     where
       v : ℕ
       v = getD l x 0 / 64
@@ -54,9 +48,9 @@ module _ (l : List ℕ) where
       d : ℕ
       d = getD l x 0 % 64
 
-      go : Dec (x ≡ a) → (suc a ≤ x → x < b → T (has (factsIn l (suc a) b) v d)) → T ((eqb v (getD l a 0 / 64) && eqb d (getD l a 0 % 64)) || has (factsIn l (suc a) b) v d)
-      go (yes i) f = or-l (eqb v (getD l a 0 / 64) && eqb d (getD l a 0 % 64)) (has (factsIn l (suc a) b) v d) (rw i (and-i (eqb (getD l a 0 / 64) (getD l a 0 / 64)) (eqb (getD l a 0 % 64) (getD l a 0 % 64)) (eqb-refl (getD l a 0 / 64)) (eqb-refl (getD l a 0 % 64))))
-      go (no i) f = or-r (eqb v (getD l a 0 / 64) && eqb d (getD l a 0 % 64)) (has (factsIn l (suc a) b) v d) (f (omega arith) q)
+      go : Dec (x ≡ a) → (a + 1 ≤ x → x < b → T (has (factsIn l (a + 1) b) v d)) → T ((eqb v (getD l a 0 / 64) && eqb d (getD l a 0 % 64)) || has (factsIn l (a + 1) b) v d)
+      go (yes i) f = or-l (eqb v (getD l a 0 / 64) && eqb d (getD l a 0 % 64)) (has (factsIn l (a + 1) b) v d) (rw i (and-i (eqb (getD l a 0 / 64) (getD l a 0 / 64)) (eqb (getD l a 0 % 64) (getD l a 0 % 64)) (eqb-refl (getD l a 0 / 64)) (eqb-refl (getD l a 0 % 64))))
+      go (no i) f = or-r (eqb v (getD l a 0 / 64) && eqb d (getD l a 0 % 64)) (has (factsIn l (a + 1) b) v d) (f (omega arith) q)
 
   module _ (a b : ℕ) (p : a ≤ b) (q : b ≤ length l) where
     pub at-has : (v d : ℕ) → T (has (factsIn l a b) v d) → (x : ℕ) × (a ≤ x) × (x < b) × (v ≡ getD l x 0 / 64) × (d ≡ getD l x 0 % 64)
@@ -76,13 +70,6 @@ module _ (l : List ℕ) where
         go : (y v d : ℕ) → v ≡ y / 64 → d ≡ y % 64 → T (s (y / 64) (y % 64)) → T (s v d)
         go y v d p q t = rw (p, q) t
 
-    -- where the first fact is that is not reached says whether each is
-    pub unmet-all : (s : State) → Unmet s l a b b → T (holds s (factsIn l a b))
-    unmet-all s U = each-holds s (U .passed)
-
-    pub unmet-some : (s : State) (r : ℕ) → Unmet s l a b r → r < b → T (holds s (factsIn l a b)) → ⊥
-    unmet-some s r U h t = rw (U .open′ h) at (holds-each s t r (U .from) h)
-
 -- the facts from place k on, but for the one there
 pub has-less : (l : List ℕ) (k b f : ℕ) → k < b → b ≤ length l → f ≡ getD l k 0 → (y : ℕ) → y ≢ f → T (reaches (has (factsIn l k b)) y) → T (reaches (has (factsIn l (k + 1) b)) y)
 unfolding reaches
@@ -99,13 +86,7 @@ pub open-at : (s : State) (y f : ℕ) → f ≡ y → s (f / 64) (f % 64) ≡ fa
 unfolding reaches
 open-at s y f e t = rw (← e) t
 
--- the search for a fact that is not reached
-module _ (s : State) (l : List ℕ) (a b k : ℕ) where
-  pub record Passing : Type 0 where
-    pub from : a ≤ k
-    pub to : k ≤ b
-    pub passed : (x : ℕ) → a ≤ x → x < k → T (reaches s (getD l x 0))
-
+-- the search for a fact that is not reached, in one turn and in two goes
 pub passing-turn : (s : State) (l : List ℕ) (a b k f : ℕ) → Passing s l a b k → k < b → f ≡ getD l k 0 → s (f / 64) (f % 64) ≡ true → Passing s l a b (k + 1)
 unfolding reaches
 passing-turn s l a b k f P h e t = record { from = omega (arith, P .from); to = omega arith; passed = λ x p q. go x p q (ℕ-discrete x k) }
@@ -113,6 +94,13 @@ passing-turn s l a b k f P h e t = record { from = omega (arith, P .from); to = 
     go : (x : ℕ) → a ≤ x → x < k + 1 → Dec (x ≡ k) → T (reaches s (getD l x 0))
     go x p q (yes i) = rw (i, ← e, t) tt
     go x p q (no i) = P .passed x p (omega arith)
+
+pub passing-more : (s : State) (l : List ℕ) (a b k r : ℕ) → Passing s l a b k → Passing s l k b r → Passing s l a b r
+passing-more s l a b k r P Q = record { from = omega (arith, P .from, Q .from); to = Q .to; passed = λ x p q. go x p q (decLt x k) }
+  where
+    go : (x : ℕ) → a ≤ x → x < r → Dec (x < k) → T (reaches s (getD l x 0))
+    go x p q (yes h) = P .passed x p h
+    go x p q (no h) = Q .passed x (omega arith) q
 
 -- the noting of effects: those at the places from a up to k are noted
 pub record Noting (s : State) (l : List ℕ) (a b i : ℕ) (first₀ first : List ℕ) (k : ℕ) (new : Bool) : Type 0 where
@@ -207,20 +195,26 @@ module _ (s : State) (l : List ℕ) (a b i : ℕ) (first₀ : List ℕ) where
         go false e = rw (T→true (holds s (factsIn l a b)) (each-holds l a b (omega (arith, N .from, N .to)) q s (λ x p c. N .none′ e x p (omega (arith, to-end))))) refl
 
 -- what the first unmet precondition of action i says
-module _ (s : State) (table : List ℕ) (i k : ℕ) (L : Listed table i) (U : Unmet s table (preAt table i) (effAt table i) k) where
+module _ (s : State) (task : List ℕ) (i k : ℕ) (L : Listed task i) (P : Looked s task i k) where
+  -- fact f is a precondition that is not reached
   pub record Waits (f : ℕ) : Type 0 where
     pub small : f < 4096
-    pub needs : T (has (actionOf table i .pre) (f / 64) (f % 64))
+    pub needs : T (has (act (taskIn task) i .pre) (f / 64) (f % 64))
     pub open′ : reaches s f ≡ false
 
-  pub unmet-waits : k < effAt table i → (f : ℕ) → f ≡ getD table k 0 → Waits f
-  unfolding actionOf
-  unmet-waits h f e = rw e (record {
-    small = L .small k (U .from) (omega (arith, L .eff-below));
-    needs = has-at table (preAt table i) (effAt table i) (L .pre-below) (omega (arith, L .eff-below, L .end-below)) k (U .from) h;
-    open′ = U .open′ h;
+  pre-is : (v d : ℕ) → has (factsIn task (preAt task i) (effAt task i)) v d ≡ has (act (taskIn task) i .pre) v d
+  unfolding actionIn
+  pre-is v d = ap (λ (a : Action). has (a .pre) v d) (L .states)
+
+  pub unmet-waits : k < effAt task i → (f : ℕ) → f ≡ getD task k 0 → reaches s (getD task k 0) ≡ false → Waits f
+  unmet-waits h f e u = rw e (record {
+    small = L .small k (P .from) (omega (arith, L .eff-below));
+    needs = rw (← pre-is (getD task k 0 / 64) (getD task k 0 % 64)) (has-at task (preAt task i) (effAt task i) (L .pre-below) (omega (arith, L .eff-below, L .end-below)) k (P .from) h);
+    open′ = u;
   })
 
-  pub unmet-goes : effAt table i ≤ k → T (holds s (actionOf table i .pre))
-  unfolding actionOf
-  unmet-goes h = each-holds table (preAt table i) (effAt table i) (L .pre-below) (omega (arith, L .eff-below, L .end-below)) s (λ x p q. U .passed x p (omega arith))
+  pub unmet-goes : effAt task i ≤ k → T (holds s (act (taskIn task) i .pre))
+  unfolding actionIn
+  unmet-goes h =
+      subst (λ (a : Action). T (holds s (a .pre))) (L .states)
+      (each-holds task (preAt task i) (effAt task i) (L .pre-below) (omega (arith, L .eff-below, L .end-below)) s (λ x p q. P .passed x p (omega arith)))

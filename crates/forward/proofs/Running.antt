@@ -7,23 +7,24 @@ use mathlib.Core.Option.{Option, none, some}
 use Prim.Native.Nat.{ℕ, zero, suc, _+_, _/_, _%_, _<_, _≤_, pred}
 use native.Mathlib.Numerals.{add-one}
 use native.Mathlib.Omega.{arith}
-use native.Mathlib.Decide.{decLt}
 use lib.Dec.{T}
 use lib.ListN.{length, getD, set, take, replicate, length-set, length-append, length-replicate, getD-replicate}
 use lib.Seq.{take-suc-set, length-take-le}
 use Rattle.planning.specs.Basics.{first, total, tally}
 use Rattle.planning.specs.Record.{Fact, Action, Task}
 use Rattle.planning.specs.Runs.{State, has, holds, step, relaxed, run, variables, actions, act, count, variable, initial, goals, size}
-use Rattle.planning.specs.Relaxed.{adds, forward, addable, forwardRun, forwardEnd, firstAchiever}
+use Rattle.planning.specs.Relaxed.{adds, forward, addable, forwardRun, forwardEnd, reachesGoals, firstAchiever}
 use Rattle.planning.proofs.Tests.{T→true, F→false, and-l}
 use Rattle.planning.proofs.Below.{total-le, total-pred, total-one, tally-pos}
 use Rattle.planning.proofs.Facts.{_⊆_, holds→sub}
 use Rattle.planning.proofs.Steps.{All, step-eff, step-keep, run-append, run-grows}
 use Rattle.planning.proofs.Formed.{Formed, sorted-has, initial-holds}
 use Rattle.planning.proofs.Forward.{Once, forward-take, forwardRun-ran, forwardRun-once}
-use Rattle.table.specs.Table.{factsIn}
-use Rattle.forward.specs.Waiting.{reaches, Each, Unmet, Noted}
-use Rattle.forward.specs.Running.{achiever, Achieved, Going}
+use Rattle.task.specs.Task.{factsIn}
+use Rattle.forward.specs.Waiting.{reaches, Each, Passing, Unmet, Noted}
+use Rattle.state.specs.Sets.{setsOf}
+use Rattle.forward.specs.declared.Ran.{Ran}
+use Rattle.forward.specs.Running.{achiever, Achieved, RanOf, Going}
 use Rattle.forward.proofs.Places.{holds-each, each-holds}
 use Rattle.forward.proofs.Chains.{Distinct, distinct-length}
 
@@ -132,11 +133,11 @@ module _ (t : Task) (l : List ℕ) (i : ℕ) (s : State) (e : s ≡ run (act t) 
       sub = holds→sub s (act t i .eff) h
 
 -- the loop
-module _ (t : Task) (F : Formed t) (facts : List ℕ) where
+module _ {t : Task} (F : Formed t) where
   eff-ranged : (i v e : ℕ) → i < actions t → T (has (act t i .eff) v e) → (v < variables t) × (e < count t v)
   eff-ranged i v e b h = let I = sorted-has (variables t) (count t) 0 (act t i .eff) (F .eff-sorted i) v e h in (I .var-below, I .val-below)
 
-  pub going-start : (plan fst : List ℕ) (s : State) → length plan ≡ 1024 → fst ≡ replicate 4096 65535 → s ≡ initial t → Going t facts plan fst s 0 0
+  pub going-start : (plan fst : List ℕ) (s : State) → length plan ≡ 1024 → fst ≡ replicate 4096 65535 → s ≡ initial t → Going t plan fst s 0
   unfolding forwardRun run Achieved firstAchiever achiever
   going-start plan fst s n e q = record {
     k = addable t;
@@ -147,10 +148,9 @@ module _ (t : Task) (F : Formed t) (facts : List ℕ) where
     so-far = rw q refl;
     state = q;
     achieved = λ f b. rw e (getD-replicate {A = ℕ} 4096 f 65535 0 b);
-    met = λ x l. absurd (omega arith);
   }
 
-  module _ (plan fst : List ℕ) (s : State) (n g : ℕ) (G : Going t facts plan fst s n g) where
+  module _ {plan fst : List ℕ} {s : State} {n : ℕ} (G : Going t plan fst s n) where
     pub going-on : (i : ℕ) → holds s (goals t) ≡ false → first (actions t) (adds (act t) s) ≡ some i → n < 1024
     going-on i h e =
         let T₁ = forward-take (act t) (actions t) (variables t) (count t) (goals t) eff-ranged (G .k) i s (G .fuel) h e in
@@ -158,10 +158,10 @@ module _ (t : Task) (F : Formed t) (facts : List ℕ) where
         let e₂ : forwardRun t ≡ take n plan ++ (i ∷ r) = G .so-far ∙ rw (T₁ .0) refl in
         omega (arith, forwardRun-few t F, ap length e₂, length-append (take n plan) (i ∷ r), length-take-le n plan (omega (arith, G .long, G .within)))
 
-    pub going-take : (i : ℕ) (fst′ : List ℕ) (s′ : State) (g′ : ℕ) → holds s (goals t) ≡ false → first (actions t) (adds (act t) s) ≡ some i → Noted s (has (act t i .eff)) i fst fst′
-        → s′ ≡ step relaxed (act t i) s → ((x : ℕ) → x < g′ → T (reaches s (getD facts x 0))) → Going t facts (set plan n i) fst′ s′ (n + 1) g′
-    unfolding run reaches
-    going-take i fst′ s′ g′ h e N es m =
+    pub going-take : (i : ℕ) (fst′ : List ℕ) (s′ : State) → holds s (goals t) ≡ false → first (actions t) (adds (act t) s) ≡ some i → Noted s (has (act t i .eff)) i fst fst′
+        → s′ ≡ step relaxed (act t i) s → Going t (set plan n i) fst′ s′ (n + 1)
+    unfolding run
+    going-take i fst′ s′ h e N es =
         let T₁ = forward-take (act t) (actions t) (variables t) (count t) (goals t) eff-ranged (G .k) i s (G .fuel) h e in
         let b = going-on i h e in
         let p : take (n + 1) (set plan n i) ≡ take n plan ++ (i ∷ []) = rw (add-one, take-suc-set plan n i (omega (arith, G .long))) refl in
@@ -174,12 +174,10 @@ module _ (t : Task) (F : Formed t) (facts : List ℕ) where
           so-far = G .so-far ∙ rw (T₁ .0, p, append-assoc, es) refl;
           state = es ∙ rw (p, run-append (act t) relaxed (take n plan) (i ∷ []) (initial t), ← G .state) refl;
           achieved = rw p (achieved-more t (take n plan) i s (G .state) fst fst′ N (G .achieved));
-          met = λ x l. subst (λ (z : State). T (z (getD facts x 0 / 64) (getD facts x 0 % 64))) (sym es) (step-keep relaxed (act t i) s (getD facts x 0 / 64) (getD facts x 0 % 64) (m x l) (λ z _. z));
         }
 
-    pub going-drop : (i : ℕ) (fst′ : List ℕ) (g′ : ℕ) → holds s (act t i .eff) ≡ true → Noted s (has (act t i .eff)) i fst fst′
-        → ((x : ℕ) → x < g′ → T (reaches s (getD facts x 0))) → Going t facts plan fst′ s n g′
-    going-drop i fst′ g′ h N m = record {
+    pub going-drop : (i : ℕ) (fst′ : List ℕ) → holds s (act t i .eff) ≡ true → Noted s (has (act t i .eff)) i fst fst′ → Going t plan fst′ s n
+    going-drop i fst′ h N = record {
       k = G .k;
       fuel = G .fuel;
       long = G .long;
@@ -188,37 +186,41 @@ module _ (t : Task) (F : Formed t) (facts : List ℕ) where
       so-far = G .so-far;
       state = G .state;
       achieved = achieved-same t (take n plan) i s (G .state) fst fst′ N (G .achieved) (rw h tt);
-      met = m;
     }
 
-    -- the run ends here
+    -- the run ends where the goals are reached or no action adds a fact
     module _ (z : forward (act t) (actions t) (goals t) (G .k) s ≡ []) where
-      pub going-list : take n plan ≡ forwardRun t
-      going-list = sym (G .so-far ∙ rw (z, append-nil) refl)
+      run-is : take n plan ≡ forwardRun t
+      run-is = sym (G .so-far ∙ rw (z, append-nil) refl)
 
-      pub going-state : s ≡ forwardEnd t
+      end-is : s ≡ forwardEnd t
       unfolding forwardEnd
-      going-state = rw (← going-list) (G .state)
+      end-is = rw (← run-is) (G .state)
 
-      pub going-steps : n ≡ length (forwardRun t)
-      going-steps = rw (← going-list, length-take-le n plan (omega (arith, G .long, G .within))) refl
+      ended : (a : Ran) → a .steps ≡ n → a .solved ≡ holds s (goals t) → setsOf (a .state .sets) ≡ s → RanOf t plan fst a
+      unfolding reachesGoals
+      ended a en eb es = record {
+        list = rw en run-is;
+        steps = en ∙ rw (← run-is, length-take-le n plan (omega (arith, G .long, G .within))) refl;
+        few = omega (arith, G .within);
+        long = G .long;
+        solved = eb ∙ rw (← end-is) refl;
+        state = es ∙ end-is;
+        achieved = rw (← run-is) (G .achieved);
+      }
 
-      pub going-achieved : Achieved t (forwardRun t) fst
-      going-achieved = rw (← going-list) (G .achieved)
+    pub ended-met : holds s (goals t) ≡ true → (a : Ran) → a .steps ≡ n → a .solved ≡ true → setsOf (a .state .sets) ≡ s → RanOf t plan fst a
+    ended-met h a en eb es = ended (forward-met (act t) (actions t) (goals t) s (G .k) h) a en (eb ∙ sym h) es
 
-    pub ended-met : holds s (goals t) ≡ true → forward (act t) (actions t) (goals t) (G .k) s ≡ []
-    ended-met h = forward-met (act t) (actions t) (goals t) s (G .k) h
+    pub ended-none : holds s (goals t) ≡ false → first (actions t) (adds (act t) s) ≡ none → (a : Ran) → a .steps ≡ n → a .solved ≡ false → setsOf (a .state .sets) ≡ s → RanOf t plan fst a
+    ended-none h e a en eb es = ended (forward-none (act t) (actions t) (goals t) s (G .k) h e) a en (eb ∙ sym h) es
 
-    pub ended-none : holds s (goals t) ≡ false → first (actions t) (adds (act t) s) ≡ none → forward (act t) (actions t) (goals t) (G .k) s ≡ []
-    ended-none h e = forward-none (act t) (actions t) (goals t) s (G .k) h e
+-- the goals as the loop tests them
+module _ (t : Task) {s : State} {facts : List ℕ} {m r : ℕ} (q : m ≤ length facts) (e : factsIn facts 0 m ≡ goals t) (P : Passing s facts 0 m r) where
+  pub goals-met : r ≡ m → holds s (goals t) ≡ true
+  goals-met z = rw (← e) (T→true (holds s (factsIn facts 0 m)) (each-holds facts 0 m (omega arith) q s (λ x p l. P .passed x p (omega arith))))
 
-    -- the goals as the loop tests them
-    module _ (m r : ℕ) (q : m ≤ length facts) (e : factsIn facts 0 m ≡ goals t) (U : Unmet s facts g m r) where
-      pub met-more : (x : ℕ) → x < r → T (reaches s (getD facts x 0))
-      met-more x l = elim (decLt x g) [ yes h ↦ G .met x h | no h ↦ U .passed x (omega arith) l ]
-
-      pub goals-met : r ≡ m → holds s (goals t) ≡ true
-      goals-met z = rw (← e) (T→true (holds s (factsIn facts 0 m)) (each-holds facts 0 m (omega arith) q s (λ x _ l. met-more x (omega arith))))
-
-      pub goals-open : r ≢ m → holds s (goals t) ≡ false
-      goals-open z = rw (← e) (F→false (holds s (factsIn facts 0 m)) (λ h. subst T (U .open′ (omega (arith, U .to))) (holds-each facts 0 m (omega arith) q s h r (omega arith) (omega (arith, U .to)))))
+  pub goals-open : r ≢ m → reaches s (getD facts r 0) ≡ false → holds s (goals t) ≡ false
+  goals-open z u =
+      rw (← e)
+      (F→false (holds s (factsIn facts 0 m)) (λ h. subst T u (holds-each facts 0 m (omega arith) q s h r (omega arith) (omega (arith, P .to)))))

@@ -3,17 +3,16 @@ use mathlib.Core.Path.{_≡_}
 use mathlib.Core.List.{List, [], _++_}
 use mathlib.Core.Option.{Option, none, some}
 use Prim.Native.Nat.{ℕ, _+_, _/_, _%_, _<_, _≤_}
-use lib.Dec.{T}
 use lib.ListN.{length, getD, take}
 use Rattle.planning.specs.Basics.{total}
-use Rattle.planning.specs.Record.{Task, taskOf, recordCheck}
+use Rattle.planning.specs.Record.{Task}
 use Rattle.planning.specs.Runs.{State, has, actions, act, variables, count, initial, goals, relaxed, run, size}
 use Rattle.planning.specs.Relaxed.{forward, forwardRun, forwardEnd, reachesGoals, firstAchiever}
-use Rattle.table.specs.Table.{Tabled}
+use Rattle.task.specs.Task.{taskIn, Loaded}
 use Rattle.state.specs.declared.Goals.{Goals}
-use Rattle.state.specs.Sets.{singles, setsOf, actionOf, GoalsOf}
+use Rattle.state.specs.Sets.{setsOf, GoalsOf}
 use Rattle.forward.specs.declared.Ran.{Ran}
-use Rattle.forward.specs.Waiting.{reaches, Sites}
+use Rattle.forward.specs.Waiting.{Passing, Settled}
 
 -- the number that stands for a first achiever: 65,535 for none
 unfoldable pub achiever : Option ℕ → ℕ
@@ -34,8 +33,8 @@ pub record RanOf (t : Task) (plan first : List ℕ) (r : Ran) : Type 0 where
   pub state : setsOf (r .state .sets) ≡ forwardEnd t
   pub achieved : Achieved t (forwardRun t) first
 
--- n actions are taken, the state is s, and the goals before place g are reached; k more actions are enough
-pub record Going (t : Task) (facts plan first : List ℕ) (s : State) (n g : ℕ) : Type 0 where
+-- n actions are taken, and the state is s; k more actions are enough
+pub record Going (t : Task) (plan first : List ℕ) (s : State) (n : ℕ) : Type 0 where
   pub k : ℕ
   pub fuel : total (variables t) (count t) ≤ size (variables t) (count t) s + k
   pub long : length plan ≡ 1024
@@ -44,16 +43,12 @@ pub record Going (t : Task) (facts plan first : List ℕ) (s : State) (n g : ℕ
   pub so-far : forwardRun t ≡ take n plan ++ forward (act t) (actions t) (goals t) k s
   pub state : s ≡ run (act t) relaxed (take n plan) (initial t)
   pub achieved : Achieved t (take n plan) first
-  pub met : (x : ℕ) → x < g → T (reaches s (getD facts x 0))
 
--- the whole of it: the record is accepted, the table states its actions, and each action is where it belongs
-pub record Looping (bytes table masks : List ℕ) (A : ℕ) (g : Goals) (first plan sets head next ready : List ℕ) (n k : ℕ) : Type 0 where
-  pub accepted : recordCheck bytes ≡ none
-  pub tabled : Tabled (taskOf bytes) table
-  pub masks-are : masks ≡ singles
-  pub all : A ≡ actions (taskOf bytes)
-  pub goals-are : GoalsOf (taskOf bytes) g
+-- the whole of it: the goals before place k are reached, and each action is where it belongs
+pub record Looping (task : List ℕ) (g : Goals) (first plan sets work ready : List ℕ) (n k : ℕ) : Type 0 where
+  pub loaded : Loaded task
+  pub goals-are : GoalsOf (taskIn task) g
   pub room : g .count ≤ length (g .facts)
-  pub within : k ≤ g .count
-  pub going : Going (taskOf bytes) (g .facts) plan first (setsOf sets) n k
-  pub sites : Sites (actionOf table) A (setsOf sets) (has []) head next ready 65535 0
+  pub met : Passing (setsOf sets) (g .facts) 0 (g .count) k
+  pub going : Going (taskIn task) plan first (setsOf sets) n
+  pub settled : Settled task (setsOf sets) (has []) work ready

@@ -1,27 +1,32 @@
 -- Who waits for which fact. Each action that does not apply yet hangs on the chain of one of its preconditions that is not reached;
 -- when the fact is reached its chain is taken off, and each action of it is settled anew: on another chain, or in the set of the
--- ready. So the lowest action that applies and adds a fact is the lowest ready one that adds a fact.
+-- ready. Facts reached stay reached, so an action is looked at from the place on that it reached before. The lowest action that
+-- applies and adds a fact is the lowest ready one that adds a fact.
 use mathlib.Core.Path.{_≡_}
 use mathlib.Core.Logic.{_⊎_, _≢_}
 use mathlib.Core.Bool.{Bool, false, not, _&&_, _||_}
 use mathlib.Core.List.{List, [], _∷_}
-use Prim.Native.Nat.{ℕ, _/_, _%_, _<_, _≤_}
+use Prim.Native.Nat.{ℕ, _+_, _/_, _%_, _<_, _≤_}
 use lib.Dec.{T, eqb}
 use lib.ListN.{length, getD, set}
-use Rattle.planning.specs.Record.{Action}
-use Rattle.planning.specs.Runs.{State, has, holds}
+use Rattle.planning.specs.Runs.{State, has, holds, actions, act}
+use Rattle.task.specs.Task.{preAt, effAt, taskIn}
 use Rattle.state.specs.Sets.{inSet, setsOf}
 
 -- fact f, 64 × variable + value, is in the state
 unfoldable pub reaches : State → ℕ → Bool
 reaches s f = s (f / 64) (f % 64)
 
--- r is the first place from a on whose fact is not reached, b if each is
-pub record Unmet (s : State) (facts : List ℕ) (a b r : ℕ) : Type 0 where
-  pub from : a ≤ r
-  pub to : r ≤ b
-  pub passed : (k : ℕ) → a ≤ k → k < r → T (reaches s (getD facts k 0))
-  pub open′ : r < b → reaches s (getD facts r 0) ≡ false
+-- each fact from place a up to k is reached, and k is at most b
+pub record Passing (s : State) (facts : List ℕ) (a b k : ℕ) : Type 0 where
+  pub from : a ≤ k
+  pub to : k ≤ b
+  pub passed : (x : ℕ) → a ≤ x → x < k → T (reaches s (getD facts x 0))
+
+-- k is the first place from a on whose fact is not reached, b if each is
+pub record Unmet (s : State) (facts : List ℕ) (a b k : ℕ) : Type 0 where
+  pub passing : Passing s facts a b k
+  pub open′ : k < b → reaches s (getD facts k 0) ≡ false
 
 -- action i is in a set of 1,024, 64 to a number
 unfoldable pub member : List ℕ → ℕ → Bool
@@ -48,11 +53,31 @@ pub record Without (ready : List ℕ) (i : ℕ) (new : List ℕ) : Type 0 where
   pub long : length new ≡ length ready
   pub are : (j : ℕ) → member new j ≡ (member ready j && not (eqb j i))
 
--- what settling action j does: it is ready, or hangs on the chain of a precondition f that is not reached
-pub data Settled (s : State) (a : Action) (j : ℕ) (head next ready head′ next′ ready′ : List ℕ) : Type 0 where
-  goes : T (holds s (a .pre)) → With ready j ready′ → head′ ≡ head → next′ ≡ next → Settled s a j head next ready head′ next′ ready′
-  waits : (f : ℕ) → f < 4096 → T (has (a .pre) (f / 64) (f % 64)) → reaches s f ≡ false
-      → head′ ≡ set head f j → next′ ≡ set next j (getD head f 0) → ready′ ≡ ready → Settled s a j head next ready head′ next′ ready′
+-- One list of 6,144 numbers says what waits: for each fact the first action of its chain, for each action the next one on its chain,
+-- and for each action the place of the precondition that it waits for.
+abbrev pub headAt : List ℕ → ℕ → ℕ
+headAt work f = getD work f 0
+
+abbrev pub linkAt : List ℕ → ℕ → ℕ
+linkAt work j = getD work (4096 + j) 0
+
+abbrev pub placeAt : List ℕ → ℕ → ℕ
+placeAt work j = getD work (5120 + j) 0
+
+-- action j in front of the chain of fact f
+unfoldable pub hung : List ℕ → ℕ → ℕ → List ℕ
+hung work f j = set (set work (4096 + j) (getD work f 0)) f j
+
+-- the preconditions of action j before place k are reached
+abbrev pub Looked : State → List ℕ → ℕ → ℕ → Type 0
+Looked s task j k = Passing s task (preAt task j) (effAt task j) k
+
+-- what settling action j does: it is ready, or hangs on the chain of a precondition f that is not reached; its place is noted
+pub data Settles (s : State) (task : List ℕ) (j : ℕ) (work ready work′ ready′ : List ℕ) : Type 0 where
+  goes : (k : ℕ) → Looked s task j k → T (holds s (act (taskIn task) j .pre)) → With ready j ready′ → work′ ≡ set work (5120 + j) k
+      → Settles s task j work ready work′ ready′
+  waits : (k : ℕ) → Looked s task j k → (f : ℕ) → f < 4096 → T (has (act (taskIn task) j .pre) (f / 64) (f % 64)) → reaches s f ≡ false
+      → work′ ≡ hung (set work (5120 + j) k) f j → ready′ ≡ ready → Settles s task j work ready work′ ready′
 
 unfoldable pub mem : ℕ → List ℕ → Bool
 mem j [] = false
@@ -65,31 +90,35 @@ Each P (i ∷ l) = P i × Each P l
 
 -- l is the chain from h on: a number of 1,024 or more ends it
 abbrev pub Chain : List ℕ → ℕ → List ℕ → Type 0
-Chain next h [] = 1024 ≤ h
-Chain next h (j ∷ l) = (h ≡ j) × (j < 1024) × Each (λ i. i ≢ j) l × Chain next (getD next j 0) l
+Chain work h [] = 1024 ≤ h
+Chain work h (j ∷ l) = (h ≡ j) × (j < 1024) × Each (λ i. i ≢ j) l × Chain work (linkAt work j) l
 
--- Where each of A actions is, in the state s: place w j < 4,096 says that action j hangs on the chain of that fact, 4,096 that it is
--- still to be settled, on the chain from h on, at most n long, and more that it is ready, or adds nothing any more. A chain's fact is
--- not reached, unless the chain is owed: it is to be taken off next.
-pub record Sites (act : ℕ → Action) (A : ℕ) (s owed : State) (head next ready : List ℕ) (h n : ℕ) : Type 0 where
+-- Where each of the first A actions is, in the state s: place w j < 4,096 says that action j hangs on the chain of that fact, 4,096
+-- that it is still to be settled, on the chain from h on, at most n long, and more that it is ready, or adds nothing any more. A
+-- chain's fact is not reached, unless the chain is owed: it is to be taken off next.
+pub record Sites (task : List ℕ) (A : ℕ) (s owed : State) (work ready : List ℕ) (h n : ℕ) : Type 0 where
   pub few : A ≤ 1024
-  pub head-long : length head ≡ 4096
-  pub next-long : length next ≡ 1024
+  pub long : length work ≡ 6144
   pub ready-long : length ready ≡ 16
   pub w : ℕ → ℕ
   pub line : ℕ → List ℕ
   pub rest : List ℕ
   pub left : length rest ≤ n
-  pub chained : (f : ℕ) → f < 4096 → Chain next (getD head f 0) (line f)
-  pub chained-rest : Chain next h rest
+  pub chained : (f : ℕ) → f < 4096 → Chain work (headAt work f) (line f)
+  pub chained-rest : Chain work h rest
   pub owns : (f : ℕ) → f < 4096 → Each (λ j. (w j ≡ f) × (j < A)) (line f)
   pub owns-rest : Each (λ j. (w j ≡ 4096) × (j < A)) rest
   pub on-line : (j : ℕ) → j < A → w j < 4096 → T (mem j (line (w j)))
   pub on-rest : (j : ℕ) → j < A → w j ≡ 4096 → T (mem j rest)
-  pub needs : (j : ℕ) → j < A → w j < 4096 → T (has (act j .pre) (w j / 64) (w j % 64))
+  pub needs : (j : ℕ) → j < A → w j < 4096 → T (has (act (taskIn task) j .pre) (w j / 64) (w j % 64))
   pub unreached : (j : ℕ) → j < A → w j < 4096 → T (reaches s (w j)) → T (reaches owed (w j))
-  pub out : (j : ℕ) → j < A → 4096 < w j → T (member ready j) ⊎ T (holds s (act j .eff))
-  pub sound : (j : ℕ) → T (member ready j) → (j < A) × T (holds s (act j .pre))
+  pub out : (j : ℕ) → j < A → 4096 < w j → T (member ready j) ⊎ T (holds s (act (taskIn task) j .eff))
+  pub sound : (j : ℕ) → T (member ready j) → (j < A) × T (holds s (act (taskIn task) j .pre))
+  pub places : (j : ℕ) → j < A → Looked s task j (placeAt work j)
+
+-- each action of the task has its site, and none is left to settle
+abbrev pub Settled : List ℕ → State → State → List ℕ → List ℕ → Type 0
+Settled task s owed work ready = Sites task (actions (taskIn task)) s owed work ready 65535 0
 
 -- each effect that was not reached is noted as reached by i
 pub record Noted (s : State) (effects : State) (i : ℕ) (first first′ : List ℕ) : Type 0 where

@@ -1,40 +1,33 @@
 // The forward run. Its cost grows with the work and not with actions × steps: an action that does not apply waits for one of its
-// preconditions, and is looked at again when that fact is reached.
-use bits::Refusal;
-use record::Checked;
+// preconditions, and is looked at again, from that one on, when the fact is reached.
+use answers::Checked;
+use answers::Refusal;
 use state::Goals;
 use state::State;
 ghost use mathlib.Core.Path.{_≡_};
 ghost use mathlib.Core.Bool.{not};
-ghost use mathlib.Core.List.{[], _++_};
+ghost use mathlib.Core.List.{[]};
 ghost use mathlib.Core.Option.{none};
-ghost use Prim.Native.Nat.{ℕ, _+_, _*_, _<_, _≤_};
-ghost use lib.ListN.{length, getD, set, drop, replicate};
+ghost use Prim.Native.Nat.{ℕ, _+_, _<_, _≤_};
+ghost use lib.ListN.{length, getD, set, replicate};
 ghost use lib.Dec.{T};
 ghost use Rattle.planning.specs.Record.{taskOf, recordCheck};
-ghost use Rattle.planning.specs.Runs.{has, holds};
-ghost use Rattle.planning.specs.Calls.{capacity, roomCheck, forwardCall, forwardList};
-ghost use Rattle.table.specs.Table.{factsIn, Tabled};
-ghost use Rattle.state.specs.Sets.{singles, setsOf, actionOf, Listed};
-ghost use Rattle.forward.specs.Waiting.{Unmet, member, LowestIn, Lowest, With, Without, Settled, Sites, Noted};
+ghost use Rattle.planning.specs.Runs.{has, holds, actions, act};
+ghost use Rattle.planning.specs.Calls.{forwardCall, forwardList};
+ghost use Rattle.task.specs.Task.{factsIn, taskIn, Loaded};
+ghost use Rattle.state.specs.Sets.{setsOf};
+ghost use Rattle.forward.specs.Waiting.{Unmet, member, LowestIn, Lowest, With, Without, hung, placeAt, Looked, Settles, Sites, Settled, Noted};
 ghost use Rattle.forward.specs.Running.{RanOf, Looping};
-ghost use Rattle.forward.specs.Answers.{laidOf, laidList, foundOf};
-
-fn wide(x: u16) -> usize
-    ensures { λ r. ⌜ r ≡ x ⌝ }
-{
-    x as usize
-}
+ghost use Rattle.forward.specs.Answers.{foundOf, forwardOf, forwardIn};
 
 // The first place from `from` up to `to` whose fact is not in the state; `to` if each is.
-fn unmet(masks: &[u64; 64], sets: &[u64; 64], facts: &[u16], from: usize, to: usize) -> usize
-    requires { ⌜ (from ≤ to) × (to ≤ length (now facts)) × (now masks ≡ singles) × ((k : ℕ) → from ≤ k → k < to → getD (now facts) k 0 < 4096) ⌝ }
+fn unmet(sets: &[u64; 64], facts: &[u16], from: usize, to: usize) -> usize
+    requires { ⌜ (from ≤ to) × (to ≤ length (now facts)) × ((k : ℕ) → from ≤ k → k < to → getD (now facts) k 0 < 4096) ⌝ }
     ensures { λ r. ⌜ Unmet (setsOf (now (sets .entry))) (now (facts .entry)) from to r ⌝ }
 {
     let mut k = from;
     while k < to {
-        let f = wide(facts[k]);
-        if !state::holds(masks, sets, f / 64, f % 64) {
+        if !state::holds(sets, lists::wide(facts[k])) {
             return k;
         }
         k += 1;
@@ -50,7 +43,7 @@ fn lowest_in(m: u64) -> usize
     u64::trailing_zeros(m) as usize
 }
 
-// The lowest of the ready actions; 1,024 if there is none.
+// The action to try next: the lowest of the ready ones; 1,024 if there is none.
 fn lowest(ready: &[u64; 16]) -> usize
     ensures { λ r. ⌜ Lowest (now (ready .entry)) r ⌝ }
 {
@@ -68,63 +61,59 @@ fn mark(ready: &mut [u64; 16], i: usize)
     requires { ⌜ (i < 1024) × (length (now ready) ≡ 16) ⌝ }
     ensures { λ _. ⌜ With (now (ready .entry)) i (now (ready .exit)) ⌝ }
 {
-    ready[i / 64] = ready[i / 64] | 1 << (i % 64);
+    ready[i / 64] = ready[i / 64] | state::single(i % 64);
 }
 
 fn unmark(ready: &mut [u64; 16], i: usize)
     requires { ⌜ (i < 1024) × (length (now ready) ≡ 16) × T (member (now ready) i) ⌝ }
     ensures { λ _. ⌜ Without (now (ready .entry)) i (now (ready .exit)) ⌝ }
 {
-    ready[i / 64] = ready[i / 64] - (1 << (i % 64));
+    ready[i / 64] = ready[i / 64] - state::single(i % 64);
 }
+
+// What waits: for each fact the head of its chain of actions, 4,096; from LINK on each action's next on its chain; from PLACE on
+// the place of the precondition that it waits for.
+const LINK: usize = 4096;
+const PLACE: usize = 5120;
+const ALL: usize = 6144;
 
 // Action j hangs on the chain of fact f, in front.
-fn hang(head: &mut [u16; 4096], next: &mut [u16; 1024], f: usize, j: u16)
+fn hang(work: &mut [u16; ALL], f: usize, j: u16)
     requires { ⌜ (f < 4096) × (j < 1024) ⌝ }
-    ensures { λ _. ⌜ (now (head .exit) ≡ set (now (head .entry)) f j) × (now (next .exit) ≡ set (now (next .entry)) j (getD (now (head .entry)) f 0)) ⌝ }
+    ensures { λ _. ⌜ now (work .exit) ≡ hung (now (work .entry)) f j ⌝ }
 {
-    next[j as usize] = head[f];
-    head[f] = j;
+    work[LINK + j as usize] = work[f];
+    work[f] = j;
 }
 
-// Action j is ready, or waits for a precondition that is not reached.
-fn settle(
-    masks: &[u64; 64],
-    sets: &[u64; 64],
-    table: &[u16],
-    head: &mut [u16; 4096],
-    next: &mut [u16; 1024],
-    ready: &mut [u64; 16],
-    j: u16,
-)
-    requires { ⌜ Listed (now table) j × (j < 1024) × (length (now ready) ≡ 16) × (now masks ≡ singles) ⌝ }
-    ensures { λ _. ⌜ Settled (setsOf (now (sets .entry))) (actionOf (now (table .entry)) j) j (now (head .entry)) (now (next .entry)) (now (ready .entry)) (now (head .exit)) (now (next .exit)) (now (ready .exit)) ⌝ }
+// Action j is ready, or waits for a precondition that is not reached. It is looked at from the place on that it reached before.
+fn settle(sets: &[u64; 64], task: &[u16], work: &mut [u16; ALL], ready: &mut [u64; 16], j: u16)
+    requires { ⌜ Loaded (now task) × (j < actions (taskIn (now task))) × (length (now ready) ≡ 16) × Looked (setsOf (now sets)) (now task) j (placeAt (now work) j) ⌝ }
+    ensures { λ _. ⌜ Settles (setsOf (now (sets .entry))) (now (task .entry)) j (now (work .entry)) (now (ready .entry)) (now (work .exit)) (now (ready .exit)) ⌝ }
 {
-    let i = wide(j);
-    let to = wide(table[4 * i + 2]);
-    let k = unmet(masks, sets, table, wide(table[4 * i + 1]), to);
+    let i = lists::wide(j);
+    let to = task::eff_start(task, i);
+    let k = unmet(sets, task, lists::wide(work[PLACE + i]), to);
+    work[PLACE + i] = k as u16;
     if k < to {
-        hang(head, next, wide(table[k]), j);
+        hang(work, lists::wide(task[k]), j);
     } else {
         mark(ready, i);
     }
 }
 
-// Settles the actions on the chain from h on. The facts of the table from place `from` up to `to` are still to be looked at.
+// Settles the actions on the chain from h on. The facts of the task from place `from` up to `to` are still to be looked at.
 fn settle_all(
-    masks: &[u64; 64],
     sets: &[u64; 64],
-    table: &[u16],
-    actions: usize,
-    head: &mut [u16; 4096],
-    next: &mut [u16; 1024],
+    task: &[u16],
+    work: &mut [u16; ALL],
     ready: &mut [u64; 16],
     h: u16,
     from: usize,
     to: usize,
 )
-    requires { ⌜ ((i : ℕ) → i < actions → Listed (now table) i) × (now masks ≡ singles) × Sites (actionOf (now table)) actions (setsOf (now sets)) (has (factsIn (now table) from to)) (now head) (now next) (now ready) h 1024 ⌝ }
-    ensures { λ _. ⌜ Sites (actionOf (now (table .entry))) actions (setsOf (now (sets .entry))) (has (factsIn (now (table .entry)) from to)) (now (head .exit)) (now (next .exit)) (now (ready .exit)) 65535 0 ⌝ }
+    requires { ⌜ Loaded (now task) × Sites (now task) (actions (taskIn (now task))) (setsOf (now sets)) (has (factsIn (now task) from to)) (now work) (now ready) h 1024 ⌝ }
+    ensures { λ _. ⌜ Settled (now (task .entry)) (setsOf (now (sets .entry))) (has (factsIn (now (task .entry)) from to)) (now (work .exit)) (now (ready .exit)) ⌝ }
 {
     let mut j = h;
     let mut left: usize = 1024;
@@ -132,55 +121,40 @@ fn settle_all(
         if 1024 <= j {
             return;
         }
-        let after = next[j as usize];
-        settle(masks, sets, table, head, next, ready, j);
+        let after = work[LINK + j as usize];
+        settle(sets, task, work, ready, j);
         j = after;
         left -= 1;
     }
 }
 
 // The effects of action i are reached: their chains are taken off, and the actions on them settled.
-fn wake(
-    masks: &[u64; 64],
-    sets: &[u64; 64],
-    table: &[u16],
-    actions: usize,
-    head: &mut [u16; 4096],
-    next: &mut [u16; 1024],
-    ready: &mut [u64; 16],
-    i: usize,
-)
-    requires { ⌜ ((i : ℕ) → i < actions → Listed (now table) i) × (now masks ≡ singles) × Listed (now table) i × Sites (actionOf (now table)) actions (setsOf (now sets)) (has (actionOf (now table) i .eff)) (now head) (now next) (now ready) 65535 0 ⌝ }
-    ensures { λ _. ⌜ Sites (actionOf (now (table .entry))) actions (setsOf (now (sets .entry))) (has []) (now (head .exit)) (now (next .exit)) (now (ready .exit)) 65535 0 ⌝ }
+fn wake(sets: &[u64; 64], task: &[u16], work: &mut [u16; ALL], ready: &mut [u64; 16], i: usize)
+    requires { ⌜ Loaded (now task) × (i < actions (taskIn (now task))) × Settled (now task) (setsOf (now sets)) (has (act (taskIn (now task)) i .eff)) (now work) (now ready) ⌝ }
+    ensures { λ _. ⌜ Settled (now (task .entry)) (setsOf (now (sets .entry))) (has []) (now (work .exit)) (now (ready .exit)) ⌝ }
 {
-    let to = wide(table[4 * i + 3]);
-    let mut k = wide(table[4 * i + 2]);
+    let to = task::eff_end(task, i);
+    let mut k = task::eff_start(task, i);
     while k < to {
-        let f = wide(table[k]);
-        let h = head[f];
-        head[f] = 65535;
+        let f = lists::wide(task[k]);
+        let h = work[f];
+        work[f] = 65535;
         k += 1;
-        settle_all(masks, sets, table, actions, head, next, ready, h, k, to);
+        settle_all(sets, task, work, ready, h, k, to);
     }
 }
 
 // Action i is the first to reach those of its effects that are not in the state. True if there is one.
-fn note(
-    masks: &[u64; 64],
-    sets: &[u64; 64],
-    table: &[u16],
-    i: usize,
-    first: &mut [u16; 4096],
-) -> bool
-    requires { ⌜ Listed (now table) i × (i < 1024) × (length (now first) ≡ 4096) × (now masks ≡ singles) ⌝ }
-    ensures { λ r. ⌜ (r ≡ not (holds (setsOf (now (sets .entry))) (actionOf (now (table .entry)) i .eff))) × Noted (setsOf (now (sets .entry))) (has (actionOf (now (table .entry)) i .eff)) i (now (first .entry)) (now (first .exit)) ⌝ }
+fn note(sets: &[u64; 64], task: &[u16], i: usize, first: &mut [u16; 4096]) -> bool
+    requires { ⌜ Loaded (now task) × (i < actions (taskIn (now task))) × (length (now first) ≡ 4096) ⌝ }
+    ensures { λ r. ⌜ (r ≡ not (holds (setsOf (now (sets .entry))) (act (taskIn (now (task .entry))) i .eff))) × Noted (setsOf (now (sets .entry))) (has (act (taskIn (now (task .entry))) i .eff)) i (now (first .entry)) (now (first .exit)) ⌝ }
 {
-    let to = wide(table[4 * i + 3]);
-    let mut k = wide(table[4 * i + 2]);
+    let to = task::eff_end(task, i);
+    let mut k = task::eff_start(task, i);
     let mut new = false;
     while k < to {
-        let f = wide(table[k]);
-        if !state::holds(masks, sets, f / 64, f % 64) {
+        let f = lists::wide(task[k]);
+        if !state::holds(sets, f) {
             first[f] = i as u16;
             new = true;
         }
@@ -190,21 +164,15 @@ fn note(
 }
 
 // Every action is ready, or waits for a precondition that is not reached.
-fn settle_each(
-    masks: &[u64; 64],
-    sets: &[u64; 64],
-    table: &[u16],
-    actions: usize,
-    head: &mut [u16; 4096],
-    next: &mut [u16; 1024],
-    ready: &mut [u64; 16],
-)
-    requires { ⌜ ((i : ℕ) → i < actions → Listed (now table) i) × (actions ≤ 1024) × (now masks ≡ singles) × (now head ≡ replicate 4096 65535) × (now next ≡ replicate 1024 65535) × (now ready ≡ replicate 16 0) ⌝ }
-    ensures { λ _. ⌜ Sites (actionOf (now (table .entry))) actions (setsOf (now (sets .entry))) (has []) (now (head .exit)) (now (next .exit)) (now (ready .exit)) 65535 0 ⌝ }
+fn settle_each(sets: &[u64; 64], task: &[u16], work: &mut [u16; ALL], ready: &mut [u64; 16])
+    requires { ⌜ Loaded (now task) × (now work ≡ replicate 6144 65535) × (now ready ≡ replicate 16 0) ⌝ }
+    ensures { λ _. ⌜ Settled (now (task .entry)) (setsOf (now (sets .entry))) (has []) (now (work .exit)) (now (ready .exit)) ⌝ }
 {
+    let n = task::actions(task);
     let mut j: usize = 0;
-    while j < actions {
-        settle(masks, sets, table, head, next, ready, j as u16);
+    while j < n {
+        work[PLACE + j] = task::pre_start(task, j) as u16;
+        settle(sets, task, work, ready, j as u16);
         j += 1;
     }
 }
@@ -218,27 +186,23 @@ pub struct Ran {
 
 // The loop of the forward run, from where each action is settled.
 fn run_on(
-    bytes: &[u8],
-    table: &[u16],
-    masks: &[u64; 64],
-    actions: usize,
+    task: &[u16],
     goals: Goals,
     start: State,
-    head: &mut [u16; 4096],
-    next: &mut [u16; 1024],
+    work: &mut [u16; ALL],
     ready: &mut [u64; 16],
     first: &mut [u16; 4096],
     plan: &mut [u16; 1024],
 ) -> Ran
-    requires { ⌜ Looping (now bytes) (now table) (now masks) actions goals (now first) (now plan) (start .sets) (now head) (now next) (now ready) 0 0 ⌝ }
-    ensures { λ r. ⌜ RanOf (taskOf (now (bytes .entry))) (now (plan .exit)) (now (first .exit)) r ⌝ }
+    requires { ⌜ Looping (now task) goals (now first) (now plan) (start .sets) (now work) (now ready) 0 0 ⌝ }
+    ensures { λ r. ⌜ RanOf (taskIn (now (task .entry))) (now (plan .exit)) (now (first .exit)) r ⌝ }
 {
     let count = goals.count;
     let mut s = start;
     let mut steps: usize = 0;
     let mut g: usize = 0;
     loop {
-        g = unmet(masks, &s.sets, &goals.facts, g, count);
+        g = unmet(&s.sets, &goals.facts, g, count);
         if g == count {
             return Ran {
                 steps,
@@ -255,98 +219,27 @@ fn run_on(
             };
         }
         unmark(ready, i);
-        if note(masks, &s.sets, table, i, first) {
+        if note(&s.sets, task, i, first) {
             plan[steps] = i as u16;
             steps += 1;
-            s = s.step(table, i, 0);
-            wake(masks, &s.sets, table, actions, head, next, ready, i);
+            s = s.step(task, i, 0);
+            wake(&s.sets, task, work, ready, i);
         }
     }
 }
 
-// The forward run of an accepted record: the actions in the front of `plan`, and the first achiever of each fact, where `first`
-// holds 65,535 before.
-pub fn run_forward(
-    bytes: &[u8],
-    table: &[u16],
-    first: &mut [u16; 4096],
-    plan: &mut [u16; 1024],
-) -> Ran
-    requires { ⌜ (recordCheck (now bytes) ≡ none) × Tabled (taskOf (now bytes)) (now table) × (now first ≡ replicate 4096 65535) × (length (now plan) ≡ 1024) ⌝ }
-    ensures { λ r. ⌜ RanOf (taskOf (now (bytes .entry))) (now (plan .exit)) (now (first .exit)) r ⌝ }
+// The forward run of a loaded task: the actions in the front of `plan`, and the first achiever of each fact, where `first` holds
+// 65,535 before.
+pub fn run_forward(task: &[u16], first: &mut [u16; 4096], plan: &mut [u16; 1024]) -> Ran
+    requires { ⌜ Loaded (now task) × (now first ≡ replicate 4096 65535) × (length (now plan) ≡ 1024) ⌝ }
+    ensures { λ r. ⌜ RanOf (taskIn (now (task .entry))) (now (plan .exit)) (now (first .exit)) r ⌝ }
 {
-    let masks = state::single_sets();
-    let actions = table::actions(bytes);
-    let goals = Goals::load(bytes);
-    let start = State::initial(bytes);
-    let mut head = [65535u16; 4096];
-    let mut next = [65535u16; 1024];
+    let goals = Goals::load(task);
+    let start = State::initial(task);
+    let mut work = [65535u16; ALL];
     let mut ready = [0u64; 16];
-    settle_each(
-        &masks,
-        &start.sets,
-        table,
-        actions,
-        &mut head,
-        &mut next,
-        &mut ready,
-    );
-    run_on(
-        bytes,
-        table,
-        &masks,
-        actions,
-        goals,
-        start,
-        &mut head,
-        &mut next,
-        &mut ready,
-        first,
-        plan,
-    )
-}
-
-// The whole list in the front of another.
-pub fn copy(from: &[u16], to: &mut [u16])
-    requires { ⌜ length (now from) ≤ length (now to) ⌝ }
-    ensures { λ _. ⌜ now (to .exit) ≡ now (from .entry) ++ drop (length (now (from .entry))) (now (to .entry)) ⌝ }
-{
-    let mut k: usize = 0;
-    while k < from.len() {
-        to[k] = from[k];
-        k += 1;
-    }
-}
-
-// The capacity of a plan list of n entries.
-fn capacity(n: usize) -> usize
-    ensures { λ r. ⌜ r ≡ capacity n ⌝ }
-{
-    if n < 32768 { n } else { 32768 }
-}
-
-// Whether a result fits the list that was lent for it.
-pub enum Laid {
-    Whole,
-    Refused(Refusal),
-}
-
-// The result in the front of the plan list and 65,535 behind it; 65,535 throughout where it is longer than the capacity.
-pub fn lay(list: &[u16], plan: &mut [u16]) -> Laid
-    ensures { λ r. ⌜ (laidOf r ≡ roomCheck (length (now (list .entry))) (capacity (length (now (plan .entry))))) × (now (plan .exit) ≡ laidList (length (now (plan .entry))) (now (list .entry))) ⌝ }
-{
-    let n = list.len();
-    let room = capacity(plan.len());
-    if room < n {
-        lists::blank(plan);
-        return Laid::Refused(Refusal {
-            number: 11,
-            place: room as u32,
-        });
-    }
-    copy(list, plan);
-    lists::blank_from(plan, n);
-    Laid::Whole
+    settle_each(&start.sets, task, &mut work, &mut ready);
+    run_on(task, goals, start, &mut work, &mut ready, first, plan)
 }
 
 // What the forward run answers.
@@ -355,15 +248,13 @@ pub enum Found {
     Refused(Refusal),
 }
 
-fn forward_accepted(bytes: &[u8], plan: &mut [u16]) -> Found
-    requires { ⌜ recordCheck (now bytes) ≡ none ⌝ }
-    ensures { λ r. ⌜ (foundOf r ≡ forwardCall (now (bytes .entry)) (length (now (plan .entry)))) × (now (plan .exit) ≡ forwardList (now (bytes .entry)) (length (now (plan .entry)))) ⌝ }
+fn forward_loaded(task: &[u16], plan: &mut [u16]) -> Found
+    requires { ⌜ Loaded (now task) ⌝ }
+    ensures { λ r. ⌜ (foundOf r ≡ forwardOf (taskIn (now (task .entry))) (length (now (plan .entry)))) × (now (plan .exit) ≡ forwardIn (taskIn (now (task .entry))) (length (now (plan .entry)))) ⌝ }
 {
-    let mut table = [0u16; 34816];
-    table::load(bytes, &mut table);
     let mut first = [65535u16; 4096];
     let mut run = [65535u16; 1024];
-    let ran = run_forward(bytes, &table, &mut first, &mut run);
+    let ran = run_forward(task, &mut first, &mut run);
     let steps = ran.steps;
     let state = ran.state;
     let reached = state.reached() as u32;
@@ -374,14 +265,28 @@ fn forward_accepted(bytes: &[u8], plan: &mut [u16]) -> Found
             place: reached,
         });
     }
-    let laid = lay(&run[..steps], plan);
-    let Laid::Refused(f) = laid else {
+    let laid = lists::lay(&run[..steps], plan);
+    let Checked::Refused(f) = laid else {
         return Found::Run {
             steps: steps as u32,
             reached,
         };
     };
     Found::Refused(f)
+}
+
+fn forward_accepted(bytes: &[u8], plan: &mut [u16]) -> Found
+    requires { ⌜ recordCheck (now bytes) ≡ none ⌝ }
+    ensures { λ r. ⌜ (foundOf r ≡ forwardCall (now (bytes .entry)) (length (now (plan .entry)))) × (now (plan .exit) ≡ forwardList (now (bytes .entry)) (length (now (plan .entry)))) ⌝ }
+{
+    if task::is_short(bytes) {
+        let mut task = [0u16; task::SHORT];
+        task::load(bytes, &mut task);
+        return forward_loaded(&task, plan);
+    }
+    let mut task = [0u16; task::LONG];
+    task::load(bytes, &mut task);
+    forward_loaded(&task, plan)
 }
 
 // The forward run of a record, in the plan list.

@@ -172,12 +172,12 @@ fn judge_accepted(bytes: &[u8], list: &[u16]) -> Judging
     requires { ⌜ recordCheck (now bytes) ≡ none ⌝ }
     ensures { λ r. ⌜ answerOf r ≡ judgeCall (now (bytes .entry)) (now (list .entry)) ⌝ }
 {
-    if bytes.len() <= task::SMALL_RECORD {
-        let mut small = [0u16; task::SMALL_TASK];
+    if task::is_short(bytes) {
+        let mut small = [0u16; task::SHORT];
         task::load(bytes, &mut small);
         return judge_loaded(&small, list);
     }
-    let mut large = [0u16; task::LARGE_TASK];
+    let mut large = [0u16; task::LONG];
     task::load(bytes, &mut large);
     judge_loaded(&large, list)
 }

@@ -1,8 +1,13 @@
-// What stands behind a result in a list or an area that the caller lends: 65,535 in lists, 0 in bytes.
+// Lists and areas that the caller lends: a result in the front, and behind it 65,535 in lists, 0 in bytes.
+use answers::Checked;
+use answers::Refusal;
 ghost use mathlib.Core.Path.{_≡_};
 ghost use mathlib.Core.List.{_++_};
-ghost use Prim.Native.Nat.{_-_};
-ghost use lib.ListN.{length, take, replicate};
+ghost use Prim.Native.Nat.{_-_, _≤_, min};
+ghost use lib.ListN.{length, take, drop, replicate};
+ghost use Rattle.planning.specs.Calls.{capacity, roomCheck};
+ghost use Rattle.answers.specs.Answers.{checkOf};
+ghost use Rattle.lists.specs.Lent.{laid};
 
 // A 16-bit number as an index.
 pub fn wide(x: u16) -> usize
@@ -45,4 +50,48 @@ pub fn clear(d: &mut [u8])
     ensures { λ _. ⌜ now (d .exit) ≡ replicate (length (now (d .entry))) 0 ⌝ }
 {
     clear_from(d, 0);
+}
+
+// The lesser of two numbers.
+pub fn lesser(a: usize, b: usize) -> usize
+    ensures { λ r. ⌜ r ≡ min a b ⌝ }
+{
+    if a < b { a } else { b }
+}
+
+// The capacity of a plan list of n entries.
+pub fn capacity(n: usize) -> usize
+    ensures { λ r. ⌜ r ≡ capacity n ⌝ }
+{
+    lesser(n, 32768)
+}
+
+// The whole list in the front of another.
+pub fn copy(from: &[u16], to: &mut [u16])
+    requires { ⌜ length (now from) ≤ length (now to) ⌝ }
+    ensures { λ _. ⌜ now (to .exit) ≡ now (from .entry) ++ drop (length (now (from .entry))) (now (to .entry)) ⌝ }
+{
+    let mut k: usize = 0;
+    while k < from.len() {
+        to[k] = from[k];
+        k += 1;
+    }
+}
+
+// The result in the front of the plan list and 65,535 behind it; 65,535 throughout where it is longer than the capacity.
+pub fn lay(list: &[u16], plan: &mut [u16]) -> Checked
+    ensures { λ r. ⌜ (checkOf r ≡ roomCheck (length (now (list .entry))) (capacity (length (now (plan .entry))))) × (now (plan .exit) ≡ laid (length (now (plan .entry))) (now (list .entry))) ⌝ }
+{
+    let n = list.len();
+    let room = capacity(plan.len());
+    if room < n {
+        blank(plan);
+        return Checked::Refused(Refusal {
+            number: 11,
+            place: room as u32,
+        });
+    }
+    copy(list, plan);
+    blank_from(plan, n);
+    Checked::Accepted
 }

@@ -131,12 +131,12 @@ fn plan_accepted(
     requires { ⌜ recordCheck (now bytes) ≡ none ⌝ }
     ensures { λ r. ⌜ Called given (now (bytes .entry)) (now (list .entry)) (roomIn (now (plan .entry)) (now (work .entry))) (now (plan .exit)) r ⌝ }
 {
-    if bytes.len() <= task::SMALL_RECORD {
-        let mut small = [0u16; task::SMALL_TASK];
+    if task::is_short(bytes) {
+        let mut small = [0u16; task::SHORT];
         task::load(bytes, &mut small);
         return plan_loaded(&mut small, given, list, plan, work);
     }
-    let mut large = [0u16; task::LARGE_TASK];
+    let mut large = [0u16; task::LONG];
     task::load(bytes, &mut large);
     plan_loaded(&mut large, given, list, plan, work)
 }

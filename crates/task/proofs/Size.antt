@@ -1,20 +1,20 @@
 -- Bits and places go together: n actions take 24 bits each and 12 for each fact, so their facts, the end of the record and the
 -- size of the loaded task are one count.
 use mathlib.Core.Path.{_≡_, refl}
-use mathlib.Core.Bool.{_&&_}
+use mathlib.Core.Bool.{Bool, true, false, _&&_}
 use mathlib.Core.List.{List}
 use mathlib.Core.Option.{none}
 use Prim.Native.Nat.{ℕ, zero, suc, _+_, _-_, _*_, _/_, _<_, _≤_}
 use native.Mathlib.Omega.{arith}
 use lib.Dec.{T, eqb, eqb→eq}
-use lib.ListN.{length}
+use lib.ListN.{length, replicate, length-replicate}
 use Rattle.planning.specs.Basics.{bitsAt}
 use Rattle.planning.specs.Record.{variablesIn, actionsIn, effectsFrom, actionEnd, actionsEnd, endsAt, recordEnd, recordCheck}
 use Rattle.planning.proofs.Tests.{and-l}
 use Rattle.planning.proofs.Fields.{taskOf-variables, taskOf-actions}
 use Rattle.planning.proofs.Formed.{parts, formed-of}
 use Rattle.planning.proofs.Sizes.{record-length}
-use Rattle.task.specs.Size.{factsOf, factsFrom, taskSize}
+use Rattle.task.specs.Size.{factsOf, factsFrom, taskSize, roomFor}
 use Rattle.task.proofs.Cut.{factsOf-le}
 
 pub actionEnd-is : (s : List ℕ) (p : ℕ) → actionEnd s p ≡ p + 24 + 12 * factsOf s p
@@ -91,6 +91,15 @@ module _ (s : List ℕ) (e : recordCheck s ≡ none) where
   pub taskSize-bytes : 3 * taskSize s ≤ 16332 + 4 * length s
   unfolding taskSize
   taskSize-bytes = omega (arith, fields-le)
+
+-- which of the two lengths a record needs
+pub short-room : (s : List ℕ) → recordCheck s ≡ none → (b : Bool) → (T b → length s ≤ 2877) → taskSize s ≤ roomFor b
+short-room s e true h = omega (arith, h tt, taskSize-bytes s e)
+short-room s e false h = taskSize-max s e
+
+-- a list of that length has room for the task
+pub room-enough : (s l : List ℕ) (b c : Bool) → taskSize s ≤ roomFor b → b ≡ c → l ≡ replicate (roomFor c) 0 → taskSize s ≤ length l
+room-enough s l b c h e q = rw (q, length-replicate {A = ℕ} (roomFor c) 0, ← e) h
 
 pub variables-read : (s : List ℕ) (r : ℕ) → r ≡ bitsAt s 4 7 → r ≡ variablesIn s
 unfolding variablesIn

@@ -1,4 +1,5 @@
 -- How long the loaded task of a record is.
+use mathlib.Core.Bool.{Bool, true, false}
 use mathlib.Core.List.{List}
 use Prim.Native.Nat.{ℕ, zero, suc, _+_, _*_}
 use Rattle.planning.specs.Record.{variablesIn, actionsIn, preconditionsIn, effectsIn, actionEnd}
@@ -15,3 +16,8 @@ factsFrom s p (suc n) = factsOf s p + factsFrom s (actionEnd s p) n
 -- 65 rows for the head and the variables, a row for each action, and one number for each fact
 unfoldable pub taskSize : List ℕ → ℕ
 taskSize s = 4 * (1361 + actionsIn s) + factsFrom s (22 + 20 * variablesIn s) (actionsIn s)
+
+-- the length of a list for it: a record is short, or not
+abbrev pub roomFor : Bool → ℕ
+roomFor true = 9280
+roomFor false = 40260

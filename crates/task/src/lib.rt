@@ -7,14 +7,9 @@ ghost use Rattle.planning.specs.Record.{taskOf, recordCheck, variablesIn, actio
 ghost use Rattle.planning.specs.Runs.{variables, actions, variable, count, black};
 ghost use Rattle.task.specs.Task.{cell, taskIn, Loaded, costAt, preAt, effAt, endAt};
 ghost use Rattle.task.specs.Links.{headAt, nextAt, linked, Unlinked};
-ghost use Rattle.task.specs.Size.{taskSize};
+ghost use Rattle.task.specs.Size.{taskSize, roomFor};
 ghost use Rattle.task.specs.Loading.{RowWritten, FactsLoaded, Room, ActionLoaded, VariableLoaded, Headed};
 ghost use Rattle.task.specs.Goals.{optionOf};
-
-// How long a list serves every record, and how long one serves a record of at most `SMALL_RECORD` bytes.
-pub const LARGE_TASK: usize = 40260;
-pub const SMALL_TASK: usize = 9280;
-pub const SMALL_RECORD: usize = 2877;
 
 // The number of variables.
 pub fn variables(task: &[u16]) -> usize
@@ -243,6 +238,18 @@ fn load_variables(bytes: &[u8], task: &mut [u16], n: usize, count: usize)
         load_variable(bytes, task, v);
         v += 1;
     }
+}
+
+// Lengths of a list for a loaded task: one for the short records, one for every record.
+pub const SHORT: usize = 9280;
+pub const LONG: usize = 40260;
+
+// A list of SHORT numbers is enough for the record; for any other one of LONG is.
+pub fn is_short(bytes: &[u8]) -> bool
+    requires { ⌜ recordCheck (now bytes) ≡ none ⌝ }
+    ensures { λ r. ⌜ taskSize (now (bytes .entry)) ≤ roomFor r ⌝ }
+{
+    bytes.len() <= 2877
 }
 
 // The task of an accepted record.

@@ -1,7 +1,6 @@
 use mathlib.Core.Path.{ap}
 use lib.ListN.{getD}
 use lib.Bits.{bitOr}
-use Rattle.state.proofs.Members.{one-shl}
 use Rattle.forward.proofs.Bits.{marked}
 use borrow.Author.Needs.{needs}
 use Rattle.forward.proofs.mark.Statement.{statement}
@@ -13,8 +12,8 @@ mul-ready c = search needs
 element-copy-out-ready : tie.Need-element-copy-out-ready
 element-copy-out-ready c = search needs
 
-shl-ready : tie.Need-shl-ready
-shl-ready c = search needs
+single-requires : tie.Need-single-requires
+single-requires c κs = search needs
 
 mul-ready-2 : tie.Need-mul-ready-2
 mul-ready-2 c = search needs
@@ -23,9 +22,17 @@ element-write-ready : tie.Need-element-write-ready
 element-write-ready c = search needs
 
 returns : tie.Need-returns
-returns c = let a = c .before .args in marked (a .ready .now) (a .i) _ (search needs) (search needs) (ap (bitOr (getD (a .ready .now) _ 0)) (one-shl _ (search needs)))
+returns c =
+    let a = c .before .before .args in
+    marked (a .ready .now) (a .i) _ (search needs) (search needs) (ap (bitOr (getD (a .ready .now) _ 0)) (c .single .ensures))
 
 pub mark-spec : {M : Type 1} → statement M
 mark-spec =
     tie.close
-    (tie.spec mul-ready element-copy-out-ready shl-ready mul-ready-2 element-write-ready returns)
+    (tie.spec
+    mul-ready
+    element-copy-out-ready
+    single-requires
+    mul-ready-2
+    element-write-ready
+    returns)

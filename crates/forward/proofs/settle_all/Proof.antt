@@ -1,53 +1,56 @@
-use Rattle.planning.specs.Runs.{has}
-use Rattle.table.specs.Table.{factsIn}
-use Rattle.state.specs.Sets.{setsOf, actionOf}
-use Rattle.forward.specs.Waiting.{Sites}
-use Rattle.forward.proofs.Chains.{sites-ended, sites-spent, front, sites-settled}
 use borrow.Author.Needs.{needs}
 use native.Mathlib.Omega.{arith}
+use Rattle.planning.specs.Runs.{has, actions}
+use Rattle.task.specs.Task.{factsIn, taskIn}
+use Rattle.state.specs.Sets.{setsOf}
+use Rattle.forward.specs.Waiting.{Sites}
+use Rattle.forward.proofs.Chains.{sites-ended, sites-spent, front, sites-settled}
 use Rattle.forward.proofs.settle_all.Statement.{statement}
 use Rattle.forward.proofs.settle_all.Tie as tie
 
 abbrev Inv-loop : tie.InvT-loop
-Inv-loop masks sets table actions head₀ next₀ ready₀ h from to j₀ left₀ head next ready j left = Sites (actionOf table) actions (setsOf sets) (has (factsIn table from to)) head next ready j left
+Inv-loop sets task work₀ ready₀ h from to j₀ left₀ work ready j left =
+    Sites task (actions (taskIn task)) (setsOf sets) (has (factsIn task from to)) work ready j left
 
 abbrev μ-loop : tie.MeasureT-loop
-μ-loop masks sets table actions head₀ next₀ ready₀ h from to j₀ left₀ head next ready j left = left
+μ-loop sets task work₀ ready₀ h from to j₀ left₀ work ready j left = left
 
 loop-holds : tie.Need-loop-holds Inv-loop μ-loop
-loop-holds c = c .before .pre .2
+loop-holds c = c .before .pre .1
 
 returns : tie.Need-returns Inv-loop μ-loop
-returns c = sites-ended _ _ _ _ _ _ _ _ _ (c .before .before .loop .inv) (c .if1 .taken)
+returns c = sites-ended (c .before .before .loop .inv) (c .if1 .taken)
 
 cast-after : tie.Need-cast-after Inv-loop μ-loop
-cast-after c = omega arith
+cast-after c = search needs
+
+add-after : tie.Need-add-after Inv-loop μ-loop
+add-after c = search needs
 
 mul-after : tie.Need-mul-after Inv-loop μ-loop
-mul-after c = omega arith
+mul-after c = search needs
 
 element-copy-out-after : tie.Need-element-copy-out-after Inv-loop μ-loop
-element-copy-out-after c = omega arith
+element-copy-out-after c = search needs
 
 settle-requires : tie.Need-settle-requires Inv-loop μ-loop
 settle-requires c κs =
-    let at-head = c .before .before .before .before .before .before in
-    let S = at-head .loop .inv in
-    (at-head .before .before .pre .0 (at-head .loop .j) (front _ _ _ _ _ _ _ _ _ S (omega arith) .below), omega arith, S .ready-long, search needs)
+    let head = c .before .before .before .before .before in
+    let S = head .loop .inv in
+    let b = front S (omega arith) .below in
+    (head .before .before .pre .0, b, S .ready-long, S .places (head .loop .j) b)
 
 sub-left : tie.Need-sub-left Inv-loop μ-loop
-sub-left c = omega arith
+sub-left c = search needs
 
 loop-less : tie.Need-loop-less Inv-loop μ-loop
-loop-less c = omega arith
+loop-less c = search needs
 
 loop-again : tie.Need-loop-again Inv-loop μ-loop
-loop-again c =
-    let at-head = c .before .before .before .before .before .before .before in
-    sites-settled _ _ _ _ _ _ _ _ _ (at-head .loop .inv) (omega arith) _ _ _ (c .settle .ensures)
+loop-again c = sites-settled (c .before .before .before .before .before .before .loop .inv) (omega arith) _ _ (c .settle .ensures)
 
 returns-2 : tie.Need-returns-2 Inv-loop μ-loop
-returns-2 c = sites-spent _ _ _ _ _ _ _ _ _ (c .before .loop .inv) (omega arith)
+returns-2 c = sites-spent (c .before .loop .inv) (omega arith)
 
 pub settle-all-spec : {M : Type 1} → statement M
 settle-all-spec =
@@ -58,6 +61,7 @@ settle-all-spec =
     loop-holds
     returns
     cast-after
+    add-after
     mul-after
     element-copy-out-after
     settle-requires

@@ -1,6 +1,7 @@
 use borrow.Author.Tests.{not-true, not-false}
 use Rattle.state.specs.Sets.{setsOf}
-use Rattle.forward.proofs.Places.{Passing, passing-turn, open-at}
+use Rattle.forward.specs.Waiting.{Passing}
+use Rattle.forward.proofs.Places.{passing-turn, open-at}
 use borrow.Author.Needs.{needs}
 use mathlib.Core.Path.{sym, _∙_}
 use Prim.Native.Nat.{_-_, _<_}
@@ -9,10 +10,10 @@ use Rattle.forward.proofs.unmet.Statement.{statement}
 use Rattle.forward.proofs.unmet.Tie as tie
 
 abbrev Inv-loop : tie.InvT-loop
-Inv-loop masks sets facts from to k₀ k = Passing (setsOf sets) facts from to k
+Inv-loop sets facts from to k₀ k = Passing (setsOf sets) facts from to k
 
 abbrev μ-loop : tie.MeasureT-loop
-μ-loop masks sets facts from to k₀ k = to - k
+μ-loop sets facts from to k₀ k = to - k
 
 loop-holds : tie.Need-loop-holds Inv-loop μ-loop
 loop-holds c = record { from = search needs; to = search needs; passed = λ x p q. absurd (omega arith) }
@@ -27,17 +28,17 @@ wide-requires : tie.Need-wide-requires Inv-loop μ-loop
 wide-requires c κs = tt
 
 small : (c : tie.After-wide Inv-loop μ-loop) → c .wide .result < 4096
-small c = omega (arith, c .wide .ensures, c .before .before .before .before .before .pre .3 (c .before .before .before .loop .k) (c .before .before .before .loop .inv .from) (omega arith))
+small c = omega (arith, c .wide .ensures, c .before .before .before .before .before .pre .2 (c .before .before .before .loop .k) (c .before .before .before .loop .inv .from) (omega arith))
 
 holds-requires : tie.Need-holds-requires Inv-loop μ-loop
-holds-requires c κs = (omega (arith, small c), omega (arith, small c), search needs)
+holds-requires c κs = small c
 
 returns : tie.Need-returns Inv-loop μ-loop
 returns c =
     let at-head = c .before .before .before .before .before in
     let a = at-head .before .before .args in
     let I = at-head .loop .inv in
-    record { from = I .from; to = I .to; passed = I .passed; open′ = λ _. open-at (setsOf (a .sets .now)) _ _ (c .before .before .wide .ensures) (sym (c .before .holds .ensures) ∙ not-true _ (c .if1 .taken)) }
+    record { passing = I; open′ = λ _. open-at (setsOf (a .sets .now)) _ _ (c .before .before .wide .ensures) (sym (c .before .holds .ensures) ∙ not-true _ (c .if1 .taken)) }
 
 add-k : tie.Need-add-k Inv-loop μ-loop
 add-k c = omega arith
@@ -53,7 +54,7 @@ loop-again c =
 returns-2 : tie.Need-returns-2 Inv-loop μ-loop
 returns-2 c =
     let I = c .before .loop .inv in
-    record { from = omega (arith, I .from); to = omega arith; passed = λ k p q. I .passed k p (omega arith); open′ = λ h. absurd (omega arith) }
+    record { passing = record { from = omega (arith, I .from); to = omega arith; passed = λ k p q. I .passed k p (omega arith) }; open′ = λ h. absurd (omega arith) }
 
 pub unmet-spec : {M : Type 1} → statement M
 unmet-spec =

@@ -1,111 +1,101 @@
-use Rattle.planning.specs.Runs.{has}
-use Rattle.table.specs.Table.{factsIn, effAt, endAt}
-use Rattle.state.specs.Sets.{setsOf, actionOf}
-use Rattle.forward.specs.Waiting.{Sites}
-use Rattle.forward.proofs.Places.{has-less, factsIn-none}
-use Rattle.forward.proofs.Chains.{sites-off}
 use borrow.Author.Needs.{needs}
-use mathlib.Core.Path.{_≡_}
+use mathlib.Core.Path.{_≡_, sym, subst}
 use Prim.Native.Nat.{_-_, _≤_, _<_}
 use native.Mathlib.Omega.{arith}
+use Rattle.planning.specs.Record.{Action}
+use Rattle.planning.specs.Runs.{has}
+use Rattle.task.specs.Task.{factsIn, effAt, endAt, actionIn}
+use Rattle.state.specs.Sets.{setsOf}
+use Rattle.state.proofs.Listed.{Listed}
+use Rattle.state.proofs.Listing.{loaded-listed}
+use Rattle.state.proofs.Effects.{factsIn-none}
+use Rattle.forward.specs.Waiting.{Settled}
+use Rattle.forward.proofs.Places.{has-less}
+use Rattle.forward.proofs.Chains.{sites-off}
 use Rattle.forward.proofs.wake.Statement.{statement}
 use Rattle.forward.proofs.wake.Tie as tie
 
 abbrev Inv-loop : tie.InvT-loop
-Inv-loop masks sets table actions head₀ next₀ ready₀ i to k₀ head next ready k = (to ≡ endAt table i) × (effAt table i ≤ k) × (k ≤ to) × Sites (actionOf table) actions (setsOf sets) (has (factsIn table k to)) head next ready 65535 0
+Inv-loop sets task work₀ ready₀ i to k₀ work ready k = (to ≡ endAt task i) × (effAt task i ≤ k) × (k ≤ to) × Settled task (setsOf sets) (has (factsIn task k to)) work ready
 
 abbrev μ-loop : tie.MeasureT-loop
-μ-loop masks sets table actions head₀ next₀ ready₀ i to k₀ head next ready k = to - k
+μ-loop sets task work₀ ready₀ i to k₀ work ready k = to - k
 
-mul-wide : tie.Need-mul-wide Inv-loop μ-loop
-mul-wide c = omega arith
+abbrev start : tie.At-loop Inv-loop μ-loop → tie.Start Inv-loop μ-loop
+start c = c .before .before .before .before
 
-add-wide : tie.Need-add-wide Inv-loop μ-loop
-add-wide c = omega arith
+listed : (c : tie.At-loop Inv-loop μ-loop) → Listed (start c .args .task .now) (start c .args .i)
+listed c = loaded-listed _ (start c .pre .0) _ (start c .pre .1)
 
-mul-wide-2 : tie.Need-mul-wide-2 Inv-loop μ-loop
-mul-wide-2 c = omega arith
+eff-end-requires : tie.Need-eff-end-requires Inv-loop μ-loop
+eff-end-requires c κs = search needs
 
-shared-slice-read-wide : tie.Need-shared-slice-read-wide Inv-loop μ-loop
-shared-slice-read-wide c = omega arith
-
-wide-requires : tie.Need-wide-requires Inv-loop μ-loop
-wide-requires c κs = tt
-
-mul-wide-3 : tie.Need-mul-wide-3 Inv-loop μ-loop
-mul-wide-3 c = omega arith
-
-add-wide-2 : tie.Need-add-wide-2 Inv-loop μ-loop
-add-wide-2 c = omega arith
-
-mul-wide-4 : tie.Need-mul-wide-4 Inv-loop μ-loop
-mul-wide-4 c = omega arith
-
-shared-slice-read-wide-2 : tie.Need-shared-slice-read-wide-2 Inv-loop μ-loop
-shared-slice-read-wide-2 c = omega arith
-
-wide-requires-2 : tie.Need-wide-requires-2 Inv-loop μ-loop
-wide-requires-2 c κs = tt
+eff-start-requires : tie.Need-eff-start-requires Inv-loop μ-loop
+eff-start-requires c κs = search needs
 
 loop-holds : tie.Need-loop-holds Inv-loop μ-loop
-unfolding actionOf
-loop-holds c = let L = c .before .before .before .before .before .pre .2 in (c .before .before .wide .ensures, omega (arith, c .wide2 .ensures), omega (arith, c .wide2 .ensures, c .before .before .wide .ensures, L .eff-below), rw (c .before .before .wide .ensures, c .wide2 .ensures) (c .before .before .before .before .before .pre .3))
+unfolding actionIn
+loop-holds c =
+    let at-start = c .before .before .before in
+    let a = at-start .args in
+    let p = at-start .pre in
+    let L = loaded-listed _ (p .0) _ (p .1) in
+    let to = c .before .eff-end .ensures in
+    let from = c .eff-start .ensures in
+    let S = subst (λ (x : Action). Settled (a .task .now) (setsOf (a .sets .now)) (has (x .eff)) (a .work .now) (a .ready .now)) (sym (L .states)) (p .2) in
+    (to, omega (arith, from), omega (arith, from, to, L .eff-below), rw (to, from) S)
 
-mul-wide-5 : tie.Need-mul-wide-5 Inv-loop μ-loop
-mul-wide-5 c = omega arith
+mul-wide : tie.Need-mul-wide Inv-loop μ-loop
+mul-wide c = record { fits = omega (arith, listed (c .before) .end-below, c .before .loop .inv .0) }
 
-shared-slice-read-wide-3 : tie.Need-shared-slice-read-wide-3 Inv-loop μ-loop
-shared-slice-read-wide-3 c = omega arith
+shared-slice-read-wide : tie.Need-shared-slice-read-wide Inv-loop μ-loop
+shared-slice-read-wide c = omega (arith, listed (c .before .before) .end-below, c .before .before .loop .inv .0)
 
-wide-requires-3 : tie.Need-wide-requires-3 Inv-loop μ-loop
-wide-requires-3 c κs = tt
+wide-requires : tie.Need-wide-requires Inv-loop μ-loop
+wide-requires c κs = search needs
 
-small : (c : tie.After-wide3 Inv-loop μ-loop) → c .wide3 .result < 4096
+small : (c : tie.After-wide Inv-loop μ-loop) → c .wide .result < 4096
 small c =
-    let L = c .before .before .before .before .before .before .before .before .before .pre .2 in
-    let I = c .before .before .before .loop .inv in
-    omega (arith, c .wide3 .ensures, L .small (c .before .before .before .loop .k) (omega (arith, L .pre-below, I .1)) (omega (arith, I .0)))
+    let head = c .before .before .before in
+    let L = listed head in
+    let I = head .loop .inv in
+    omega (arith, c .wide .ensures, L .small (head .loop .k) (omega (arith, L .pre-below, I .1)) (omega (arith, I .0)))
 
 mul-h : tie.Need-mul-h Inv-loop μ-loop
 mul-h c = record { fits = omega (arith, small c) }
 
 element-copy-out-h : tie.Need-element-copy-out-h Inv-loop μ-loop
-element-copy-out-h c = small c
+element-copy-out-h c = omega (arith, small c)
 
-mul-head : tie.Need-mul-head Inv-loop μ-loop
-mul-head c = record { fits = omega (arith, small (c .before)) }
+mul-work : tie.Need-mul-work Inv-loop μ-loop
+mul-work c = record { fits = omega (arith, small (c .before)) }
 
-element-write-head : tie.Need-element-write-head Inv-loop μ-loop
-element-write-head c = small (c .before)
+element-write-work : tie.Need-element-write-work Inv-loop μ-loop
+element-write-work c = omega (arith, small (c .before))
 
 add-k : tie.Need-add-k Inv-loop μ-loop
-add-k c = omega arith
+add-k c = search needs
 
 settle-all-requires : tie.Need-settle-all-requires Inv-loop μ-loop
 settle-all-requires c κs =
-    let at-wide3 = c .before .before .before .before in
-    let at-head = at-wide3 .before .before .before in
-    let at-start = at-head .before .before .before .before .before .before in
-    let p = at-start .pre in
-    let I = at-head .loop .inv in
-    (p .0, search needs, sites-off _ _ _ _ _ _ _ (I .3) _ (small at-wide3) _ (has-less _ _ _ _ (omega arith) (omega (arith, I .0, p .2 .end-below)) (at-wide3 .wide3 .ensures)))
+    let at-wide = c .before .before .before in
+    let head = at-wide .before .before .before in
+    let I = head .loop .inv in
+    (start head .pre .0, sites-off (I .3) _ (small at-wide) _ (has-less _ _ _ _ (omega arith) (omega (arith, I .0, listed head .end-below)) (at-wide .wide .ensures)))
 
 loop-less : tie.Need-loop-less Inv-loop μ-loop
 loop-less c = omega arith
 
 loop-again : tie.Need-loop-again Inv-loop μ-loop
 loop-again c =
-    let at-head = c .before .before .before .before .before .before .before .before in
-    let I = at-head .loop .inv in
+    let I = c .before .before .before .before .before .before .before .loop .inv in
     (I .0, omega (arith, I .1), omega arith, c .settle-all .ensures)
 
 returns : tie.Need-returns Inv-loop μ-loop
 returns c =
-    let at-wide = c .before .before .before .before in
-    let at-start = at-wide .before .before .before in
-    let I = c .before .loop .inv in
-    let e : c .before .loop .k ≡ at-wide .wide .result = omega (arith, I .2) in
-    rw (e, factsIn-none (at-start .args .table .now) (at-wide .wide .result)) at (I .3)
+    let head = c .before in
+    let I = head .loop .inv in
+    rw (factsIn-none (start head .args .task .now) (head .loop .k) (head .before .before .eff-end .result) (omega (arith, I .2))) at (I .3)
 
 pub wake-spec : {M : Type 1} → statement M
 wake-spec =
@@ -113,24 +103,16 @@ wake-spec =
     (tie.spec
     Inv-loop
     μ-loop
+    eff-end-requires
+    eff-start-requires
+    loop-holds
     mul-wide
-    add-wide
-    mul-wide-2
     shared-slice-read-wide
     wide-requires
-    mul-wide-3
-    add-wide-2
-    mul-wide-4
-    shared-slice-read-wide-2
-    wide-requires-2
-    loop-holds
-    mul-wide-5
-    shared-slice-read-wide-3
-    wide-requires-3
     mul-h
     element-copy-out-h
-    mul-head
-    element-write-head
+    mul-work
+    element-write-work
     add-k
     settle-all-requires
     loop-less

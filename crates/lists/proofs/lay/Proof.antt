@@ -1,9 +1,9 @@
 use mathlib.Core.Path.{sym, _∙_}
 use native.Mathlib.Omega.{arith}
 use lib.ListN.{length}
-use Rattle.forward.proofs.Answers.{room-short, room-fits, laid-short, laid-whole, capacity-le}
-use Rattle.forward.proofs.lay.Statement.{statement}
-use Rattle.forward.proofs.lay.Tie as tie
+use Rattle.lists.proofs.Laying.{room-short, room-fits, laid-short, laid-whole, capacity-le}
+use Rattle.lists.proofs.lay.Statement.{statement}
+use Rattle.lists.proofs.lay.Tie as tie
 
 capacity-requires : tie.Need-capacity-requires
 capacity-requires c κs = tt

@@ -1,12 +1,12 @@
 use mathlib.Core.List.{_++_}
-use Rattle.forward.proofs.Answers.{copy-turn, copy-end}
+use Rattle.lists.proofs.Laying.{copy-turn, copy-end}
 use lib.ListN.{length-set}
 use mathlib.Core.Path.{_≡_, refl, _∙_}
 use Prim.Native.Nat.{_-_, _≤_}
 use native.Mathlib.Omega.{arith}
 use lib.ListN.{length, take, drop}
-use Rattle.forward.proofs.copy.Statement.{statement}
-use Rattle.forward.proofs.copy.Tie as tie
+use Rattle.lists.proofs.copy.Statement.{statement}
+use Rattle.lists.proofs.copy.Tie as tie
 
 abbrev Inv-loop : tie.InvT-loop
 Inv-loop from to₀ k₀ to k = (k ≤ length from) × (length to ≡ length to₀) × (to ≡ take k from ++ drop k to₀)
