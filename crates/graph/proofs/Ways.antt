@@ -5,7 +5,6 @@ use mathlib.Core.Path.{_≡_, refl, sym, ap, _∙_, fun-ext, subst}
 use mathlib.Core.Logic.{_⊎_, inl, inr}
 use mathlib.Core.Bool.{Bool, true, false, _&&_, _||_, or-false}
 use mathlib.Core.List.{List}
-use mathlib.Core.Option.{none}
 use Prim.Native.Nat.{ℕ, zero, suc, pred, _+_, _<_, _≤_}
 use native.Mathlib.Numerals.{add-one}
 use native.Mathlib.Omega.{arith}
@@ -15,17 +14,16 @@ use lib.Dec.{T}
 use lib.ListN.{length, getD, set, length-set}
 use lib.Seq.{getD-set-same, getD-set-other}
 use Rattle.planning.specs.Basics.{someBelow, first, reach}
-use Rattle.planning.specs.Record.{Task, taskOf, recordCheck}
+use Rattle.planning.specs.Record.{Task}
 use Rattle.planning.specs.Runs.{variables}
 use Rattle.planning.specs.Painting.{blackArc, onCycle, cyclic}
 use Rattle.planning.proofs.Tests.{T→true, true→T, F→false, or-l, or-r, or-cases, and-l, and-r, and-i}
 use Rattle.planning.proofs.Below.{below-cases, some-intro, some-elim}
 use Rattle.planning.proofs.Graph.{reach-here, reach-move, reach-cases, reach-zero, reach-bound}
-use Rattle.planning.proofs.Formed.{formed-of}
 use Rattle.planning.proofs.Painting.{black-inside}
 use Rattle.state.specs.Sets.{inSet, setsOf, modeOf}
 use Rattle.state.proofs.Members.{inSet-or}
-use Rattle.graph.specs.Given.{Rows, through, via, StartBelow}
+use Rattle.graph.specs.Graph.{Rows, through, via, StartBelow}
 use Rattle.graph.proofs.Searches.{both, first-same}
 
 -- one row
@@ -197,9 +195,6 @@ module _ (s : ℕ → ℕ → Bool) where
         back t =
             let r = some-elim n (λ u. s v u && reach n s (pred n) u v) t in
             reach-via (pred n) v (r .0) v (and-l (s v (r .0)) (reach n s (pred n) (r .0) v) (r .2)) (and-r (s v (r .0)) (reach n s (pred n) (r .0) v) (r .2))
-
-pub few-variables : (s : List ℕ) (n : ℕ) → recordCheck s ≡ none → n ≡ variables (taskOf s) → n ≤ 64
-few-variables s n e q = omega (arith, formed-of s e .variables-max)
 
 -- the black causal graph
 blackArc-ends : (t : Task) (u v : ℕ) → T (blackArc t u v) → (u < variables t) × (v < variables t)

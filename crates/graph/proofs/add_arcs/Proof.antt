@@ -6,6 +6,7 @@ use native.Mathlib.Omega.{arith}
 use Rattle.graph.proofs.add_arcs.Statement.{statement}
 use Rattle.graph.proofs.add_arcs.Tie as tie
 
+-- The rows so far with the arcs from the facts still to come are the rows at the end.
 abbrev Inv-loop : tie.InvT-loop
 Inv-loop rows₀ table from to affected paint k₀ rows k = Adding table from to affected paint rows₀ rows k
 
