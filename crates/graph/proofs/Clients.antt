@@ -48,7 +48,8 @@ module _ (row left v : ℕ) (small : row < 2 ^ 64) (small′ : left < 2 ^ 64) wh
 
       hit : (b : Bool) → meets ≡ b → T b
       hit true f = tt
-      hit false f = false-not (eqb (bitAnd row left) 0) e (true→T (eqb (bitAnd row left) 0) (eq-eqb (bitAnd row left) 0 (empty-is 64 (bitAnd row left) (and-lt 64 row left small small′) (none-shared f))))
+      hit false f = false-not (eqb (bitAnd row left) 0) e
+          (true→T (eqb (bitAnd row left) 0) (eq-eqb (bitAnd row left) 0 (empty-is 64 (bitAnd row left) (and-lt 64 row left small small′) (none-shared f))))
 
   pub ready-of : inSet left v ≡ true → eqb (bitAnd row left) 0 ≡ (inSet left v && not (someBelow 64 (λ u. inSet left u && inSet row u)))
   unfolding meets
@@ -83,7 +84,8 @@ module _ (t : Task) (rows : List ℕ) (n : ℕ) (arcs : setsOf rows ≡ blackArc
   ready-same : (left : ℕ) (taken : ℕ → Bool) → ((u : ℕ) → inSet left u ≡ (black t u && not (taken u))) → n ≤ 64 → (v : ℕ)
       → (inSet left v && not (someBelow 64 (λ u. inSet left u && setsOf rows v u))) ≡ ready n (blackArc t) (black t) taken v
   unfolding ready
-  ready-same left taken s b v = rw (arcs, s v) (ap (λ (x : Bool). (black t v && not (taken v)) && not x) (both (someBelow 64 (λ u. inSet left u && blackArc t v u)) (someBelow n (λ u. not (taken u) && blackArc t v u)) there back))
+  ready-same left taken s b v = rw (arcs, s v) (ap (λ (x : Bool). (black t v && not (taken v)) && not x)
+      (both (someBelow 64 (λ u. inSet left u && blackArc t v u)) (someBelow n (λ u. not (taken u) && blackArc t v u)) there back))
     where
       there : T (someBelow 64 (λ u. inSet left u && blackArc t v u)) → T (someBelow n (λ u. not (taken u) && blackArc t v u))
       there h =
@@ -99,14 +101,16 @@ module _ (t : Task) (rows : List ℕ) (n : ℕ) (arcs : setsOf rows ≡ blackArc
           let u : ℕ = r .0 in
           let a = and-r (not (taken u)) (blackArc t v u) (r .2) in
           let q = and-l (not (taken u)) (blackArc t v u) (r .2) in
-          some-intro 64 (λ u. inSet left u && blackArc t v u) u (omega (arith, r .1)) (and-i (inSet left u) (blackArc t v u) (subst T (sym (s u)) (and-i (black t u) (not (taken u)) (end-black t v u a) q)) a)
+          some-intro 64 (λ u. inSet left u && blackArc t v u) u (omega (arith, r .1))
+          (and-i (inSet left u) (blackArc t v u) (subst T (sym (s u)) (and-i (black t u) (not (taken u)) (end-black t v u a) q)) a)
 
   takes-none : (j : ℕ) (taken : ℕ → Bool) → first n (ready n (blackArc t) (black t) taken) ≡ none → clientsFirst n (blackArc t) (black t) j taken ≡ []
   unfolding clientsFirst
   takes-none zero taken e = refl
   takes-none (suc j) taken e = rw (clientsFirst, e) refl
 
-  takes-one : (j : ℕ) (taken : ℕ → Bool) (v : ℕ) → first n (ready n (blackArc t) (black t) taken) ≡ some v → clientsFirst n (blackArc t) (black t) (suc j) taken ≡ v ∷ clientsFirst n (blackArc t) (black t) j (λ u. eqb u v || taken u)
+  takes-one : (j : ℕ) (taken : ℕ → Bool) (v : ℕ) → first n (ready n (blackArc t) (black t) taken) ≡ some v
+      → clientsFirst n (blackArc t) (black t) (suc j) taken ≡ v ∷ clientsFirst n (blackArc t) (black t) j (λ u. eqb u v || taken u)
   unfolding clientsFirst
   takes-one j taken v e = rw (clientsFirst, e) refl
 
@@ -125,7 +129,8 @@ module _ (t : Task) (rows : List ℕ) (n : ℕ) (arcs : setsOf rows ≡ blackArc
 
   module _ (task₀ task : List ℕ) (left k : ℕ) (P : Taking t n task₀ task left k) where
     same-first : (o : Option ℕ) → o ≡ first n (λ v. inSet left v && not (someBelow 64 (λ u. inSet left u && setsOf rows v u))) → first n (ready n (blackArc t) (black t) (P .taken)) ≡ o
-    same-first o e = sym (e ∙ first-same n (λ v. inSet left v && not (someBelow 64 (λ u. inSet left u && setsOf rows v u))) (ready n (blackArc t) (black t) (P .taken)) (λ v _. ready-same left (P .taken) (P .still) (P .few) v))
+    same-first o e = sym (e ∙ first-same n (λ v. inSet left v && not (someBelow 64 (λ u. inSet left u && setsOf rows v u)))
+        (ready n (blackArc t) (black t) (P .taken)) (λ v _. ready-same left (P .taken) (P .still) (P .few) v))
 
     pub taking-found : (v : ℕ) → some v ≡ first n (λ v. inSet left v && not (someBelow 64 (λ u. inSet left u && setsOf rows v u))) → (v < n) × T (inSet left v)
     unfolding ready
@@ -136,7 +141,8 @@ module _ (t : Task) (rows : List ℕ) (n : ℕ) (arcs : setsOf rows ≡ blackArc
         go (some w) f q =
             let i : w ≡ v = cc in
             let r : T ((black t w && not (P .taken w)) && not (someBelow n (λ u. not (P .taken u) && blackArc t w u))) = f .passes in
-            (omega (arith, f .below), subst (λ (x : ℕ). T (inSet left x)) i (subst T (sym (P .still w)) (and-l (black t w && not (P .taken w)) (not (someBelow n (λ u. not (P .taken u) && blackArc t w u))) r)))
+            let l : T (black t w && not (P .taken w)) = and-l (black t w && not (P .taken w)) (not (someBelow n (λ u. not (P .taken u) && blackArc t w u))) r in
+            (omega (arith, f .below), subst (λ (x : ℕ). T (inSet left x)) i (subst T (sym (P .still w)) l))
 
     pub taking-turn : k < n → (v w : ℕ) (task′ : List ℕ) → some v ≡ first n (λ v. inSet left v && not (someBelow 64 (λ u. inSet left u && setsOf rows v u)))
         → w ≡ 2 ^ v → task′ ≡ set task (260 + k) v → Taking t n task₀ task′ (bitXor left w) (k + 1)

@@ -155,7 +155,8 @@ module _ (s : ℕ → ℕ → Bool) where
     moves-on zero u w v b a r k x t = (k, rw (reach-zero n s w v r) t)
     moves-on (suc j) u w v b a r k x t = go (reach-cases n s j w v r) (λ e g. moves-on j w e v (ends u w a) g)
       where
-        go : (w ≡ v) ⊎ ((e : ℕ) × (e < n) × T (s w e) × T (reach n s j e v)) → ((e : ℕ) → T (s w e) → T (reach n s j e v) → (k x : ℕ) → T (reach n s k v x) → (m : ℕ) × T (reach n s m e x)) → (m : ℕ) × T (reach n s m w x)
+        go : (w ≡ v) ⊎ ((e : ℕ) × (e < n) × T (s w e) × T (reach n s j e v))
+            → ((e : ℕ) → T (s w e) → T (reach n s j e v) → (k x : ℕ) → T (reach n s k v x) → (m : ℕ) × T (reach n s m e x)) → (m : ℕ) × T (reach n s m w x)
         go (inl e) f = (k, rw e t)
         go (inr r) f = let z = f (r .0) (r .2) (r .3) k x t in (suc (z .0), reach-move n s (z .0) w (r .0) x (r .1) (r .2) (z .1))
 
@@ -164,7 +165,8 @@ module _ (s : ℕ → ℕ → Bool) where
     via-reach zero u v h b t = (v, 0, t, reach-here n s 0 v)
     via-reach (suc k) u v h b t = go (via-cases k u v t) (λ u v b. via-reach k u v (omega arith) b)
       where
-        go : T (via s k u v) ⊎ (T (via s k u k) × T (via s k k v)) → ((u v : ℕ) → u < n → T (via s k u v) → (w : ℕ) × (m : ℕ) × T (s u w) × T (reach n s m w v)) → (w : ℕ) × (m : ℕ) × T (s u w) × T (reach n s m w v)
+        go : T (via s k u v) ⊎ (T (via s k u k) × T (via s k k v))
+            → ((u v : ℕ) → u < n → T (via s k u v) → (w : ℕ) × (m : ℕ) × T (s u w) × T (reach n s m w v)) → (w : ℕ) × (m : ℕ) × T (s u w) × T (reach n s m w v)
         go (inl p) f = f u v b p
         go (inr p) f =
             let x = f u k b (p .0) in
