@@ -8,24 +8,22 @@ use mathlib.Core.Option.{Option, none, some}
 use Prim.Native.Nat.{ℕ, _+_, _*_, _/_, _%_, _<_, _≤_}
 use native.Mathlib.Omega.{arith}
 use native.Mathlib.Decide.{ℕ-discrete, decLt}
+use borrow.Author.Tests.{eq-eqb, ne-eqb}
 use lib.Dec.{T, T-not, not-T, eqb, eqb→eq, eqb-refl}
-use lib.ListN.{getD}
 use Rattle.planning.specs.Basics.{someBelow}
-use Rattle.planning.specs.Record.{Fact, Task, taskOf}
+use Rattle.planning.specs.Record.{Fact, Task}
 use Rattle.planning.specs.Runs.{State, has, look, holds, variables, actions, act, black, count}
 use Rattle.planning.specs.Painting.{arcFrom, target, orZero, outside, returnBy, lacksReturn, cyclic}
 use Rattle.planning.proofs.Tests.{T→true, true→T, F→false, and-l, and-r, and-i}
 use Rattle.planning.proofs.Below.{some-intro, some-elim}
 use Rattle.planning.proofs.Facts.{has-cases, has-here, has-there, has-nil, has-++, holds→sub, sub→holds, has→touches, Func, look-some, look-none, look-is}
 use Rattle.planning.proofs.Arcs.{Arc, arcFrom-elim, arcFrom-intro}
-use Rattle.planning.proofs.Formed.{Formed, Sorted, formed-of, sorted-func, sorted-has}
+use Rattle.planning.proofs.Formed.{Formed, Sorted, sorted-func, sorted-has}
 use Rattle.planning.proofs.Painting.{black-inside, has-outside, outside-has, one-black}
-use Rattle.table.specs.Table.{factsIn, preAt, effAt}
-use Rattle.state.specs.Sets.{Listed}
-use Rattle.state.proofs.Tabled.{tabled-listed}
+use Rattle.task.specs.Links.{headAt, nextAt, Next, Sets, Chained}
+use Rattle.state.specs.Sets.{Asked}
 use Rattle.graph.proofs.Searches.{both, false-not, some-same, some-found, some-lacks}
-use Rattle.state.specs.Chains.{Next, Sets, Chained}
-use Rattle.painting.specs.Returns.{returned, unreturnedFrom, arcsBy, lacksBy, lacks, Ground}
+use Rattle.painting.specs.Returns.{returnsBy, returned, unreturnedFrom, arcsBy, lacksBy, lacks}
 use Rattle.painting.proofs.Chains.{NoMove}
 use Rattle.painting.proofs.Marks.{Small, Allows}
 
@@ -145,7 +143,7 @@ module _ (t : Task) (F : Formed t) where
 
     returned-is : (d : ℕ) → d ≢ e → someBelow (actions t) (returnBy t v d i) ≡ returned t m v d
     unfolding returned
-    returned-is d n = some-same (actions t) (returnBy t v d i) (λ j. has (act t j .eff) v d && holds m (act t j .pre)) (λ j _. return-is d n j)
+    returned-is d n = some-same (actions t) (returnBy t v d i) (returnsBy t m v d) (λ j _. return-is d n j)
 
     module _ (ib : i < actions t) (Y : cyclic t ≡ none) (bv : T (black t v)) where
       vb : v < variables t
@@ -234,81 +232,77 @@ module _ (t : Task) (F : Formed t) where
       let o : T (black t v) = search (and-l, and-r) in
       absent v (target (act t) v i) o (arcFrom-elim (act t) v d i (pre-func i) a .into))))
 
+-- one action: it sets v = d where the value that its effects ask of v is d
+module _ (t : Task) (F : Formed t) (m : State) (j v d x : ℕ) (q : Asked (look (act t j .eff) v) x) (b : d < 64) where
+  pub returns-unset : (x ≡ d → ⊥) → false ≡ returnsBy t m v d j
+  returns-unset n = sym (F→false (returnsBy t m v d j) (λ h.
+      let g = and-l (has (act t j .eff) v d) (holds m (act t j .pre)) h in
+      n (go (look (act t j .eff) v) (look-is (act t j .eff) v d (eff-func t F j) g (look (act t j .eff) v) refl) q)))
+    where
+      go : (o : Option ℕ) → o ≡ some d → Asked o x → x ≡ d
+      go o e q = (rw e at q) .0
+
+  pub returns-set : x ≡ d → returnsBy t m v d j ≡ holds m (act t j .pre)
+  returns-set e = rw (T→true (has (act t j .eff) v d) (go (look (act t j .eff) v) refl q)) refl
+    where
+      go : (o : Option ℕ) → look (act t j .eff) v ≡ o → Asked o x → T (has (act t j .eff) v d)
+      go none y q = absurd (omega arith)
+      go (some z) y q = let k : z ≡ d = sym (q .0) ∙ e in look-some (act t j .eff) v d (y ∙ rw k refl)
+
 -- the chain of v = d, gone through up to action j
 pub record Chasing (t : Task) (m : State) (v d j : ℕ) : Type 0 where
   pub valid : (j ≡ 65535) ⊎ ((j < actions t) × Sets t v d j)
-  pub passed : (k : ℕ) → k < actions t → k < j → (has (act t k .eff) v d && holds m (act t k .pre)) ≡ false
+  pub passed : (k : ℕ) → k < actions t → k < j → T (returnsBy t m v d k) → ⊥
 
-module _ (t : Task) (m : State) (v d : ℕ) (head chain : List ℕ) (C : Chained t head chain) (o : T (black t v)) (few : actions t ≤ 1024) where
-  unset : (k : ℕ) → (Sets t v d k → ⊥) → (has (act t k .eff) v d && holds m (act t k .pre)) ≡ false
-  unset k n = F→false (has (act t k .eff) v d && holds m (act t k .pre)) (λ h. n (and-l (has (act t k .eff) v d) (holds m (act t k .pre)) h))
-
-  chasing-start : (j : ℕ) → v < 64 → d < 64 → j ≡ getD head (64 * v + d) 0 → Chasing t m v d j
-  chasing-start j vb db e =
-      let N : Next (actions t) (Sets t v d) 0 j = subst (Next (actions t) (Sets t v d) 0) (sym e) (C .heads v d vb db o) in
+module _ (t : Task) (m : State) (task : List ℕ) (f : ℕ) (C : Chained t task) (o : T (black t (f / 64))) (few : actions t ≤ 1024) where
+  pub chasing-start : f < 4096 → (j : ℕ) → j ≡ headAt task f → Chasing t m (f / 64) (f % 64) j
+  chasing-start b j e =
+      let q : f ≡ 64 * (f / 64) + f % 64 = omega arith in
+      let N : Next (actions t) (Sets t (f / 64) (f % 64)) 0 j = subst (Next (actions t) (Sets t (f / 64) (f % 64)) 0) (sym (e ∙ ap (headAt task) q)) (C .heads (f / 64) (f % 64) (omega arith) (omega arith) o) in
       record {
         valid = elim (N .found) [ inl q ↦ inl q | inr q ↦ inr (q .1, q .2) ];
-        passed = λ k b l. unset k (N .least k (omega arith) b l);
+        passed = λ k b l h. N .least k (omega arith) b l (and-l (has (act t k .eff) (f / 64) (f % 64)) (holds m (act t k .pre)) h);
       }
 
-  module _ (j : ℕ) (J : Chasing t m v d j) where
-    pub chasing-at : (j ≡ 65535 → ⊥) → (j < actions t) × Sets t v d j
+  module _ (j : ℕ) (J : Chasing t m (f / 64) (f % 64) j) where
+    pub chasing-at : (j ≡ 65535 → ⊥) → (j < actions t) × Sets t (f / 64) (f % 64) j
     chasing-at n = elim (J .valid) [ inl q ↦ absurd (n q) | inr q ↦ q ]
 
-    pub chasing-turn : (j ≡ 65535 → ⊥) → (x : ℕ) → x ≡ getD chain j 0 → holds m (act t j .pre) ≡ false → Chasing t m v d x × (j < x)
-    chasing-turn n x e f = (
-      record { valid = elim (N .found) [ inl q ↦ inl q | inr q ↦ inr (q .1, q .2) ]; passed = λ k b l. go k b l (ℕ-discrete k j) },
+    pub chasing-turn : (j ≡ 65535 → ⊥) → (x : ℕ) → x ≡ nextAt task j → holds m (act t j .pre) ≡ false → Chasing t m (f / 64) (f % 64) x × (j < x)
+    chasing-turn n x e z = (
+      record { valid = elim (N .found) [ inl q ↦ inl q | inr q ↦ inr (q .1, q .2) ]; passed = λ k b l. go k b l (ℕ-discrete k j) (decLt k j) },
       elim (N .found) [ inl q ↦ omega (arith, chasing-at n .0) | inr q ↦ omega (arith, q .0) ],
     )
       where
-        N : Next (actions t) (Sets t v d) (j + 1) x
-        N = subst (Next (actions t) (Sets t v d) (j + 1)) (sym e) (C .links v d j o (chasing-at n .0) (chasing-at n .1))
+        N : Next (actions t) (Sets t (f / 64) (f % 64)) (j + 1) x
+        N = subst (Next (actions t) (Sets t (f / 64) (f % 64)) (j + 1)) (sym e) (C .links (f / 64) (f % 64) j o (chasing-at n .0) (chasing-at n .1))
 
-        later : (k : ℕ) → k < actions t → k < x → k ≢ j → Dec (k < j) → (has (act t k .eff) v d && holds m (act t k .pre)) ≡ false
-        later k b l z (yes y) = J .passed k b y
-        later k b l z (no y) = unset k (N .least k (omega arith) b l)
+        go : (k : ℕ) → k < actions t → k < x → Dec (k ≡ j) → Dec (k < j) → T (returnsBy t m (f / 64) (f % 64) k) → ⊥
+        go k b l (yes y) w h = false-not (holds m (act t j .pre)) z (subst (λ (i : ℕ). T (holds m (act t i .pre))) y (and-r (has (act t k .eff) (f / 64) (f % 64)) (holds m (act t k .pre)) h))
+        go k b l (no y) (yes w) h = J .passed k b w h
+        go k b l (no y) (no w) h = N .least k (omega arith) b l (and-l (has (act t k .eff) (f / 64) (f % 64)) (holds m (act t k .pre)) h)
 
-        go : (k : ℕ) → k < actions t → k < x → Dec (k ≡ j) → (has (act t k .eff) v d && holds m (act t k .pre)) ≡ false
-        go k b l (yes z) = F→false (has (act t k .eff) v d && holds m (act t k .pre)) (λ h. false-not (holds m (act t j .pre)) f (subst (λ (y : ℕ). T (holds m (act t y .pre))) z (and-r (has (act t k .eff) v d) (holds m (act t k .pre)) h)))
-        go k b l (no z) = later k b l z (decLt k j)
+    pub chasing-hit : (j ≡ 65535 → ⊥) → holds m (act t j .pre) ≡ true → Next (actions t) (λ k. T (returnsBy t m (f / 64) (f % 64) k)) 0 j
+    chasing-hit n e = record {
+      least = λ k l b w h. J .passed k b w h;
+      found = inr (omega arith, chasing-at n .0, and-i (has (act t j .eff) (f / 64) (f % 64)) (holds m (act t j .pre)) (chasing-at n .1) (true→T (holds m (act t j .pre)) e));
+    }
 
-    pub chasing-hit : (j ≡ 65535 → ⊥) → holds m (act t j .pre) ≡ true → true ≡ returned t m v d
-    unfolding returned
-    chasing-hit n e = sym (some-found (actions t) (λ j. has (act t j .eff) v d && holds m (act t j .pre)) j (chasing-at n .0)
-        (T→true (has (act t j .eff) v d && holds m (act t j .pre)) (and-i (has (act t j .eff) v d) (holds m (act t j .pre)) (chasing-at n .1) (true→T (holds m (act t j .pre)) e))))
+    pub chasing-end : j ≡ 65535 → Next (actions t) (λ k. T (returnsBy t m (f / 64) (f % 64) k)) 0 j
+    chasing-end e = record { least = λ k l b w h. J .passed k b w h; found = inl e }
 
-    pub chasing-end : j ≡ 65535 → false ≡ returned t m v d
-    unfolding returned
-    chasing-end e = sym (some-lacks (actions t) (λ j. has (act t j .eff) v d && holds m (act t j .pre)) (λ k b. J .passed k b (omega arith)))
+-- what is found is whether there is one
+module _ (t : Task) (m : State) (v d : ℕ) where
+  pub returned-by : (j : ℕ) → j < actions t → (r : Bool) → r ≡ returnsBy t m v d j → r ≡ true → true ≡ returned t m v d
+  unfolding returned
+  returned-by j b r e z = sym (some-found (actions t) (returnsBy t m v d) j b (sym e ∙ z))
 
-pub chasing-first : (t : Task) (m : State) (f : ℕ) (head chain : List ℕ) → Chained t head chain → T (black t (f / 64)) → actions t ≤ 1024 → f < 4096 → (j : ℕ) → j ≡ getD head f 0 → Chasing t m (f / 64) (f % 64) j
-chasing-first t m f head chain C o few l j e =
-    let q : f ≡ 64 * (f / 64) + f % 64 = omega arith in
-    chasing-start t m (f / 64) (f % 64) head chain C o few j (omega arith) (omega arith) (e ∙ ap (λ (g : ℕ). getD head g 0) q)
+  pub returned-first : actions t ≤ 1024 → (j : ℕ) → Next (actions t) (λ k. T (returnsBy t m v d k)) 0 j → not (eqb j 65535) ≡ returned t m v d
+  unfolding returned
+  returned-first few j N = elim (N .found) [
+    | inl q ↦ rw (eq-eqb j 65535 q) (sym (some-lacks (actions t) (returnsBy t m v d) (λ k b. F→false (returnsBy t m v d k) (N .least k (omega arith) b (omega arith)))))
+    | inr q ↦ rw (ne-eqb j 65535 (λ z. omega (arith, q .1))) (sym (some-found (actions t) (returnsBy t m v d) j (q .1) (T→true (returnsBy t m v d j) (q .2))))
+  ]
 
--- the row of an action of the chain
-module _ (s table head chain : List ℕ) (G : Ground s table head chain) where
-  pub ground-few : actions (taskOf s) ≤ 1024
-  ground-few = formed-of s (G .accepted) .actions-max
-
-  pub ground-listed : (j : ℕ) → j < actions (taskOf s) → Listed table j
-  ground-listed j b = tabled-listed (taskOf s) table (formed-of s (G .accepted)) (G .tabled) j b
-
-  pub ground-pre : (j a b : ℕ) → j < actions (taskOf s) → a ≡ preAt table j → b ≡ effAt table j → factsIn table a b ≡ act (taskOf s) j .pre
-  ground-pre j a b h ea eb = rw (ea, eb) (G .tabled j h .pre)
-
-  pub chasing-row : (m : State) (v d j : ℕ) → Chasing (taskOf s) m v d j → (j ≡ 65535 → ⊥) → (j < 1024) × Listed table j
-  chasing-row m v d j J n =
-      let b : j < actions (taskOf s) = elim (J .valid) [ inl q ↦ absurd (n q) | inr q ↦ q .0 ] in
-      (omega (arith, ground-few), ground-listed j b)
-
-  pub chasing-on : (m : State) (v d j : ℕ) → Chasing (taskOf s) m v d j → T (black (taskOf s) v) → (n : j ≡ 65535 → ⊥) → (a b : ℕ) → a ≡ preAt table j → b ≡ effAt table j → holds m (factsIn table a b) ≡ false → (x : ℕ) → x ≡ getD chain j 0
-      → Chasing (taskOf s) m v d x × (j < x)
-  chasing-on m v d j J o n a b ea eb f x e =
-      let h = chasing-at (taskOf s) m v d head chain (G .chained) o ground-few j J n in
-      chasing-turn (taskOf s) m v d head chain (G .chained) o ground-few j J n x e (ap (holds m) (sym (ground-pre j a b (h .0) ea eb)) ∙ f)
-
-  pub chasing-found : (m : State) (v d j : ℕ) → Chasing (taskOf s) m v d j → T (black (taskOf s) v) → (n : j ≡ 65535 → ⊥) → (a b : ℕ) → a ≡ preAt table j → b ≡ effAt table j → holds m (factsIn table a b) ≡ true → true ≡ returned (taskOf s) m v d
-  chasing-found m v d j J o n a b ea eb f =
-      let h = chasing-at (taskOf s) m v d head chain (G .chained) o ground-few j J n in
-      chasing-hit (taskOf s) m v d head chain (G .chained) o ground-few j J n (ap (holds m) (sym (ground-pre j a b (h .0) ea eb)) ∙ f)
+  pub first-near : actions t ≤ 1024 → (j : ℕ) → Next (actions t) (λ k. T (returnsBy t m v d k)) 0 j → j < 65536
+  first-near few j N = elim (N .found) [ inl q ↦ omega arith | inr q ↦ omega (arith, q .1) ]

@@ -9,7 +9,7 @@ use native.Mathlib.Decide.{ℕ-discrete}
 use lib.Seq.{slice, slice-cons, slice-empty, getD-set-same, getD-set-other}
 use Rattle.planning.specs.Runs.{actions}
 use Rattle.task.specs.Task.{cell, factsIn, variableIn, actionIn, each, taskIn, preAt, effAt, endAt, Row, Loaded}
-use Rattle.task.specs.Links.{headAt, Link, Relinked, Unlinked, linked}
+use Rattle.task.specs.Links.{headAt, nextAt, Link, Relinked, Unlinked, linked}
 use Rattle.task.proofs.Reading.{taskIn-variables, taskIn-actions}
 
 pub relinked-none : (task : List ℕ) → Relinked task task
@@ -29,6 +29,28 @@ unfolding linked
 relinked-link before after f i b c R =
     relinked-set before (set after (4420 + i) (headAt after f)) (324 + f) i (inr (omega arith, omega arith))
     (relinked-set before after (4420 + i) (headAt after f) (inr (omega arith, omega arith)) R)
+
+-- what is linked behind a new head
+module _ (task : List ℕ) (f i : ℕ) (b : f < 4096) (c : i < 1024) (n : 5444 ≤ length task) where
+  pub head-new : headAt (linked f i task) f ≡ i
+  unfolding linked
+  head-new = getD-set-same (set task (4420 + i) (headAt task f)) (324 + f) i 0 (rw (length-set task (4420 + i) (headAt task f)) (omega arith))
+
+  pub head-old : (g : ℕ) → g < 4096 → (g ≡ f → ⊥) → headAt (linked f i task) g ≡ headAt task g
+  unfolding linked
+  head-old g h d =
+      getD-set-other (set task (4420 + i) (headAt task f)) (324 + f) (324 + g) i 0 (λ q. d (omega arith))
+      ∙ getD-set-other task (4420 + i) (324 + g) (headAt task f) 0 (λ q. omega arith)
+
+  next-kept : (j : ℕ) → nextAt (linked f i task) j ≡ nextAt (set task (4420 + i) (headAt task f)) j
+  unfolding linked
+  next-kept j = getD-set-other (set task (4420 + i) (headAt task f)) (324 + f) (4420 + j) i 0 (λ q. omega arith)
+
+  pub next-new : nextAt (linked f i task) i ≡ headAt task f
+  next-new = next-kept i ∙ getD-set-same task (4420 + i) (headAt task f) 0 (omega arith)
+
+  pub next-old : (j : ℕ) → (j ≡ i → ⊥) → nextAt (linked f i task) j ≡ nextAt task j
+  next-old j d = next-kept j ∙ getD-set-other task (4420 + i) (4420 + j) (headAt task f) 0 (λ q. d (omega arith))
 
 -- heads one after the other
 pub unlinked-none : (task : List ℕ) → Unlinked 0 task task

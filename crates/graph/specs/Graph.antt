@@ -1,30 +1,27 @@
--- What the layer of the painting is handed with a task, and what its searches answer.
+-- What the layer of the painting answers and writes.
 use mathlib.Core.Path.{_≡_}
+use mathlib.Core.Logic.{_⊎_}
 use mathlib.Core.Bool.{Bool, true, not, _||_, _&&_}
 use mathlib.Core.List.{List}
 use mathlib.Core.Option.{Option, none, some}
-use Prim.Native.Nat.{ℕ, zero, suc, _<_, _≤_}
+use Prim.Native.Nat.{ℕ, zero, suc, _+_, _<_, _≤_}
 use lib.Dec.{eqb}
 use lib.ListN.{length, getD}
-use Rattle.planning.specs.Record.{Action, taskOf, recordCheck}
-use Rattle.planning.specs.Runs.{Mode, touches, actions, black}
-use Rattle.table.specs.Table.{Tabled}
-use Rattle.state.specs.Sets.{setsOf, modeOf}
+use lib.Seq.{slice}
+use Rattle.planning.specs.Record.{Action}
+use Rattle.planning.specs.Runs.{Mode, touches}
+use Rattle.planning.specs.Repair.{order}
+use Rattle.task.specs.Task.{cell, taskIn}
+use Rattle.task.specs.Links.{orderIn}
+use Rattle.state.specs.Sets.{setsOf}
 use Rattle.graph.specs.declared.Found.{Found}
 use Rattle.graph.specs.declared.Found.the-variants.{At, Nothing}
 
--- the record s is accepted, the table states its actions, n of them, and m is the set of its black variables
-pub record Given (s table : List ℕ) (m n : ℕ) : Type 0 where
-  pub accepted : recordCheck s ≡ none
-  pub tabled : Tabled (taskOf s) table
-  pub colours : modeOf m ≡ black (taskOf s)
-  pub all : n ≡ actions (taskOf s)
-
--- the places from a up to b of a table state facts
-pub record Facts (table : List ℕ) (a b : ℕ) : Type 0 where
+-- the places from a up to b state facts
+pub record Facts (task : List ℕ) (a b : ℕ) : Type 0 where
   pub rises : a ≤ b
-  pub within : b ≤ length table
-  pub small : (k : ℕ) → a ≤ k → k < b → getD table k 0 < 4096
+  pub within : b ≤ length task
+  pub small : (k : ℕ) → a ≤ k → k < b → getD task k 0 < 4096
 
 abbrev pub foundOf : Found → Option ℕ
 foundOf (At i) = some i
@@ -51,3 +48,17 @@ via s (suc k) = through k (via s k)
 -- arcs start below n only
 abbrev pub StartBelow : ℕ → (ℕ → ℕ → Bool) → Type 0
 StartBelow n s = (u v : ℕ) → s u v ≡ true → u < n
+
+-- the first n places of the order are the clients-first order, and all else is kept
+pub record Filled (n : ℕ) (before after : List ℕ) : Type 0 where
+  pub few : n ≤ 64
+  pub long : length after ≡ length before
+  pub ordered : slice 260 (260 + n) after ≡ order (taskIn before)
+  pub kept : (k : ℕ) → (k < 260) ⊎ (324 ≤ k) → getD after k 0 ≡ getD before k 0
+
+-- the order is written, and all else is kept
+pub record Ordered (before after : List ℕ) : Type 0 where
+  pub few : cell after 0 2 ≤ 64
+  pub long : length after ≡ length before
+  pub ordered : orderIn after ≡ order (taskIn before)
+  pub kept : (k : ℕ) → (k ≡ 2 → ⊥) → (k < 260) ⊎ (324 ≤ k) → getD after k 0 ≡ getD before k 0
