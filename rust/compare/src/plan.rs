@@ -5,7 +5,7 @@ use compare::lent::Lent;
 use compare::lists;
 use compare::suite::{hex, list_hex, same, same_lent, Options};
 use generate::{mixture, Random};
-use mardiskos::PlanResult;
+use mardiskos::lent::PlanResult;
 use reference::{entry, examples, record, search, Refusal, Task};
 
 const COUNT: usize = 100_000;
@@ -143,8 +143,10 @@ impl Plans {
         let record = self.record.copy(bytes);
         let (plan, work) = (self.plan.library(), self.work.library());
         match relaxed {
-            Some(relaxed) => mardiskos::repair(record, self.relaxed.copy(relaxed), plan, work),
-            None => mardiskos::plan(record, plan, work),
+            Some(relaxed) => {
+                mardiskos::lent::repair(record, self.relaxed.copy(relaxed), plan, work)
+            }
+            None => mardiskos::lent::plan(record, plan, work),
         }
     }
 

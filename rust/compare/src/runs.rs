@@ -5,7 +5,7 @@ use compare::lent::Lent;
 use compare::lists;
 use compare::suite::{hex, list_hex, same, same_lent, Options};
 use generate::{mixture, Random};
-use mardiskos::{ForwardRun, Judgement, RelaxedPlan};
+use mardiskos::lent::{ForwardRun, Judgement, RelaxedPlan};
 use reference::{entry, examples, record, Refusal};
 
 const COUNT: usize = 100_000;
@@ -64,7 +64,7 @@ impl Runs {
 
     fn judge(&mut self, bytes: &[u8], list: &[u16]) -> Result<(), String> {
         self.calls += 1;
-        let library = mardiskos::judge(self.record.copy(bytes), self.list.copy(list));
+        let library = mardiskos::lent::judge(self.record.copy(bytes), self.list.copy(list));
         let reference = judgement(entry::judge(bytes, list));
         let input = || format!("judge\nrecord: {}\nlist: {}", hex(bytes), list_hex(list));
         same(library, reference, input)
@@ -80,7 +80,7 @@ impl Runs {
 
     fn forward(&mut self, bytes: &[u8], len: usize) -> Result<(), String> {
         self.lent.refill(&mut self.random, len);
-        let library = mardiskos::forward(self.record.copy(bytes), self.lent.library());
+        let library = mardiskos::lent::forward(self.record.copy(bytes), self.lent.library());
         let reference = forward_run(entry::forward(bytes, self.lent.reference()));
         self.compare(library, reference, || lent_input("forward", bytes, len))
     }
@@ -95,7 +95,7 @@ impl Runs {
 
     fn relax(&mut self, bytes: &[u8], len: usize) -> Result<(), String> {
         self.lent.refill(&mut self.random, len);
-        let library = mardiskos::relax(self.record.copy(bytes), self.lent.library());
+        let library = mardiskos::lent::relax(self.record.copy(bytes), self.lent.library());
         let reference = relaxed_plan(entry::relax(bytes, self.lent.reference()));
         self.compare(library, reference, || lent_input("relax", bytes, len))
     }

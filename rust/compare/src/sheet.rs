@@ -4,7 +4,7 @@ use compare::guard::Guarded;
 use compare::lent::Lent;
 use compare::suite::{hex, list_hex, same, same_lent, Options};
 use generate::{damage, Random};
-use mardiskos::{Sheet, SheetSize};
+use mardiskos::lent::{Sheet, SheetSize};
 use reference::{entry, examples, sheet, Refusal};
 
 const COUNT: usize = 1_000_000;
@@ -46,7 +46,8 @@ impl Sheets {
         self.written += 1;
         self.lent_bytes.refill(&mut self.random, len);
         let lent = &mut self.lent_bytes;
-        let library = mardiskos::write_sheet(self.list.copy(list), cost, real, lent.library());
+        let library =
+            mardiskos::lent::write_sheet(self.list.copy(list), cost, real, lent.library());
         let reference = sheet_size(sheet::write(list, cost, real, lent.reference()));
         let list = || list_hex(list);
         let input =
@@ -59,7 +60,7 @@ impl Sheets {
         self.read += 1;
         self.lent_list.refill(&mut self.random, len);
         let lent = &mut self.lent_list;
-        let library = mardiskos::read_sheet(self.bytes.copy(bytes), lent.library());
+        let library = mardiskos::lent::read_sheet(self.bytes.copy(bytes), lent.library());
         let reference = sheet_read(sheet::read(bytes, lent.reference()));
         let input = || format!("read\nsheet: {}\n{len} entries lent", hex(bytes));
         same(library, reference, input)?;

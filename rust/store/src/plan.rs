@@ -1,6 +1,6 @@
 //! A plan shown with the names of its store.
 
-use mardiskos::Judgement;
+use mardiskos::lent::Judgement;
 use reference::entry::MAX_STEPS;
 use reference::{Fact, Refusal};
 
@@ -19,10 +19,10 @@ impl Plan {
     pub fn find(store: &Store) -> Result<Plan, Refusal> {
         let record = store.record();
         let (mut steps, mut work) = (vec![0; MAX_STEPS], vec![0; MAX_STEPS]);
-        let planned = mardiskos::plan(&record, &mut steps, &mut work);
+        let planned = mardiskos::lent::plan(&record, &mut steps, &mut work);
         accepted(planned.code)?;
         steps.truncate(planned.steps as usize);
-        let relaxed = mardiskos::relax(&record, &mut work);
+        let relaxed = mardiskos::lent::relax(&record, &mut work);
         accepted(relaxed.code)?;
         work.truncate(relaxed.steps as usize);
         Ok(Plan { steps, relaxed: Some(work) })
@@ -104,7 +104,7 @@ fn counted(line: &mut Line, actions: usize, count: usize) -> Result<Vec<u16>, Er
 
 /// The plan, one step a line, behind a line of its count, cost and verdict.
 pub fn show(store: &Store, plan: &Plan) -> Result<String, Refusal> {
-    let judged = mardiskos::judge(&store.record(), &plan.steps);
+    let judged = mardiskos::lent::judge(&store.record(), &plan.steps);
     accepted(judged.code)?;
     let mut out = head(store, plan, &judged);
     if !judged.red_black_plan {
