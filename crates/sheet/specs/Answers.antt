@@ -1,4 +1,4 @@
--- The answers of writing and reading a sheet, as the paper's number, place and values.
+-- The answers of writing (8.3) and reading (8.4) a sheet: number, place and values for each case.
 use Prim.Native.Nat.{ℕ}
 use mathlib.Core.Bool.{Bool}
 use mathlib.Core.List.{List, [], _∷_, _++_}

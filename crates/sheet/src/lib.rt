@@ -1,4 +1,4 @@
-// Plan sheets: a list of steps, its cost and its verdict, written into bytes that the caller lends and read from bytes.
+// Plan sheets (clause 8): a list of steps, its cost and its verdict, written into bytes that the caller lends and read from bytes.
 use bits::Refusal;
 ghost use mathlib.Core.Path.{_≡_};
 ghost use mathlib.Core.Bool.{Bool};
@@ -182,7 +182,7 @@ fn refused(place: u32) -> Reading
     Reading::Refused(Refusal { number: 12, place })
 }
 
-// "zero bits to a whole byte", and nothing behind
+// the padding is 0 and there is no byte behind it (8.4)
 fn ends(bytes: &[u8], end: usize) -> bool
     requires { ⌜ (end ≤ 8 * length (now bytes)) × (end ≤ 400000) ⌝ }
     ensures { λ r. ⌜ r ≡ endsAt (now (bytes .entry)) end ⌝ }

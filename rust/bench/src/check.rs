@@ -3,7 +3,7 @@ use generate::{records, stores, Random};
 use reference::{record, refusal};
 
 fn library(records: &[Vec<u8>], _: &mut Lent) -> Answer {
-    [records.iter().map(|bytes| mardiskos::check(bytes)).sum(), 0, 0, 0]
+    [records.iter().map(|bytes| mardiskos::lent::check(bytes)).sum(), 0, 0, 0]
 }
 
 fn reference(records: &[Vec<u8>], _: &mut Lent) -> Answer {

@@ -4,7 +4,7 @@ use reference::{entry, record, Refusal, Task};
 
 const MAX_STEPS: usize = entry::MAX_STEPS;
 
-fn library_numbers(result: mardiskos::PlanResult) -> Answer {
+fn library_numbers(result: mardiskos::lent::PlanResult) -> Answer {
     [result.code, result.steps.into(), result.cost.into(), result.runs.into()]
 }
 
@@ -22,7 +22,7 @@ fn sum(answers: impl Iterator<Item = Answer>) -> Answer {
 /// Records planned one after another into the same lists.
 fn library(records: &[Vec<u8>], lent: &mut Lent) -> Answer {
     let (plan, work) = (&mut lent.plan, &mut lent.work);
-    sum(records.iter().map(|bytes| library_numbers(mardiskos::plan(bytes, plan, work))))
+    sum(records.iter().map(|bytes| library_numbers(mardiskos::lent::plan(bytes, plan, work))))
 }
 
 fn reference(records: &[Vec<u8>], lent: &mut Lent) -> Answer {
@@ -39,7 +39,7 @@ fn plans(tasks: &[Task], room: usize) -> Case<[Vec<u8>]> {
 type Repaired = (Vec<u8>, Vec<u16>);
 
 fn repair_library((bytes, list): &Repaired, lent: &mut Lent) -> Answer {
-    library_numbers(mardiskos::repair(bytes, list, &mut lent.plan, &mut lent.work))
+    library_numbers(mardiskos::lent::repair(bytes, list, &mut lent.plan, &mut lent.work))
 }
 
 fn repair_reference((bytes, list): &Repaired, lent: &mut Lent) -> Answer {

@@ -3,7 +3,7 @@ use generate::{extremes, Random};
 use reference::{entry, record};
 
 fn forward_library(bytes: &[u8], lent: &mut Lent) -> Answer {
-    let run = mardiskos::forward(bytes, &mut lent.plan);
+    let run = mardiskos::lent::forward(bytes, &mut lent.plan);
     [run.code, run.steps.into(), run.reached.into(), 0]
 }
 
@@ -13,7 +13,7 @@ fn forward_reference(bytes: &[u8], lent: &mut Lent) -> Answer {
 }
 
 fn relax_library(bytes: &[u8], lent: &mut Lent) -> Answer {
-    let plan = mardiskos::relax(bytes, &mut lent.plan);
+    let plan = mardiskos::lent::relax(bytes, &mut lent.plan);
     [plan.code, plan.steps.into(), 0, 0]
 }
 
@@ -24,7 +24,7 @@ fn relax_reference(bytes: &[u8], lent: &mut Lent) -> Answer {
 type Judged = (Vec<u8>, Vec<u16>);
 
 fn judge_library((bytes, list): &Judged, _: &mut Lent) -> Answer {
-    let judged = mardiskos::judge(bytes, list);
+    let judged = mardiskos::lent::judge(bytes, list);
     let steps = [judged.relaxed_steps, judged.red_black_steps, judged.real_steps];
     let [relaxed, red_black, real] = steps.map(u64::from);
     [judged.code, relaxed, red_black, real]

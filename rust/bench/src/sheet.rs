@@ -3,7 +3,7 @@ use generate::Random;
 use reference::sheet;
 
 fn write_library(list: &[u16], lent: &mut Lent) -> Answer {
-    let size = mardiskos::write_sheet(list, 12_345, true, &mut lent.bytes);
+    let size = mardiskos::lent::write_sheet(list, 12_345, true, &mut lent.bytes);
     [size.code, size.bytes.into(), 0, 0]
 }
 
@@ -12,7 +12,7 @@ fn write_reference(list: &[u16], lent: &mut Lent) -> Answer {
 }
 
 fn read_library(bytes: &[u8], lent: &mut Lent) -> Answer {
-    let sheet = mardiskos::read_sheet(bytes, &mut lent.plan);
+    let sheet = mardiskos::lent::read_sheet(bytes, &mut lent.plan);
     [sheet.code, sheet.steps.into(), sheet.cost.into(), sheet.real.into()]
 }
 

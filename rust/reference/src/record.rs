@@ -290,6 +290,7 @@ mod tests {
                 "no-bytes" => Err(Refusal::new(1, 0)),
                 "variables-65" => Err(Refusal::new(3, 4)),
                 "actions-1025" => Err(Refusal::new(3, 11)),
+                "repeated-variable" => Err(Refusal::new(5, 78)),
                 _ => Ok(()),
             };
             assert_eq!(check(&bytes), expected, "{name}");

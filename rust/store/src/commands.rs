@@ -1,16 +1,15 @@
-//! The commands, what they take, and what they do.
+//! The commands and what they take.
 
 use reference::Refusal;
 
 use crate::files::Files;
-use crate::library::{self, Sheet};
 use crate::list::{self, Listed};
 use crate::outcome::Failure;
 use crate::plan::Plan;
-use crate::show::{self, Shown};
-use crate::{explain, names, pictures, text, Store};
+use crate::show::Shown;
+use crate::{explain, pictures, tasks, Store};
 
-type Outcome = Result<(), Failure>;
+pub type Outcome = Result<(), Failure>;
 
 /// What a command is called with.
 pub struct Call<'a> {
@@ -34,19 +33,19 @@ const DRAWING: &[&str] = &["--dot", "--plain"];
 #[rustfmt::skip]
 const COMMANDS: [Command; 11] = [
     Command { name: "record", takes: "FILE [OUT] [--names]", counts: (1, 2), flags: &["--names"],
-        what: "the record; with --names its names beside it, in OUT.names", run: record },
+        what: "the record; with --names its names beside it, in OUT.names", run: tasks::record },
     Command { name: "text", takes: "FILE [OUT]", counts: (1, 2), flags: &[],
-        what: "the store as text, templates written out", run: as_text },
+        what: "the store as text, templates written out", run: tasks::as_text },
     Command { name: "plan", takes: "FILE [LIST]", counts: (1, 2), flags: &[],
-        what: "a plan with names, or a list of actions and whether it is a plan", run: plan },
+        what: "a plan with names, or a list of actions and whether it is a plan", run: tasks::plan },
     Command { name: "repair", takes: "FILE LIST", counts: (2, 2), flags: &[],
-        what: "the repair of a relaxed plan", run: repair },
+        what: "the repair of a relaxed plan", run: tasks::repair },
     Command { name: "sheet", takes: "FILE [OUT]", counts: (1, 2), flags: &[],
-        what: "the sheet of a plan", run: sheet },
+        what: "the sheet of a plan", run: tasks::sheet },
     Command { name: "read", takes: "SHEET [FILE]", counts: (1, 2), flags: &[],
-        what: "what a sheet says, and what the judge says of it in a store", run: read },
+        what: "what a sheet says, and what the judge says of it in a store", run: tasks::read },
     Command { name: "explain", takes: "NUMBER PLACE [FILE [LIST]]", counts: (2, 4), flags: &[],
-        what: "a refusal in words; FILE is a sheet for 12", run: explain },
+        what: "a refusal in words; FILE is a sheet for 12", run: tasks::explain },
     Command { name: "graph", takes: "FILE [OUT] [--dot | --plain]", counts: (1, 2), flags: DRAWING,
         what: "the causal graph as SVG, or as DOT", run: pictures::graph },
     Command { name: "values", takes: "FILE VARIABLE [OUT] [--dot | --plain]", counts: (2, 3), flags: DRAWING,
@@ -107,7 +106,7 @@ impl Call<'_> {
     }
 
     /// Prints a text, and fails if it shows a fault.
-    fn show(&self, store: &Store, shown: Result<Shown, Refusal>) -> Outcome {
+    pub fn show(&self, store: &Store, shown: Result<Shown, Refusal>) -> Outcome {
         let shown = shown.map_err(|refusal| refused(store, refusal))?;
         self.files.print(shown.text.as_bytes())?;
         shown.fault.map_or(Ok(()), |fault| Err(Failure::No(fault)))
@@ -129,84 +128,4 @@ impl Call<'_> {
 
 pub fn refused(store: &Store, refusal: Refusal) -> Failure {
     Failure::Refused(refusal, explain::in_words(store, refusal, None))
-}
-
-fn record(call: &mut Call) -> Outcome {
-    let store = call.store(0)?;
-    if !call.has("--names") {
-        return call.put(1, &store.record());
-    }
-    let Some(&out) = call.arguments.get(1).filter(|&&out| out != "-") else {
-        return Err(Failure::Error("--names needs OUT, a file to put the names beside".to_owned()));
-    };
-    call.files.write(&names::file_of(out), names::write(&store).as_bytes())?;
-    call.put(1, &store.record())
-}
-
-fn as_text(call: &mut Call) -> Outcome {
-    let store = call.store(0)?;
-    call.put(1, text(&store).as_bytes())
-}
-
-fn plan(call: &mut Call) -> Outcome {
-    let store = call.store(0)?;
-    let plan = match call.arguments.len() {
-        1 => Plan::find(&store).map_err(|refusal| refused(&store, refusal))?,
-        _ => call.list(1, &store)?,
-    };
-    call.show(&store, show::plan(&store, &plan))
-}
-
-fn repair(call: &mut Call) -> Outcome {
-    let store = call.store(0)?;
-    let relaxed = call.list(1, &store)?.steps;
-    let repaired = Plan::repair(&store, relaxed.clone()).map_err(|refusal| {
-        Failure::Refused(refusal, explain::in_words(&store, refusal, Some(&relaxed)))
-    })?;
-    call.show(&store, show::plan(&store, &repaired))
-}
-
-fn sheet(call: &mut Call) -> Outcome {
-    let store = call.store(0)?;
-    let planned = library::plan(&store.record(), reference::entry::MAX_STEPS)
-        .map_err(|refusal| refused(&store, refusal))?;
-    let sheet = Sheet { steps: planned.steps, cost: planned.cost, real: planned.real };
-    let bytes = library::write_sheet(&sheet).map_err(|refusal| refused(&store, refusal))?;
-    call.put(1, &bytes)
-}
-
-fn read(call: &mut Call) -> Outcome {
-    let bytes = call.files.bytes(call.arguments[0])?;
-    let sheet = library::read_sheet(&bytes)
-        .map_err(|refusal| Failure::Refused(refusal, explain::sheet::in_words(&bytes, refusal)))?;
-    if call.arguments.len() == 1 {
-        return call.files.print(show::sheet(&sheet).as_bytes());
-    }
-    let store = call.store(1)?;
-    let shown = show::sheet_in(&store, &sheet).map_err(|refusal| {
-        Failure::Refused(refusal, explain::in_words(&store, refusal, Some(&sheet.steps)))
-    })?;
-    call.show(&store, Ok(shown))
-}
-
-fn explain(call: &mut Call) -> Outcome {
-    let number = |text: &str, limit: u32| text.parse().ok().filter(|&number: &u32| number <= limit);
-    let (Some(number), Some(place)) =
-        (number(call.arguments[0], 31), number(call.arguments[1], u32::MAX))
-    else {
-        let message = "expected a refusal's number and place, as in `store explain 10 3`";
-        return Err(Failure::Error(message.to_owned()));
-    };
-    let refusal = Refusal::new(number as u8, place as usize);
-    let words = match call.arguments.get(2) {
-        None => explain::in_general(refusal),
-        Some(file) if number <= 6 => explain::record::in_words(&call.files.bytes(file)?, refusal),
-        Some(file) if number == 12 => explain::sheet::in_words(&call.files.bytes(file)?, refusal),
-        Some(_) => {
-            let store = call.store(2)?;
-            let list = call.arguments.get(3).is_some().then(|| call.list(3, &store)).transpose()?;
-            explain::in_words(&store, refusal, list.as_ref().map(|plan| plan.steps.as_slice()))
-        }
-    };
-    call.files.print(format!("{words}\n").as_bytes())
 }

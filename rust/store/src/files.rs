@@ -4,7 +4,7 @@ use std::fs::{self, File, OpenOptions};
 use std::io::{self, Read, Write};
 use std::os::fd::AsFd;
 use std::os::unix::fs::MetadataExt;
-use std::path::{Path, PathBuf};
+use std::path::Path;
 
 use crate::outcome::Failure;
 use crate::store::Store;
@@ -14,37 +14,46 @@ use crate::{explain, library, names, parse};
 /// No input is longer than this; a record has 49,315 bytes at most.
 const MAX_BYTES: u64 = 16 << 20;
 
+/// Whether standard input and output were open when the program started.
+pub struct Standard {
+    pub input: bool,
+    pub output: bool,
+}
+
 /// The files that a command has read.
 pub struct Files {
-    /// Whether standard output was open when the program started.
-    open: bool,
+    open: Standard,
     /// Names, devices and numbers.
     read: Vec<(String, (u64, u64))>,
 }
 
 impl Files {
-    pub fn new(open: bool) -> Self {
+    pub fn new(open: Standard) -> Self {
         Files { open, read: Vec::new() }
     }
 
     pub fn bytes(&mut self, file: &str) -> Result<Vec<u8>, Failure> {
-        let opened = if file == "-" {
-            io::stdin().as_fd().try_clone_to_owned().map(File::from)
-        } else {
-            File::open(file)
-        };
         let failure = |error: io::Error| Failure::of_file(file, error);
-        let mut opened = opened.map_err(failure)?;
-        if file == "-" && self.read.iter().any(|(name, _)| name == file) {
-            return Err(Failure::of_file(file, "named twice"));
-        }
+        let opened = if file == "-" { self.input()? } else { File::open(file).map_err(failure)? };
         self.read.push((file.to_owned(), identity(&opened.metadata().map_err(failure)?)));
         let mut bytes = Vec::new();
-        (&mut opened).take(MAX_BYTES + 1).read_to_end(&mut bytes).map_err(failure)?;
+        opened.take(MAX_BYTES + 1).read_to_end(&mut bytes).map_err(failure)?;
         if bytes.len() as u64 > MAX_BYTES {
             return Err(Failure::of_file(file, "longer than 16 MiB"));
         }
         Ok(bytes)
+    }
+
+    /// Standard input, which can be read once.
+    fn input(&self) -> Result<File, Failure> {
+        if !self.open.input {
+            return Err(Failure::Error("standard input is closed".to_owned()));
+        }
+        if self.read.iter().any(|(name, _)| name == "-") {
+            return Err(Failure::of_file("-", "named twice"));
+        }
+        let opened = io::stdin().as_fd().try_clone_to_owned();
+        opened.map(File::from).map_err(|error| Failure::of_file("-", error))
     }
 
     pub fn text(&mut self, file: &str) -> Result<String, Failure> {
@@ -95,7 +104,7 @@ impl Files {
     /// Writes to standard output and makes sure that it arrived.
     pub fn print(&self, bytes: &[u8]) -> Result<(), Failure> {
         let failure = |error: io::Error| Failure::Error(format!("standard output: {error}"));
-        if !self.open {
+        if !self.open.output {
             return Err(Failure::Error("standard output is closed".to_owned()));
         }
         let mut out = File::from(io::stdout().as_fd().try_clone_to_owned().map_err(failure)?);
@@ -113,10 +122,9 @@ impl Files {
     fn check_unread(&self, out: &str, written: (u64, u64)) -> Result<(), Failure> {
         let same = self.read.iter().find(|(_, read)| *read == written);
         same.map_or(Ok(()), |(name, _)| {
-            Err(Failure::of_file(
-                out,
-                format!("not written, as it is the file {name} that was read"),
-            ))
+            let name = if name == "-" { "standard input" } else { name };
+            let reason = format!("not written, as it is the file {name} that was read");
+            Err(Failure::of_file(out, reason))
         })
     }
 }
@@ -150,7 +158,7 @@ fn replace(path: &Path, bytes: &[u8]) -> io::Result<()> {
     written
 }
 
-fn write_part(path: &Path, part: &PathBuf, bytes: &[u8]) -> io::Result<()> {
+fn write_part(path: &Path, part: &Path, bytes: &[u8]) -> io::Result<()> {
     let mut file = OpenOptions::new().write(true).create_new(true).open(part)?;
     if let Ok(found) = fs::metadata(path) {
         file.set_permissions(found.permissions())?;

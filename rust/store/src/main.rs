@@ -14,7 +14,7 @@ fn main() -> ExitCode {
     let arguments: Vec<String> =
         std::env::args_os().skip(1).map(|name| name.to_string_lossy().into_owned()).collect();
     let status = panic::catch_unwind(|| {
-        let mut files = Files::new(start::output_is_open());
+        let mut files = Files::new(start::standard());
         let outcome: Result<(), Failure> = commands::run(&arguments, &mut files);
         settle(outcome, &files)
     });

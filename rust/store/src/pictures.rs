@@ -1,12 +1,10 @@
 //! The commands that draw.
 
-use crate::commands::{refused, Call};
+use crate::commands::{refused, Call, Outcome};
 use crate::outcome::{complain, Failure};
 use crate::picture::{causal, chart, dot, graphviz, values, Picture};
 use crate::plan::Plan;
 use crate::show;
-
-type Outcome = Result<(), Failure>;
 
 pub fn graph(call: &mut Call) -> Outcome {
     let store = call.store(0)?;

@@ -1,9 +1,10 @@
 //! Plans and sheets in words.
 
+use mardiskos::Judgement;
 use reference::state::{Semantics, State};
 use reference::{Fact, Refusal};
 
-use crate::library::{judge, Judgement, Sheet};
+use crate::library::{judge, Sheet};
 use crate::plan::Plan;
 use crate::store::Store;
 
@@ -17,13 +18,13 @@ pub struct Shown {
 /// The plan, one step a line, behind a line of its count, cost and verdict.
 pub fn plan(store: &Store, plan: &Plan) -> Result<Shown, Refusal> {
     let judged = judge(&store.record(), &plan.steps)?;
-    let (verdict, runs) = (verdict(judged.real.plan), running(judged.real.steps));
+    let (verdict, runs) = (verdict(judged.real.is_plan), running(judged.real.steps));
     let (count, cost) = (steps(plan.steps.len()), plan.cost(store));
     let mut text = format!("{count}, cost {cost}, {verdict}: {runs}\n");
     let fault = red_black_fault(store, plan, &judged);
     text += &fault.iter().map(|fault| format!("{fault}\n")).collect::<String>();
     text += &step_lines(store, plan);
-    if !judged.real.plan {
+    if !judged.real.is_plan {
         text += &format!("real run: {}\n", trouble(store, &plan.steps, &Semantics::real()));
     }
     Ok(Shown { text, fault })
@@ -32,7 +33,7 @@ pub fn plan(store: &Store, plan: &Plan) -> Result<Shown, Refusal> {
 fn red_black_fault(store: &Store, plan: &Plan, judged: &Judgement) -> Option<String> {
     let semantics = Semantics::red_black(&store.task());
     let trouble = || trouble(store, &plan.steps, &semantics);
-    (!judged.red_black.plan).then(|| format!("not a red-black plan: {}", trouble()))
+    (!judged.red_black.is_plan).then(|| format!("not a red-black plan: {}", trouble()))
 }
 
 /// A sheet without a store: the numbers of its steps.
@@ -54,7 +55,7 @@ pub fn sheet_in(store: &Store, sheet: &Sheet) -> Result<Shown, Refusal> {
     let plan = Plan::known(store, sheet.steps.clone());
     let mut text = sheet_head(sheet) + &step_lines(store, &plan);
     text += &format!("judge: cost {}, {}\n", plan.cost(store), verdicts(&judged));
-    if !judged.real.plan {
+    if !judged.real.is_plan {
         text += &format!("real run: {}\n", trouble(store, &plan.steps, &Semantics::real()));
     }
     let fault = red_black_fault(store, &plan, &judged).or(contradiction(store, sheet, &judged));
@@ -68,7 +69,7 @@ fn contradiction(store: &Store, sheet: &Sheet, judged: &Judgement) -> Option<Str
     if u64::from(sheet.cost) != cost {
         return Some(format!("the sheet says cost {}, its steps cost {cost}", sheet.cost));
     }
-    let (said, is) = (verdict(sheet.real), verdict(judged.real.plan));
+    let (said, is) = (verdict(sheet.real), verdict(judged.real.is_plan));
     (said != is).then(|| format!("the sheet says {said}, its steps are {is}"))
 }
 
@@ -76,7 +77,7 @@ fn verdicts(judged: &Judgement) -> String {
     let runs =
         [("relaxed", judged.relaxed), ("red-black", judged.red_black), ("real", judged.real)];
     let verdicts = runs.map(|(semantics, run)| {
-        let plan = if run.plan { "a plan" } else { "no plan" };
+        let plan = if run.is_plan { "a plan" } else { "no plan" };
         format!("{semantics} {plan} ({})", running(run.steps))
     });
     verdicts.join(", ")
@@ -109,7 +110,12 @@ fn digits(steps: usize) -> usize {
 }
 
 pub fn steps(count: usize) -> String {
-    format!("{count} {}", if count == 1 { "step" } else { "steps" })
+    counted(count, "step")
+}
+
+/// A count with its word.
+pub fn counted(count: usize, word: &str) -> String {
+    format!("{count} {word}{}", if count == 1 { "" } else { "s" })
 }
 
 fn running(count: usize) -> String {

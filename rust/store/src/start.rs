@@ -1,21 +1,23 @@
-//! What is done before the program starts: a look whether standard output is open, since the standard
-//! library opens /dev/null in the place of a closed one; and writes beyond a limit on the size of files are
-//! made to fail, where they would end the program.
+//! What is done before the program starts: a look which of its standard files are open, since the
+//! standard library opens /dev/null in the place of a closed one; and writes beyond a limit on the size
+//! of files are made to fail, where they would end the program.
 
 use std::sync::atomic::{AtomicBool, Ordering};
 
-static CLOSED: AtomicBool = AtomicBool::new(false);
+use store::files::Standard;
 
-pub fn output_is_open() -> bool {
-    !CLOSED.load(Ordering::Relaxed)
+static INPUT: AtomicBool = AtomicBool::new(true);
+static OUTPUT: AtomicBool = AtomicBool::new(true);
+
+pub fn standard() -> Standard {
+    Standard { input: INPUT.load(Ordering::Relaxed), output: OUTPUT.load(Ordering::Relaxed) }
 }
 
 #[cfg(target_os = "linux")]
 mod look {
-    use super::{AtomicBool, Ordering, CLOSED};
+    use super::{Ordering, INPUT, OUTPUT};
 
     const F_GETFD: i32 = 1;
-    const OUTPUT: i32 = 1;
     const SIGXFSZ: i32 = 25;
     const SIG_IGN: usize = 1;
 
@@ -25,13 +27,12 @@ mod look {
     }
 
     extern "C" fn look() {
-        let closed: &AtomicBool = &CLOSED;
-        // SAFETY: the first call reads the flags of a file number; the second has a signal ignored, for
-        // which no handler is needed.
-        unsafe {
-            closed.store(fcntl(OUTPUT, F_GETFD) == -1, Ordering::Relaxed);
-            signal(SIGXFSZ, SIG_IGN);
+        for (number, open) in [(0, &INPUT), (1, &OUTPUT)] {
+            // SAFETY: the call reads the flags of a file number and changes nothing.
+            open.store(unsafe { fcntl(number, F_GETFD) } != -1, Ordering::Relaxed);
         }
+        // SAFETY: the signal is ignored, for which no handler is needed.
+        unsafe { signal(SIGXFSZ, SIG_IGN) };
     }
 
     #[used]

@@ -121,14 +121,17 @@ fn every_example_takes_its_names_back() {
     }
 }
 
-#[test]
-fn errors_in_names() {
+/// The error of the names of two shelves with a part replaced.
+fn names_error(from: &str, to: &str) -> String {
     let store = example("two-shelves");
     let sound = write(&store);
-    let error = |from: &str, to: &str| {
-        assert!(sound.contains(from));
-        named(&store, &sound.replace(from, to)).unwrap_err().to_string()
-    };
+    assert!(sound.contains(from));
+    named(&store, &sound.replace(from, to)).unwrap_err().to_string()
+}
+
+#[test]
+fn errors_in_names() {
+    let error = names_error;
     assert_eq!(
         error("shelf-0 shelf-1\n", "shelf-0\n"),
         "line 2, column 27: expected a value name, found end of line"
@@ -141,6 +144,11 @@ fn errors_in_names() {
         error("shelf-0 shelf-1\n", "a a\n"),
         "line 2, column 22: expected a new value name, found `a` a second time"
     );
+}
+
+#[test]
+fn names_too_few_too_many_or_twice() {
+    let error = names_error;
     assert_eq!(
         error("action put-down\n", ""),
         "line 7, column 1: expected `action`, found end of text"

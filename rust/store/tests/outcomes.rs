@@ -136,6 +136,15 @@ fn wrong_calls_are_told_in_one_line() {
 }
 
 #[test]
+fn a_closed_input() {
+    let (status, out, error) = folder().run("store plan - <&-");
+    assert_eq!(
+        (status, out.as_str(), error.as_str()),
+        (2, "", "store: standard input is closed\n")
+    );
+}
+
+#[test]
 fn help() {
     let folder = folder();
     let (status, out, error) = folder.run("store help");

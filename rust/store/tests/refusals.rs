@@ -40,7 +40,7 @@ fn records_cut_short() {
                 .into()
         )
     );
-    assert_eq!(words(1), (1, 4, "the record ends inside or before the count of variables (bits 4 to 10): it has 1 bytes, 8 bits".into()));
+    assert_eq!(words(1), (1, 4, "the record ends inside or before the count of variables (bits 4 to 10): it has 1 byte, 8 bits".into()));
     assert_eq!(words(4), (1, 29, "the record ends inside or before the initial value of variable 0 (bits 29 to 34): it has 4 bytes, 32 bits".into()));
     assert_eq!(words(12), (1, 92, "the record ends inside or before the value of precondition 0 of action 0 (bits 92 to 97): it has 12 bytes, 96 bits".into()));
 }
@@ -354,57 +354,47 @@ fn entries_of_lists() {
     assert!(error.contains("32,768"), "{error}");
 }
 
-#[test]
-fn sheets() {
+/// The sheet of two shelves.
+fn sheet() -> Vec<u8> {
     let sheet = write_sheet(&Sheet { steps: vec![0, 2, 1, 3], cost: 10, real: true }).unwrap();
     assert_eq!(sheet.len(), 12);
-    let words = |bytes: &[u8]| {
-        let refusal = library::read_sheet(bytes).unwrap_err();
-        assert_eq!(refusal.number, 12);
-        (refusal.place, of_sheet::in_words(bytes, refusal))
-    };
-    let cut = |bytes: usize| words(&sheet[..bytes]);
-    assert_eq!(
-        cut(0),
-        (0, "the sheet ends inside or before the edition at bit 0: it has 0 bytes, 0 bits".into())
-    );
-    assert_eq!(
-        cut(2),
-        (
-            5,
-            "the sheet ends inside or before the count of steps at bit 5: it has 2 bytes, 16 bits"
-                .into()
-        )
-    );
-    assert_eq!(
-        cut(4),
-        (21, "the sheet ends inside or before the cost at bit 21: it has 4 bytes, 32 bits".into())
-    );
-    assert_eq!(
-        cut(9),
-        (63, "the sheet ends inside or before step 1 at bit 63: it has 9 bytes, 72 bits".into())
-    );
-    assert_eq!(
-        words(&with_field(sheet.clone(), 0, 4, 3)),
-        (0, "the edition (bits 0 to 3) is 3; it must be 1".into())
-    );
-    assert_eq!(
-        words(&with_field(sheet.clone(), 5, 16, 32_769)),
-        (5, "the count of steps (bits 5 to 20) is 32,769; it must be 32,768 at most".into())
-    );
-    assert_eq!(
-        words(&with_field(sheet.clone(), 95, 1, 1)),
-        (93, "behind the last step the bits 93 to 95 must be 0".into())
-    );
-    let longer = [sheet.clone(), vec![0]].concat();
-    assert_eq!(
-        words(&longer),
-        (
-            93,
-            "its steps end before bit 93, so the sheet has 12 bytes; it has 13 bytes, 104 bits"
-                .into()
-        )
-    );
+    sheet
+}
+
+/// Place and words of the refusal of a sheet.
+fn of_sheet_bytes(bytes: &[u8]) -> (u32, String) {
+    let refusal = library::read_sheet(bytes).unwrap_err();
+    assert_eq!(refusal.number, 12);
+    (refusal.place, of_sheet::in_words(bytes, refusal))
+}
+
+#[test]
+fn sheets_cut_short() {
+    for (bytes, place, field, has) in [
+        (0, 0, "the edition", "0 bytes, 0 bits"),
+        (1, 5, "the count of steps", "1 byte, 8 bits"),
+        (4, 21, "the cost", "4 bytes, 32 bits"),
+        (7, 53, "step 0", "7 bytes, 56 bits"),
+        (9, 63, "step 1", "9 bytes, 72 bits"),
+    ] {
+        let words = format!("the sheet ends inside or before {field} at bit {place}: it has {has}");
+        assert_eq!(of_sheet_bytes(&sheet()[..bytes]), (place, words));
+    }
+}
+
+#[test]
+fn sheets_with_a_fault() {
+    let with = |at, width, value| of_sheet_bytes(&with_field(sheet(), at, width, value));
+    let edition = "the edition (bits 0 to 3) is 3; it must be 1";
+    assert_eq!(with(0, 4, 3), (0, edition.to_owned()));
+    let steps = "the count of steps (bits 5 to 20) is 32,769; it must be 32,768 at most";
+    assert_eq!(with(5, 16, 32_769), (5, steps.to_owned()));
+    let padding = "behind the last step the bits 93 to 95 must be 0";
+    assert_eq!(with(95, 1, 1), (93, padding.to_owned()));
+    let longer = [sheet(), vec![0]].concat();
+    let behind =
+        "its steps end before bit 93, so the sheet has 12 bytes; it has 13 bytes, 104 bits";
+    assert_eq!(of_sheet_bytes(&longer), (93, behind.to_owned()));
 }
 
 #[test]

@@ -126,6 +126,10 @@ fn errors_in_loops_and_lists() {
         error("for B C in 1 2, 3\nend"),
         "line 1, column 17: expected 2 values in a round, found 1"
     );
+}
+
+#[test]
+fn errors_in_ends_and_lists() {
     assert_eq!(error("end"), "line 1, column 1: expected `end` only behind a `for`, found `end`");
     assert_eq!(error("for B in 1\nend now"), "line 2, column 5: expected end of line, found `now`");
     assert_eq!(

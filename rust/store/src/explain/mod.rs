@@ -9,6 +9,7 @@ pub mod sheet;
 
 use reference::Refusal;
 
+use crate::show::counted;
 use crate::store::Store;
 
 /// What a refusal of a record that passes 1 to 6 means in its store; for 9 and 13 with the list.
@@ -61,6 +62,11 @@ pub fn in_general(refusal: Refusal) -> String {
         ),
         number => format!("{number} is no refusal: they are numbered 1 to 13"),
     }
+}
+
+/// The length of a record or sheet.
+fn length(bytes: &[u8]) -> String {
+    format!("{}, {} bits", counted(bytes.len(), "byte"), 8 * bytes.len())
 }
 
 /// Words with commas, and `and` before the last.

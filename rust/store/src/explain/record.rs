@@ -3,6 +3,9 @@
 use reference::bits::Bits;
 use reference::Refusal;
 
+use super::length;
+use crate::show::counted;
+
 /// A field, and what is allowed in it.
 struct Field {
     name: String,
@@ -18,11 +21,10 @@ pub fn in_words(bytes: &[u8], refusal: Refusal) -> String {
     let place = refusal.place;
     match (refusal.number, &walk.found) {
         (1, Some(field)) if walk.cut => format!(
-            "the record ends inside or before {} ({}): it has {} bytes, {} bits",
+            "the record ends inside or before {} ({}): it has {}",
             field.name,
             bits_of(field),
-            bytes.len(),
-            8 * bytes.len()
+            length(bytes)
         ),
         (2..=5, Some(field)) if !walk.cut => {
             let value = walk.bits.field(field.first, field.width);
@@ -42,11 +44,11 @@ fn bits_of(field: &Field) -> String {
 }
 
 fn behind(bytes: &[u8], end: usize) -> String {
-    let (found, right) = (bytes.len(), end.div_ceil(8));
-    if found > right {
-        let fields =
-            format!("the last field ends before bit {end}, so the record has {right} bytes");
-        return format!("{fields}; here are {found}");
+    let right = end.div_ceil(8);
+    if bytes.len() > right {
+        let whole = counted(right, "byte");
+        let fields = format!("the last field ends before bit {end}, so the record has {whole}");
+        return format!("{fields}; here are {}", bytes.len());
     }
     format!("behind the last field the bits {end} to {} must be 0", 8 * right - 1)
 }

@@ -4,7 +4,8 @@ use reference::bits::Bits;
 use reference::entry::MAX_STEPS;
 use reference::Refusal;
 
-use super::{grouped, in_general};
+use super::{grouped, in_general, length};
+use crate::show::counted;
 
 const HEAD: usize = 53;
 const STEP: usize = 10;
@@ -20,13 +21,14 @@ pub fn in_words(bytes: &[u8], refusal: Refusal) -> String {
 fn fault(bytes: &[u8], place: usize) -> Option<String> {
     let bits = Bits::new(bytes);
     let (name, width) = field(place)?;
-    let has = format!("it has {} bytes, {} bits", bytes.len(), bits.len());
+    let has = format!("it has {}", length(bytes));
     let behind = bits.len() >= HEAD && place == HEAD + STEP * bits.field(5, 16);
     if behind {
         let right = place.div_ceil(8);
         return Some(match bytes.len() > right {
             true => {
-                format!("its steps end before bit {place}, so the sheet has {right} bytes; {has}")
+                let whole = counted(right, "byte");
+                format!("its steps end before bit {place}, so the sheet has {whole}; {has}")
             }
             false => {
                 format!("behind the last step the bits {place} to {} must be 0", 8 * right - 1)

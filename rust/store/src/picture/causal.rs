@@ -9,8 +9,8 @@ use crate::store::{Action, Store, Variable};
 /// As many actions of an arc are named beside it; its title has all.
 const MAX_LABELS: usize = 3;
 
-/// The arcs, each with the actions that make it: from u to v, u ≠ v, if an action affects v and has
-/// u among its preconditions or effects.
+/// The arcs, each with the actions that make it: one from each variable that an action names to each
+/// other variable that it sets.
 pub fn causal_graph(store: &Store) -> BTreeMap<(usize, usize), Vec<usize>> {
     let mut arcs: BTreeMap<_, Vec<usize>> = BTreeMap::new();
     for (number, action) in store.actions.iter().enumerate() {

@@ -2,6 +2,7 @@
 
 pub mod causal;
 pub mod chart;
+pub mod chart_legend;
 pub mod chart_svg;
 pub mod dot;
 pub mod graphviz;

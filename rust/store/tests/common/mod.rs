@@ -9,7 +9,7 @@ use std::sync::atomic::{AtomicUsize, Ordering};
 use reference::{Fact, Task, Variable};
 use store::{parse, Store};
 
-pub const EXAMPLES: [&str; 8] = [
+pub const EXAMPLES: [&str; 10] = [
     "two-shelves",
     "two-shelves-without-1",
     "two-shelves-without-2",
@@ -18,6 +18,8 @@ pub const EXAMPLES: [&str; 8] = [
     "two-black-effects",
     "goal-met",
     "tray",
+    "door",
+    "lit-return",
 ];
 
 pub fn path(name: &str, extension: &str) -> PathBuf {

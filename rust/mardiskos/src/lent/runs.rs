@@ -1,6 +1,6 @@
 //! Judging, the forward run and the relaxed plan.
 
-/// For each semantics the steps before the first that does not apply, and whether the list is a plan.
+/// For each semantics how many steps run until one does not apply, and whether it is a plan.
 #[repr(C)]
 #[derive(Clone, Copy, Debug, Default, PartialEq, Eq)]
 pub struct Judgement {
