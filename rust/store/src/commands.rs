@@ -60,7 +60,8 @@ pub fn run(arguments: &[String], files: &mut Files) -> Outcome {
     let Some((name, rest)) = arguments.split_first() else {
         return Err(Failure::Error("no command; `store help` lists them".to_owned()));
     };
-    let known = COMMANDS.iter().find(|command| command.name == name.trim_start_matches('-'));
+    let name = if ["-h", "--help"].contains(&name.as_str()) { "help" } else { name };
+    let known = COMMANDS.iter().find(|command| command.name == name);
     let Some(command) = known else {
         let name = name.escape_debug();
         return Err(Failure::Error(format!("no command `{name}`; `store help` lists them")));

@@ -47,19 +47,16 @@ fn a_closed_output() {
     check_lost("1</dev/null", ": Bad file descriptor (os error 9)");
 }
 
+/// A pipe is opened for writing while something reads it, which is then closed.
 #[test]
 fn a_reader_that_has_gone() {
     let folder = folder();
+    folder.run("mkfifo pipe");
     for command in COMMANDS {
-        let line = format!("(sleep 0.2; store {command} 2>error; echo $? >status) | true");
-        folder.run(&line);
-        let text = |name: &str| String::from_utf8(folder.read(name)).unwrap();
-        assert_eq!(text("status"), "2\n", "{command}");
-        assert_eq!(
-            text("error"),
-            "store: standard output: Broken pipe (os error 32)\n",
-            "{command}"
-        );
+        let line = format!("exec 3<>pipe 4>pipe 3<&-; store {command} >&4");
+        let (status, _, error) = folder.run(&line);
+        assert_eq!(status, 2, "{command}");
+        assert_eq!(error, "store: standard output: Broken pipe (os error 32)\n", "{command}");
     }
 }
 
@@ -111,6 +108,7 @@ fn wrong_calls_are_told_in_one_line() {
     for (call, reason) in [
         ("", "no command; `store help` lists them"),
         ("draw x", "no command `draw`; `store help` lists them"),
+        ("--plan x", "no command `--plan`; `store help` lists them"),
         ("plan", "usage: store plan FILE [LIST]"),
         ("text a b c", "usage: store text FILE [OUT]"),
         ("values two-shelves.store", "usage: store values FILE VARIABLE [OUT] [--dot | --plain]"),

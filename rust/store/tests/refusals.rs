@@ -422,6 +422,30 @@ fn explanations_for_other_programs() {
 }
 
 #[test]
+fn refusals_that_are_not_those_of_the_store() {
+    let mut random = Random::new(19);
+    for _ in 0..300 {
+        let store = unnamed(&random_accepted(&mut random));
+        let list: Vec<u16> = (0..random.below(5)).map(|_| random.below(12) as u16).collect();
+        let place = random.below(70);
+        for number in 0..16 {
+            let refusal = Refusal::new(number, place);
+            for words in [
+                in_words(&store, refusal, None),
+                in_words(&store, refusal, Some(&list)),
+                of_sheet::in_words(&store.record(), refusal),
+                of_record::in_words(&store.record(), refusal),
+            ] {
+                assert!(!words.is_empty() && !words.contains('\n'));
+            }
+        }
+    }
+    let store = example("two-shelves");
+    let words = in_words(&store, Refusal::new(9, 3), Some(&[0, 2, 3]));
+    assert_eq!(words, "the list is a relaxed plan of this store");
+}
+
+#[test]
 fn all_numbers_have_words() {
     let mut known: Vec<String> =
         (1..=13).map(|number| in_general(Refusal::new(number, 4))).collect();

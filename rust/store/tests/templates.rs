@@ -1,5 +1,8 @@
 //! Templates, written out in order, with errors that name their place and round.
 
+mod common;
+
+use common::{path, Random};
 use store::{parse, text};
 
 fn error(text: &str) -> String {
@@ -169,4 +172,31 @@ fn limits() {
         error(&many),
         "line 5, column 1: expected at most 1024 actions, found one more (with A = 26, B = 25)"
     );
+}
+
+/// Texts with parts cut out, doubled or changed are read or refused with a place.
+#[test]
+fn damaged_templates() {
+    let office = std::fs::read_to_string(path("office/office", "store")).unwrap();
+    let parts =
+        ["{", "}", "..", " ", "\n", "end\n", "for ", "in", ",", "=", "list x: {0..9}\n", "{S}"];
+    let mut random = Random::new(23);
+    let (mut read, mut refused) = (0, 0);
+    for _ in 0..1000 {
+        let mut text = office.clone();
+        let (from, to) = (random.below(text.len()), random.below(text.len()));
+        match random.below(3) {
+            0 => text.replace_range(from.min(to)..from.max(to), ""),
+            1 => text.insert_str(from, parts[random.below(parts.len())]),
+            _ => text.replace_range(from..from + 1, parts[random.below(parts.len())]),
+        }
+        match parse(&text) {
+            Ok(_) => read += 1,
+            Err(error) => {
+                assert!(error.at.line <= text.lines().count() + 1, "{error}");
+                refused += 1;
+            }
+        }
+    }
+    assert!(read > 20 && refused > 500, "{read} {refused}");
 }

@@ -1,7 +1,7 @@
 //! Refusals 9 and 13: entries of a list.
 
 use reference::entry::MAX_STEPS;
-use reference::state::Semantics;
+use reference::state::{run, Semantics};
 
 use super::grouped;
 use crate::show::trouble;
@@ -15,6 +15,9 @@ pub fn entry(store: &Store, list: &[u16], place: usize) -> String {
         Some(entry) if place >= known => format!(
             "entry {place} of the list is {entry}, and the store has {actions} actions, numbered from 0"
         ),
+        _ if run(&store.task(), &list[..known], &Semantics::relaxed()).plan => {
+            "the list is a relaxed plan of this store".to_owned()
+        }
         _ => format!("no relaxed plan: {}", trouble(store, &list[..known], &Semantics::relaxed())),
     }
 }

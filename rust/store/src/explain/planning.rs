@@ -80,8 +80,8 @@ pub fn no_room(store: &Store, room: usize) -> String {
 fn enough(store: &Store) -> String {
     let facts: usize = store.variables.iter().map(|variable| variable.values.len() - 1).sum();
     let black = store.variables.iter().filter(|variable| variable.black);
-    let counts = black.clone().map(|variable| variable.values.len() as u128);
-    let states = counts.fold(Some(1u128), |product, count| product?.checked_mul(count));
+    let mut counts = black.map(|variable| variable.values.len() as u128);
+    let states = counts.try_fold(1u128, |product, count| product.checked_mul(count));
     let product = states.and_then(|states| states.checked_mul(facts as u128));
     let number = product.map_or("a number of over 38 digits".to_owned(), grouped);
     format!("F × P, which is always enough, is {number}")

@@ -50,7 +50,7 @@ fn arc_line(arc: &Arc) -> String {
     let style =
         if arc.class == "dark" { "color=\"#222222\" penwidth=1.6" } else { "color=\"#8a8a8a\"" };
     let label: String =
-        arc.labels.iter().map(|line| format!("\u{a0}\u{a0}{}\\l", escaped(line))).collect();
+        arc.labels.iter().map(|line| format!("\u{a0}\u{a0}\u{a0}{}\\l", escaped(line))).collect();
     let title = escaped(&arc.title);
     let (from, to) = (arc.from, arc.to);
     format!("  n{from} -> n{to} [label=\"{label}\" labeltooltip=\"{title}\" tooltip=\"{title}\" {style}]\n")
