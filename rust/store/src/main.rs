@@ -5,9 +5,9 @@ mod start;
 use std::panic;
 use std::process::ExitCode;
 
+use store::commands;
 use store::files::Files;
-use store::outcome::{complain, settle, Failure};
-use store::{commands, outcome};
+use store::outcome::{complain, settle, NO_ANSWER};
 
 fn main() -> ExitCode {
     panic::set_hook(Box::new(|fault| complain(&format!("fault of this program: {fault}"))));
@@ -15,8 +15,8 @@ fn main() -> ExitCode {
         std::env::args_os().skip(1).map(|name| name.to_string_lossy().into_owned()).collect();
     let status = panic::catch_unwind(|| {
         let mut files = Files::new(start::standard());
-        let outcome: Result<(), Failure> = commands::run(&arguments, &mut files);
+        let outcome = commands::run(&arguments, &mut files);
         settle(outcome, &files)
     });
-    ExitCode::from(status.unwrap_or(outcome::NO_ANSWER))
+    ExitCode::from(status.unwrap_or(NO_ANSWER))
 }
