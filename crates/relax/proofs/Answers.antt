@@ -1,54 +1,69 @@
 -- The relaxed plan's answer and its list, at each end.
-use mathlib.Core.Path.{_≡_, refl, sym, _∙_, fun-ext}
-use mathlib.Core.Bool.{true, false, _||_, or-false}
-use mathlib.Core.List.{List, _++_}
+use mathlib.Core.Path.{_≡_, refl, sym, ap, _∙_, fun-ext}
+use mathlib.Core.Bool.{true, false, or-false}
+use mathlib.Core.List.{List, [], _∷_, _++_}
 use mathlib.Core.Option.{none}
 use Prim.Native.Nat.{ℕ, _-_, _≤_}
 use native.Mathlib.Omega.{arith}
-use Rattle.forward.proofs.Chains.{zeros}
 use lib.ListN.{length, drop, replicate, length-drop, length-append}
 use lib.Seq.{take-at}
-use Rattle.planning.specs.Basics.{refuse, refused, done}
+use Rattle.planning.specs.Basics.{Check, refuse, refused, done}
 use Rattle.planning.specs.Record.{Task, taskOf, recordCheck}
 use Rattle.planning.specs.Runs.{State}
 use Rattle.planning.specs.Relaxed.{reachesGoals, factsReached, relaxedPlan}
-use Rattle.planning.specs.Calls.{capacity, roomCheck, relaxCall, relaxList}
+use Rattle.planning.specs.Calls.{lent, capacity, roomCheck, goalsCheck, relaxCall, relaxList}
+use Rattle.answers.proofs.Stages.{skip, hit}
+use Rattle.lists.specs.Lent.{laid}
 use Rattle.state.specs.Sets.{setsOf}
 use Rattle.state.proofs.Members.{inSet-empty}
-use Rattle.forward.specs.Answers.{laidList}
-use Rattle.forward.proofs.Answers.{called-refused, called-unsolved, called-whole, called-short, called-list, lent-refused}
-use Rattle.relax.specs.Keeping.{Front}
+use Rattle.forward.specs.Answers.{called}
+use Rattle.forward.proofs.Chains.{zeros}
+use Rattle.forward.proofs.Answers.{called-unsolved, called-whole, called-short, called-list, lent-refused}
+use Rattle.relax.specs.Keeping.{Joined, Front, Found, Unfound}
+use Rattle.relax.specs.Answers.{relaxOf, relaxIn}
 
+-- once the record is accepted
+module _ (t : Task) (m : ℕ) where
+  pub relax-unsolved : (f : _) → Unfound t f → (refused (f .number) (f .place) ≡ relaxOf t m) × (replicate m 65535 ≡ relaxIn t m)
+  unfolding relaxOf relaxIn
+  relax-unsolved f U =
+      let z = called-unsolved t (relaxedPlan t) m (length (relaxedPlan t)) (U .unsolved) in
+      (rw (U .number′, U .place′) (sym z), lent-refused (called t (relaxedPlan t) m (length (relaxedPlan t))) 10 (factsReached t) m (relaxedPlan t) z)
+
+  module _ {plan : List ℕ} {n : ℕ} (F : Found t plan n) (l : List ℕ) (el : l ≡ relaxedPlan t) where
+    pub relax-whole : none ≡ roomCheck (length l) (capacity m) → done n ≡ relaxOf t m
+    unfolding relaxOf
+    relax-whole q = rw (F .front .steps) (called-whole t (relaxedPlan t) m (length (relaxedPlan t)) (F .solved) (rw (← el) q))
+
+    pub relax-short : (p q : ℕ) → refuse p q ≡ roomCheck (length l) (capacity m) → refused p q ≡ relaxOf t m
+    unfolding relaxOf
+    relax-short p q z = called-short t (relaxedPlan t) m (length (relaxedPlan t)) (F .solved) p q (rw (← el) z)
+
+    pub relax-list : laid m l ≡ relaxIn t m
+    unfolding relaxOf relaxIn
+    relax-list = rw el (called-list t (relaxedPlan t) m (length (relaxedPlan t)) (F .solved))
+
+-- and before
 module _ (s : List ℕ) (m : ℕ) where
+  abbrev rest : List Check
+  rest = goalsCheck (taskOf s) ∷ roomCheck (length (relaxedPlan (taskOf s))) (capacity m) ∷ []
+
   pub relax-refused : (p q : ℕ) → refuse p q ≡ recordCheck s → (refused p q ≡ relaxCall s m) × (replicate m 65535 ≡ relaxList s m)
   unfolding relaxCall relaxList
   relax-refused p q e =
-      let z = called-refused s (length (relaxedPlan (taskOf s))) (capacity m) (length (relaxedPlan (taskOf s))) (record { number = p; place = q }) (sym e) in
-      (sym z, lent-refused (relaxCall s m) p q m (relaxedPlan (taskOf s)) z)
+      let z = hit (recordCheck s) rest p q (length (relaxedPlan (taskOf s))) (sym e) in
+      (z, lent-refused (relaxCall s m) p q m (relaxedPlan (taskOf s)) (sym z))
 
-  pub relax-unsolved : recordCheck s ≡ none → reachesGoals (taskOf s) ≡ false → (p q : ℕ) → p ≡ 10 → q ≡ factsReached (taskOf s) → (refused p q ≡ relaxCall s m) × (replicate m 65535 ≡ relaxList s m)
-  unfolding relaxCall relaxList
-  relax-unsolved e h p q ep eq =
-      let z = called-unsolved s (length (relaxedPlan (taskOf s))) (capacity m) (length (relaxedPlan (taskOf s))) e h in
-      (rw (ep, eq) (sym z), lent-refused (relaxCall s m) 10 (factsReached (taskOf s)) m (relaxedPlan (taskOf s)) z)
-
-  module _ (e : recordCheck s ≡ none) (h : reachesGoals (taskOf s) ≡ true) (l : List ℕ) (el : l ≡ relaxedPlan (taskOf s)) where
-    pub relax-whole : (n : ℕ) → n ≡ length (relaxedPlan (taskOf s)) → none ≡ roomCheck (length l) (capacity m) → done n ≡ relaxCall s m
-    unfolding relaxCall
-    relax-whole n en q = rw en (called-whole s (length (relaxedPlan (taskOf s))) (capacity m) (length (relaxedPlan (taskOf s))) e h (rw (← el) q))
-
-    pub relax-short : (p q : ℕ) → refuse p q ≡ roomCheck (length l) (capacity m) → refused p q ≡ relaxCall s m
-    unfolding relaxCall
-    relax-short p q z = called-short s (length (relaxedPlan (taskOf s))) (capacity m) (length (relaxedPlan (taskOf s))) e h p q (rw (← el) z)
-
-    pub relax-list : laidList m l ≡ relaxList s m
-    unfolding relaxCall relaxList
-    relax-list = rw el (called-list s (relaxedPlan (taskOf s)) m (length (relaxedPlan (taskOf s))) e h)
+  pub relax-accepts : recordCheck s ≡ none → (t : Task) → t ≡ taskOf s → (relaxOf t m ≡ relaxCall s m) × (relaxIn t m ≡ relaxList s m)
+  unfolding relaxCall relaxList relaxOf relaxIn called
+  relax-accepts e t et =
+      let z : relaxOf (taskOf s) m ≡ relaxCall s m = skip (recordCheck s) rest (relaxOf (taskOf s) m) (length (relaxedPlan (taskOf s))) e refl in
+      rw et (z, ap (λ a. lent a m (relaxedPlan (taskOf s))) z)
 
 -- the facts of a list alone: those that join sets that hold nothing
-pub added-alone : (f : State) (ms₀ ms : List ℕ) → ms₀ ≡ replicate 64 0 → ((v d : ℕ) → setsOf ms v d ≡ (f v d || setsOf ms₀ v d)) → setsOf ms ≡ f
+pub joined-alone : (f : State) (before after : List ℕ) → before ≡ replicate 64 0 → Joined f before after → setsOf after ≡ f
 unfolding setsOf
-added-alone f ms₀ ms e h = fun-ext (λ v. fun-ext (λ d. h v d ∙ rw (e, zeros 64 v, inSet-empty d) (or-false (f v d))))
+joined-alone f before after e J = fun-ext (λ v. fun-ext (λ d. J .are v d ∙ rw (e, zeros 64 v, inSet-empty d) (or-false (f v d))))
 
 -- the kept actions copied to the front
 pub front-of : (t : Task) (kept old new : List ℕ) (m n : ℕ) → m ≤ 1024 → length kept ≡ 1024 → drop m kept ≡ relaxedPlan t → length old ≡ 1024 → n ≡ 1024 - m → (l : List ℕ) → l ≡ drop m kept

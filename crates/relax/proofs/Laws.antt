@@ -13,20 +13,19 @@ use lib.Bits.{bitOr}
 use lib.Dec.{T, eqb, eqb-refl}
 use lib.ListN.{length, getD, set, drop, length-set}
 use lib.Seq.{getD-set-same, getD-set-other, getD-take, drop-cons, drop-length, drop-set-lt, length-take-le}
-use Rattle.planning.specs.Record.{Fact, Action, Task, taskOf}
+use Rattle.planning.specs.Record.{Fact, Action, Task}
 use Rattle.planning.specs.Runs.{State, has, actions, act, variables, count, initial, goals}
 use Rattle.planning.specs.Relaxed.{forwardRun, firstAchiever, is, reachedNeeded, keep, relaxedPlan}
 use Rattle.planning.proofs.Tests.{or-l, or-r, and-i}
 use Rattle.planning.proofs.Steps.{All}
-use Rattle.planning.proofs.Formed.{Formed, formed-of, sorted-has}
+use Rattle.planning.proofs.Formed.{Formed, sorted-has}
 use Rattle.planning.proofs.Forward.{forwardRun-ran}
-use Rattle.table.specs.Table.{factOf, factsIn}
-use Rattle.state.specs.Sets.{inSet, setsOf, actionOf, Listed}
+use Rattle.task.specs.Task.{factOf, factsIn, taskIn}
+use Rattle.state.specs.Sets.{inSet, setsOf}
 use Rattle.state.proofs.Members.{inSet-or, inSet-single}
-use Rattle.state.proofs.Tabled.{tabled-action, tabled-listed}
+use Rattle.state.proofs.Effects.{factsIn-cons, factsIn-none}
 use Rattle.forward.specs.Running.{achiever, Achieved}
-use Rattle.forward.proofs.Places.{factsIn-more, factsIn-none}
-use Rattle.relax.specs.Keeping.{byOf, Replay, Keeping}
+use Rattle.relax.specs.Keeping.{Joined, byOf, Replay, Keeping}
 
 -- one fact joins the sets
 module _ (ms : List ℕ) (f w : ℕ) (n : length ms ≡ 64) (b : f < 4096) (e : w ≡ bitOr (getD ms (f / 64) 0) (2 ^ (f % 64))) where
@@ -58,7 +57,7 @@ module _ (facts : List ℕ) (a b : ℕ) (q : b ≤ length facts) (ms₀ : List �
     from = omega (arith, A .from);
     to = omega arith;
     long = simp length-set (A .long);
-    so-far = λ v d. A .so-far v d ∙ rw (factsIn-more facts k b h q, add-one, setsOf-add ms f w (A .long) g ew v d, e) (turn (eqb v (getD facts k 0 / 64) && eqb d (getD facts k 0 % 64)) (has (factsIn facts (suc k) b) v d) (setsOf ms v d));
+    so-far = λ v d. A .so-far v d ∙ rw (factsIn-cons facts k b h q, setsOf-add ms f w (A .long) g ew v d, e) (turn (eqb v (getD facts k 0 / 64) && eqb d (getD facts k 0 % 64)) (has (factsIn facts (k + 1) b) v d) (setsOf ms v d));
   }
     where
       turn : (x h s : Bool) → ((x || h) || s) ≡ (h || (x || s))
@@ -67,12 +66,9 @@ module _ (facts : List ℕ) (a b : ℕ) (q : b ≤ length facts) (ms₀ : List �
       turn false true s = refl
       turn false false s = refl
 
-  pub adding-end : (ms : List ℕ) (k : ℕ) → Adding facts a b ms₀ ms k → b ≤ k → (v d : ℕ) → setsOf ms v d ≡ (has (factsIn facts a b) v d || setsOf ms₀ v d)
+  pub adding-end : (ms : List ℕ) (k : ℕ) → Adding facts a b ms₀ ms k → b ≤ k → Joined (has (factsIn facts a b)) ms₀ ms
   unfolding has
-  adding-end ms k A h v d =
-      let e : k ≡ b = omega (arith, A .to) in
-      let z : has (factsIn facts k b) v d ≡ false = rw (e, factsIn-none facts b) refl in
-      sym (A .so-far v d ∙ rw z refl)
+  adding-end ms k A h = record { long = A .long; are = λ v d. sym (A .so-far v d ∙ rw (factsIn-none facts k b (omega (arith, A .to))) refl) }
 
 -- the test of one effect, and of each
 module _ (fst : List ℕ) (N : State) (i f : ℕ) where
@@ -87,7 +83,7 @@ module _ (fst : List ℕ) (N : State) (i f : ℕ) where
 module _ (by : ℕ → ℕ → Option ℕ) (N : State) (i : ℕ) (table : List ℕ) (k b : ℕ) (h : k < b) (q : b ≤ length table) (f : ℕ) (e : f ≡ getD table k 0) where
   reachedNeeded-cons : reachedNeeded by N i (factsIn table k b) ≡ ((is i (by (f / 64) (f % 64)) && N (f / 64) (f % 64)) || reachedNeeded by N i (factsIn table (k + 1) b))
   unfolding reachedNeeded factOf
-  reachedNeeded-cons = rw (factsIn-more table k b h q, e, add-one) refl
+  reachedNeeded-cons = rw (factsIn-cons table k b h q, e) refl
 
   pub reachedNeeded-hit : true ≡ (is i (by (f / 64) (f % 64)) && N (f / 64) (f % 64)) → true ≡ reachedNeeded by N i (factsIn table k b)
   reachedNeeded-hit t = sym (reachedNeeded-cons ∙ rw (← t) refl)
@@ -97,7 +93,7 @@ module _ (by : ℕ → ℕ → Option ℕ) (N : State) (i : ℕ) (table : List �
 
 pub reachedNeeded-end : (by : ℕ → ℕ → Option ℕ) (N : State) (i : ℕ) (table : List ℕ) (k b : ℕ) → k ≡ b → false ≡ reachedNeeded by N i (factsIn table k b)
 unfolding reachedNeeded
-reachedNeeded-end by N i table k b e = rw (e, factsIn-none table b) refl
+reachedNeeded-end by N i table k b e = rw (factsIn-none table k b e) refl
 
 -- the test depends on the first achievers of the effects only
 reachedNeeded-same : (by by′ : ℕ → ℕ → Option ℕ) (N : State) (i : ℕ) (fs : List Fact) → ((v d : ℕ) → T (has fs v d) → is i (by v d) ≡ is i (by′ v d)) → reachedNeeded by N i fs ≡ reachedNeeded by′ N i fs
@@ -129,15 +125,15 @@ all-at P [] h k b = absurd (omega arith)
 all-at P (i ∷ l) h zero b = h .0
 all-at P (i ∷ l) h (suc k) b = all-at P l (h .1) k (omega arith)
 
-module _ (bytes table masks fst run : List ℕ) (n : ℕ) (R : Replay bytes table masks fst run n) where
+module _ {task fst run : List ℕ} {n : ℕ} (R : Replay task fst run n) where
   abbrev t : Task
-  t = taskOf bytes
+  t = taskIn task
 
   abbrev by : ℕ → ℕ → Option ℕ
   by = firstAchiever (act t) (forwardRun t) (initial t)
 
   formed : Formed t
-  formed = formed-of bytes (R .accepted)
+  formed = R .loaded .formed
 
   run-long : length (forwardRun t) ≡ n
   run-long = rw (← R .list, length-take-le n run (omega (arith, R .long, R .few))) refl
@@ -150,62 +146,73 @@ module _ (bytes table masks fst run : List ℕ) (n : ℕ) (R : Replay bytes tabl
       record { within = omega arith; room = omega arith; end = omega arith; long = q; needed-long = p; kept-are = rw (z, y) refl; needed-are = rw z (sym e) }
 
   module _ (k : ℕ) (b : k < n) where
-    at-k : getD (forwardRun t) k 0 ≡ getD run k 0
+    abbrev i : ℕ
+    i = getD run k 0
+
+    abbrev later : List ℕ
+    later = drop (k + 1) (forwardRun t)
+
+    at-k : getD (forwardRun t) k 0 ≡ i
     at-k = rw (← R .list) (getD-take n run k 0 b)
 
-    pub entry-below : getD run k 0 < actions t
-    entry-below = rw (← at-k) (all-at (λ i. i < actions t) (forwardRun t) (forwardRun-ran t formed .below) k (omega (arith, run-long)))
+    pub entry-below : i < actions t
+    entry-below = rw (← at-k) (all-at (λ j. j < actions t) (forwardRun t) (forwardRun-ran t formed .below) k (omega (arith, run-long)))
 
-    pub entry-listed : Listed table (getD run k 0)
-    entry-listed = tabled-listed t table formed (R .tabled) (getD run k 0) entry-below
-
-    same : actionOf table (getD run k 0) ≡ act t (getD run k 0)
-    same = tabled-action t table (getD run k 0) (R .tabled (getD run k 0) entry-below)
-
-    from-k : drop k (forwardRun t) ≡ getD run k 0 ∷ drop (k + 1) (forwardRun t)
+    from-k : drop k (forwardRun t) ≡ i ∷ later
     from-k = rw (drop-cons (forwardRun t) k 0 (omega (arith, run-long)), at-k, add-one) refl
 
-    test : (N : State) → reachedNeeded (byOf fst) N (getD run k 0) (actionOf table (getD run k 0) .eff) ≡ reachedNeeded by N (getD run k 0) (act t (getD run k 0) .eff)
+    -- the list of first achievers answers as the definition does
+    same-by : (v d : ℕ) → T (has (act t i .eff) v d) → is i (byOf fst v d) ≡ is i (by v d)
     unfolding byOf Achieved
-    test N = rw same (reachedNeeded-same (byOf fst) by N (getD run k 0) (act t (getD run k 0) .eff) (λ v d h.
-        let I = sorted-has (variables t) (count t) 0 (act t (getD run k 0) .eff) (formed .eff-sorted (getD run k 0)) v d h in
-        let ev : (64 * v + d) / 64 ≡ v = omega (arith, I .val-below, formed .count-max v) in
-        let ed : (64 * v + d) % 64 ≡ d = omega (arith, I .val-below, formed .count-max v) in
-        let a : getD fst (64 * v + d) 0 ≡ achiever (by v d) = R .achieved (64 * v + d) (omega (arith, I .var-below, I .val-below, formed .variables-max, formed .count-max v)) ∙ rw (ev, ed) refl in
-        ap (λ x. is (getD run k 0) (some x)) a ∙ is-achiever (getD run k 0) (by v d) (omega (arith, entry-below, formed .actions-max))))
+    same-by v d h =
+        let I = sorted-has (variables t) (count t) 0 (act t i .eff) (formed .eff-sorted i) v d h in
+        let m = formed .count-max v in
+        let ev : (64 * v + d) / 64 ≡ v = omega (arith, I .val-below, m) in
+        let ed : (64 * v + d) % 64 ≡ d = omega (arith, I .val-below, m) in
+        let f : 64 * v + d < 4096 = omega (arith, I .var-below, I .val-below, formed .variables-max, m) in
+        let a : getD fst (64 * v + d) 0 ≡ achiever (by v d) = R .achieved (64 * v + d) f ∙ rw (ev, ed) refl in
+        ap (λ x. is i (some x)) a ∙ is-achiever i (by v d) (omega (arith, entry-below, formed .actions-max))
 
-    module _ (needed kept : List ℕ) (m j : ℕ) (ej : j ≡ k + 1) (K₀ : Keeping t n needed kept j m) where
-      K : Keeping t n needed kept (k + 1) m
-      K = subst (λ x. Keeping t n needed kept x m) ej K₀
+    module _ {needed kept : List ℕ} {m : ℕ} (K : Keeping t n needed kept (k + 1) m) where
+      tested : (r : Bool) → r ≡ reachedNeeded (byOf fst) (setsOf needed) i (act t i .eff) → reachedNeeded by (keep (act t) by (goals t) later .needed) i (act t i .eff) ≡ r
+      tested r e = rw (K .needed-are) (sym (e ∙ reachedNeeded-same (byOf fst) by (setsOf needed) i (act t i .eff) same-by))
 
-      tested : (r : Bool) → r ≡ reachedNeeded (byOf fst) (setsOf needed) (getD run k 0) (actionOf table (getD run k 0) .eff)
-          → reachedNeeded by (keep (act t) by (goals t) (drop (k + 1) (forwardRun t)) .needed) (getD run k 0) (act t (getD run k 0) .eff) ≡ r
-      tested r e = rw (K .needed-are) (sym (e ∙ test (setsOf needed)))
-
-      pub keeping-no : false ≡ reachedNeeded (byOf fst) (setsOf needed) (getD run k 0) (actionOf table (getD run k 0) .eff) → Keeping t n needed kept k m
+      pub keeping-no : false ≡ reachedNeeded (byOf fst) (setsOf needed) i (act t i .eff) → Keeping t n needed kept k m
       keeping-no e =
-          let z = keep-no (act t) by (goals t) (getD run k 0) (drop (k + 1) (forwardRun t)) (tested false e) in
-          record { within = omega arith; room = omega (arith, K .room); end = K .end; long = K .long; needed-long = K .needed-long; kept-are = rw (from-k, z) (K .kept-are); needed-are = rw (from-k, z) (K .needed-are) }
+          let z = keep-no (act t) by (goals t) i later (tested false e) in
+          record {
+            within = omega arith;
+            room = omega (arith, K .room);
+            end = K .end;
+            long = K .long;
+            needed-long = K .needed-long;
+            kept-are = rw (from-k, z) (K .kept-are);
+            needed-are = rw (from-k, z) (K .needed-are);
+          }
 
       pub keeping-room : 0 < m
       keeping-room = omega (arith, K .room, R .few)
 
-      pub keeping-yes : true ≡ reachedNeeded (byOf fst) (setsOf needed) (getD run k 0) (actionOf table (getD run k 0) .eff)
-          → (needed′ : List ℕ) → length needed′ ≡ 64 → ((v d : ℕ) → setsOf needed′ v d ≡ (has (actionOf table (getD run k 0) .pre) v d || setsOf needed v d))
-          → Keeping t n needed′ (set kept (m - 1) (getD run k 0)) k (m - 1)
-      keeping-yes e needed′ p f =
-          let z = keep-yes (act t) by (goals t) (getD run k 0) (drop (k + 1) (forwardRun t)) (tested true e) in
+      pub keeping-yes : true ≡ reachedNeeded (byOf fst) (setsOf needed) i (act t i .eff) → (needed′ : List ℕ) → Joined (has (act t i .pre)) needed needed′
+          → Keeping t n needed′ (set kept (m - 1) i) k (m - 1)
+      keeping-yes e needed′ J =
+          let z = keep-yes (act t) by (goals t) i later (tested true e) in
           let c : m - 1 < length kept = omega (arith, K .long, K .end, keeping-room) in
           let s : suc (m - 1) ≡ m = omega (arith, keeping-room) in
-          let d : drop (m - 1) (set kept (m - 1) (getD run k 0)) ≡ getD run k 0 ∷ drop m kept = rw (drop-cons (set kept (m - 1) (getD run k 0)) (m - 1) 0 (rw length-set c), getD-set-same kept (m - 1) (getD run k 0) 0 c, s, drop-set-lt m kept (m - 1) (getD run k 0) (omega (arith, keeping-room))) refl in
+          let d : drop (m - 1) (set kept (m - 1) i) ≡ i ∷ drop m kept = rw (
+            drop-cons (set kept (m - 1) i) (m - 1) 0 (rw length-set c),
+            getD-set-same kept (m - 1) i 0 c,
+            s,
+            drop-set-lt m kept (m - 1) i (omega (arith, keeping-room)),
+          ) refl in
           record {
             within = omega arith;
             room = omega (arith, K .room, keeping-room);
             end = omega (arith, K .end);
             long = simp length-set (K .long);
-            needed-long = p;
+            needed-long = J .long;
             kept-are = rw (from-k, z .0, d, K .kept-are) refl;
-            needed-are = rw (from-k, z .1) (fun-ext (λ v. fun-ext (λ x. rw (K .needed-are, ← same) (sym (f v x)))));
+            needed-are = rw (from-k, z .1) (fun-ext (λ v. fun-ext (λ x. rw (K .needed-are) (sym (J .are v x)))));
           }
 
   pub keeping-end : (needed kept : List ℕ) (m : ℕ) → Keeping t n needed kept 0 m → drop m kept ≡ relaxedPlan t

@@ -1,16 +1,15 @@
--- The paper's number and values for each case of the answers.
+-- What the call for a relaxed plan comes to for a task.
+use mathlib.Core.List.{List}
 use Prim.Native.Nat.{ℕ}
-use Rattle.planning.specs.Basics.{Answer, refused, done}
-use Rattle.bits.specs.declared.Refusal.{Refusal}
-use Rattle.relax.specs.declared.Kept.{Kept}
-use Rattle.relax.specs.declared.Kept.the-variants as kept
-use Rattle.relax.specs.declared.Relaxed.{Relaxed}
-use Rattle.relax.specs.declared.Relaxed.the-variants as relaxed
+use lib.ListN.{length}
+use Rattle.planning.specs.Basics.{Answer}
+use Rattle.planning.specs.Record.{Task}
+use Rattle.planning.specs.Relaxed.{relaxedPlan}
+use Rattle.planning.specs.Calls.{lent}
+use Rattle.forward.specs.Answers.{called}
 
-abbrev pub noPlanOf : Kept → Refusal
-noPlanOf (kept.Steps n) = record { number = 0; place = 0 }
-noPlanOf (kept.NoPlan f) = f
+unfoldable pub relaxOf : Task → ℕ → Answer ℕ
+relaxOf t n = called t (relaxedPlan t) n (length (relaxedPlan t))
 
-abbrev pub relaxedOf : Relaxed → Answer ℕ
-relaxedOf (relaxed.Steps n) = done n
-relaxedOf (relaxed.Refused f) = refused (f .number) (f .place)
+unfoldable pub relaxIn : Task → ℕ → List ℕ
+relaxIn t n = lent (relaxOf t n) n (relaxedPlan t)

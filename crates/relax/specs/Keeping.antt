@@ -1,34 +1,37 @@
 -- The relaxed plan on the way: the run is gone through from its last action, the kept ones stand at the end of a list, and the
 -- needed facts are sets.
 use mathlib.Core.Path.{_≡_}
-use mathlib.Core.Bool.{true, false}
+use mathlib.Core.Bool.{true, false, _||_}
 use mathlib.Core.List.{List}
 use mathlib.Core.Option.{Option, none, some}
 use Prim.Native.Nat.{ℕ, _+_, _*_, _≤_}
 use lib.ListN.{length, getD, take, drop}
-use Rattle.planning.specs.Record.{Task, taskOf, recordCheck}
-use Rattle.planning.specs.Runs.{act, initial, goals}
+use Rattle.planning.specs.Record.{Task}
+use Rattle.planning.specs.Runs.{State, act, initial, goals}
 use Rattle.planning.specs.Relaxed.{forwardRun, reachesGoals, factsReached, firstAchiever, keep, relaxedPlan}
-use Rattle.bits.specs.declared.Refusal.{Refusal}
-use Rattle.table.specs.Table.{Tabled}
-use Rattle.state.specs.Sets.{singles, setsOf}
+use Rattle.answers.specs.declared.Refusal.{Refusal}
+use Rattle.answers.specs.declared.Number.{Number}
+use Rattle.answers.specs.declared.Number.the-variants.{Value, Refused}
+use Rattle.task.specs.Task.{taskIn, Loaded}
+use Rattle.state.specs.Sets.{setsOf}
 use Rattle.forward.specs.Running.{Achieved}
-use Rattle.relax.specs.declared.Kept.{Kept}
-use Rattle.relax.specs.declared.Kept.the-variants.{Steps, NoPlan}
+
+-- the facts f joined the sets
+pub record Joined (f : State) (before after : List ℕ) : Type 0 where
+  pub long : length after ≡ 64
+  pub are : (v d : ℕ) → setsOf after v d ≡ (f v d || setsOf before v d)
 
 -- the first achievers as the list has them; 65,535, for none, is the number of no action
 unfoldable pub byOf : List ℕ → ℕ → ℕ → Option ℕ
 byOf first v d = some (getD first (64 * v + d) 0)
 
 -- the run and its first achievers are at hand
-pub record Replay (bytes table masks first run : List ℕ) (n : ℕ) : Type 0 where
-  pub accepted : recordCheck bytes ≡ none
-  pub tabled : Tabled (taskOf bytes) table
-  pub masks-are : masks ≡ singles
-  pub list : take n run ≡ forwardRun (taskOf bytes)
+pub record Replay (task first run : List ℕ) (n : ℕ) : Type 0 where
+  pub loaded : Loaded task
+  pub list : take n run ≡ forwardRun (taskIn task)
   pub long : length run ≡ 1024
   pub few : n ≤ 1024
-  pub achieved : Achieved (taskOf bytes) (forwardRun (taskOf bytes)) first
+  pub achieved : Achieved (taskIn task) (forwardRun (taskIn task)) first
 
 -- of the run from place k on, the kept actions stand in the list from place m on, and the needed facts in the sets
 pub record Keeping (t : Task) (n : ℕ) (needed kept : List ℕ) (k m : ℕ) : Type 0 where
@@ -57,6 +60,6 @@ pub record Unfound (t : Task) (f : Refusal) : Type 0 where
   pub number′ : f .number ≡ 10
   pub place′ : f .place ≡ factsReached t
 
-abbrev pub KeptOf : Task → List ℕ → Kept → Type 0
-KeptOf t plan (Steps n) = Found t plan n
-KeptOf t plan (NoPlan f) = Unfound t f
+abbrev pub KeptOf : Task → List ℕ → Number → Type 0
+KeptOf t plan (Value n) = Found t plan n
+KeptOf t plan (Refused f) = Unfound t f

@@ -1,11 +1,10 @@
-use lib.Bits.{bitOr}
-use Rattle.state.proofs.Members.{one-shl}
-use Rattle.relax.proofs.Laws.{Adding, adding-turn, adding-end}
-use borrow.Author.Needs.{needs}
 use mathlib.Core.Path.{refl, ap}
 use Prim.Native.Nat.{_/_, _-_, _<_}
 use native.Mathlib.Omega.{arith}
+use lib.Bits.{bitOr}
 use lib.ListN.{getD}
+use borrow.Author.Needs.{needs}
+use Rattle.relax.proofs.Laws.{Adding, adding-turn, adding-end}
 use Rattle.relax.proofs.add_facts.Statement.{statement}
 use Rattle.relax.proofs.add_facts.Tie as tie
 
@@ -16,7 +15,9 @@ abbrev μ-loop : tie.MeasureT-loop
 μ-loop sets₀ facts from to k₀ sets k = to - k
 
 loop-holds : tie.Need-loop-holds Inv-loop μ-loop
-loop-holds c = let p = c .before .pre in record { from = omega arith; to = p .0; long = p .2; so-far = λ v d. refl }
+loop-holds c =
+    let p = c .before .pre in
+    record { from = omega arith; to = p .0; long = p .2; so-far = λ v d. refl }
 
 mul-wide : tie.Need-mul-wide Inv-loop μ-loop
 mul-wide c = omega arith
@@ -25,10 +26,12 @@ shared-slice-read-wide : tie.Need-shared-slice-read-wide Inv-loop μ-loop
 shared-slice-read-wide c = omega arith
 
 wide-requires : tie.Need-wide-requires Inv-loop μ-loop
-wide-requires c κs = tt
+wide-requires c κs = search needs
 
 small : (c : tie.After-wide Inv-loop μ-loop) → c .wide .result < 4096
-small c = let p = c .before .before .before .before .before .pre in omega (arith, c .wide .ensures, p .3 (c .before .before .before .loop .k) (c .before .before .before .loop .inv .from) (omega arith))
+small c =
+    let head = c .before .before .before in
+    omega (arith, c .wide .ensures, head .before .before .pre .3 (head .loop .k) (head .loop .inv .from) (omega arith))
 
 mul-sets : tie.Need-mul-sets Inv-loop μ-loop
 mul-sets c = omega arith
@@ -36,14 +39,14 @@ mul-sets c = omega arith
 element-copy-out-sets : tie.Need-element-copy-out-sets Inv-loop μ-loop
 element-copy-out-sets c = omega (arith, small c)
 
-shl-sets : tie.Need-shl-sets Inv-loop μ-loop
-shl-sets c = omega arith
+single-requires : tie.Need-single-requires Inv-loop μ-loop
+single-requires c κs = search needs
 
 mul-sets-2 : tie.Need-mul-sets-2 Inv-loop μ-loop
 mul-sets-2 c = omega arith
 
 element-write-sets : tie.Need-element-write-sets Inv-loop μ-loop
-element-write-sets c = omega (arith, small (c .before))
+element-write-sets c = omega (arith, small (c .before .before))
 
 add-k : tie.Need-add-k Inv-loop μ-loop
 add-k c = omega arith
@@ -53,15 +56,13 @@ loop-less c = omega arith
 
 loop-again : tie.Need-loop-again Inv-loop μ-loop
 loop-again c =
-    let at-head = c .before .before .before .before in
-    let p = at-head .before .before .pre in
-    adding-turn _ _ _ (p .1) _ _ _ _ _ (at-head .loop .inv) (omega arith) (c .before .wide .ensures) (small (c .before)) (ap (bitOr (getD (at-head .loop .sets) (c .before .wide .result / 64) 0)) (one-shl _ (search needs)))
+    let at-wide = c .before .before in
+    let head = at-wide .before .before .before in
+    let old = getD (head .loop .sets) (at-wide .wide .result / 64) 0 in
+    adding-turn _ _ _ (head .before .before .pre .1) _ _ _ _ _ (head .loop .inv) (omega arith) (at-wide .wide .ensures) (small at-wide) (ap (bitOr old) (c .single .ensures))
 
 returns : tie.Need-returns Inv-loop μ-loop
-returns c =
-    let at-start = c .before .before .before in
-    let p = at-start .pre in
-    (c .before .loop .inv .long, adding-end _ _ _ (p .1) _ _ _ (c .before .loop .inv) (omega arith))
+returns c = adding-end _ _ _ (c .before .before .before .pre .1) _ _ _ (c .before .loop .inv) (omega arith)
 
 pub add-facts-spec : {M : Type 1} → statement M
 add-facts-spec =
@@ -75,7 +76,7 @@ add-facts-spec =
     wide-requires
     mul-sets
     element-copy-out-sets
-    shl-sets
+    single-requires
     mul-sets-2
     element-write-sets
     add-k

@@ -1,111 +1,125 @@
-use mathlib.Core.Bool.{_||_}
-use Rattle.planning.specs.Record.{taskOf}
-use Rattle.planning.specs.Runs.{has}
-use Rattle.planning.specs.Relaxed.{reachedNeeded}
-use Rattle.state.specs.Sets.{setsOf, actionOf}
-use Rattle.relax.specs.Keeping.{byOf, Keeping}
-use Rattle.relax.proofs.Laws.{keeping-start, entry-listed, keeping-no, keeping-room, keeping-yes, keeping-end}
-use mathlib.Core.Path.{_≡_, sym, ap, _∙_}
-use Prim.Native.Nat.{_-_, _<_}
+use mathlib.Core.Path.{_≡_, sym, ap, _∙_, subst}
+use Prim.Native.Nat.{_+_, _-_, _<_}
 use native.Mathlib.Omega.{arith}
 use lib.ListN.{getD}
+use Rattle.planning.specs.Runs.{act}
+use Rattle.planning.specs.Relaxed.{reachedNeeded}
+use Rattle.task.specs.Task.{taskIn}
+use Rattle.state.specs.Sets.{setsOf}
+use borrow.Author.Needs.{needs}
+use Rattle.relax.specs.Keeping.{byOf, Keeping}
+use Rattle.relax.proofs.Laws.{keeping-start, entry-below, keeping-no, keeping-room, keeping-yes, keeping-end}
 use Rattle.relax.proofs.keep_back.Statement.{statement}
 use Rattle.relax.proofs.keep_back.Tie as tie
 
 abbrev Inv-loop : tie.InvT-loop
-Inv-loop bytes table masks first run n needed₀ kept₀ k₀ m₀ needed kept k m = Keeping (taskOf bytes) n needed kept k m
+Inv-loop task first run n needed₀ kept₀ k₀ m₀ needed kept k m = Keeping (taskIn task) n needed kept k m
 
 abbrev μ-loop : tie.MeasureT-loop
-μ-loop bytes table masks first run n needed₀ kept₀ k₀ m₀ needed kept k m = k
+μ-loop task first run n needed₀ kept₀ k₀ m₀ needed kept k m = k
 
-abbrev turn-to-start : tie.In-loop Inv-loop μ-loop → tie.Start Inv-loop μ-loop
-turn-to-start c = c .before .before .before .before
+abbrev start : tie.In-loop Inv-loop μ-loop → tie.Start Inv-loop μ-loop
+start c = c .before .before .before
 
-abbrev reached-needed-to-start : tie.After-reached-needed Inv-loop μ-loop → tie.Start Inv-loop μ-loop
-reached-needed-to-start c = c .before .before .before .before .before .before .before .before
+abbrev wide-to-turn : tie.After-wide Inv-loop μ-loop → tie.In-loop Inv-loop μ-loop
+wide-to-turn c = c .before .before .before
 
-abbrev reached-needed-to-head : tie.After-reached-needed Inv-loop μ-loop → tie.At-loop Inv-loop μ-loop
-reached-needed-to-head c = c .before .before .before .before .before
+abbrev reached-to-turn : tie.After-reached-needed Inv-loop μ-loop → tie.In-loop Inv-loop μ-loop
+reached-to-turn c = wide-to-turn (c .before)
 
-abbrev then1-to-head : tie.Then1 Inv-loop μ-loop → tie.At-loop Inv-loop μ-loop
-then1-to-head c = c .before .before .before .before .before .before
+abbrev then1-to-turn : tie.Then1 Inv-loop μ-loop → tie.In-loop Inv-loop μ-loop
+then1-to-turn c = reached-to-turn (c .before)
+
+abbrev wide2-to-then1 : tie.After-wide2 Inv-loop μ-loop → tie.Then1 Inv-loop μ-loop
+wide2-to-then1 c = c .before .before
+
+-- the entry that a turn looks at, and what is kept behind it
+within : (c : tie.In-loop Inv-loop μ-loop) → c .before .loop .k - 1 < start c .args .n
+within c = omega (arith, c .before .loop .inv .within)
+
+behind : (c : tie.In-loop Inv-loop μ-loop) → let h = c .before .loop in Keeping (taskIn (start c .args .task .now)) (start c .args .n) (h .needed) (h .kept) (h .k - 1 + 1) (h .m)
+behind c =
+    let h = c .before .loop in
+    subst (λ x. Keeping (taskIn (start c .args .task .now)) (start c .args .n) (h .needed) (h .kept) x (h .m)) (omega arith) (h .inv)
 
 loop-holds : tie.Need-loop-holds Inv-loop μ-loop
-loop-holds c = let p = c .before .before .pre in keeping-start _ _ _ _ _ _ (p .0) _ _ (p .1) (p .2) (p .3)
+loop-holds c =
+    let p = c .before .pre in
+    keeping-start (p .0) _ _ (p .1) (p .2) (p .3)
 
 sub-k : tie.Need-sub-k Inv-loop μ-loop
 sub-k c = omega arith
 
 mul-i : tie.Need-mul-i Inv-loop μ-loop
-mul-i c = let at-start = turn-to-start c in record { fits = omega (arith, at-start .pre .0 .few, c .before .loop .inv .within) }
+mul-i c = record { fits = omega (arith, start c .pre .0 .few, c .before .loop .inv .within) }
 
 element-copy-out-i : tie.Need-element-copy-out-i Inv-loop μ-loop
-element-copy-out-i c = let at-start = turn-to-start c in omega (arith, at-start .pre .0 .few, c .before .loop .inv .within)
+element-copy-out-i c = omega (arith, start c .pre .0 .few, c .before .loop .inv .within)
 
 wide-requires : tie.Need-wide-requires Inv-loop μ-loop
-wide-requires c κs = tt
+wide-requires c κs = search needs
 
 reached-needed-requires : tie.Need-reached-needed-requires Inv-loop μ-loop
 reached-needed-requires c κs =
-    let at-head = c .before .before .before .before in
-    let at-start = at-head .before .before .before in
-    let p = at-start .pre in
-    (rw (c .wide .ensures) (entry-listed _ _ _ _ _ _ (p .0) (at-head .loop .k - 1) (omega (arith, at-head .loop .inv .within))), p .0 .masks-are)
+    let turn = wide-to-turn c in
+    let R = start turn .pre .0 in
+    (R .loaded, rw (c .wide .ensures) (entry-below R (turn .before .loop .k - 1) (within turn)))
 
-answer-is : (c : tie.After-reached-needed Inv-loop μ-loop) → let a = (reached-needed-to-start c) .args in c .reached-needed .result ≡ reachedNeeded (byOf (a .first .now)) (setsOf (reached-needed-to-head c .loop .needed)) (getD (a .run .now) (reached-needed-to-head c .loop .k - 1) 0) (actionOf (a .table .now) (getD (a .run .now) (reached-needed-to-head c .loop .k - 1) 0) .eff)
-answer-is c = let a = (reached-needed-to-start c) .args in c .reached-needed .ensures ∙ ap (λ x. reachedNeeded (byOf (a .first .now)) (setsOf (reached-needed-to-head c .loop .needed)) x (actionOf (a .table .now) x .eff)) (c .before .wide .ensures)
+answer-is : (c : tie.After-reached-needed Inv-loop μ-loop) → let turn = reached-to-turn c in let a = start turn .args in let i = getD (a .run .now) (turn .before .loop .k - 1) 0 in
+    c .reached-needed .result ≡ reachedNeeded (byOf (a .first .now)) (setsOf (turn .before .loop .needed)) i (act (taskIn (a .task .now)) i .eff)
+answer-is c =
+    let turn = reached-to-turn c in
+    let a = start turn .args in
+    c .reached-needed .ensures ∙ ap (λ x. reachedNeeded (byOf (a .first .now)) (setsOf (turn .before .loop .needed)) x (act (taskIn (a .task .now)) x .eff)) (c .before .wide .ensures)
 
-room : (c : tie.Then1 Inv-loop μ-loop) → 0 < (then1-to-head c) .loop .m
-room c = keeping-room _ _ _ _ _ _ (c .before .before .before .before .before .before .before .before .before .pre .0) (then1-to-head c .loop .k - 1) (omega (arith, (then1-to-head c) .loop .inv .within)) _ _ _ _ (omega arith) (then1-to-head c .loop .inv)
+room : (c : tie.Then1 Inv-loop μ-loop) → 0 < then1-to-turn c .before .loop .m
+room c =
+    let turn = then1-to-turn c in
+    keeping-room (start turn .pre .0) (turn .before .loop .k - 1) (within turn) (behind turn)
 
 sub-m : tie.Need-sub-m Inv-loop μ-loop
 sub-m c = room c
 
 mul-kept : tie.Need-mul-kept Inv-loop μ-loop
-mul-kept c = let at-head = then1-to-head c in record { fits = omega (arith, at-head .loop .inv .end) }
+mul-kept c = record { fits = omega (arith, then1-to-turn c .before .loop .inv .end) }
 
 element-write-kept : tie.Need-element-write-kept Inv-loop μ-loop
-element-write-kept c = let at-head = then1-to-head c in omega (arith, room c, at-head .loop .inv .end)
+element-write-kept c = omega (arith, room c, then1-to-turn c .before .loop .inv .end)
 
 wide-requires-2 : tie.Need-wide-requires-2 Inv-loop μ-loop
-wide-requires-2 c κs = tt
+wide-requires-2 c κs = search needs
 
 add-preconditions-requires : tie.Need-add-preconditions-requires Inv-loop μ-loop
 add-preconditions-requires c κs =
-    let at-head = c .before .before .before .before .before .before .before .before in
-    let at-start = at-head .before .before .before in
-    let p = at-start .pre in
-    (rw (c .wide2 .ensures) (entry-listed _ _ _ _ _ _ (p .0) (at-head .loop .k - 1) (omega (arith, at-head .loop .inv .within))), at-head .loop .inv .needed-long)
+    let turn = then1-to-turn (wide2-to-then1 c) in
+    let R = start turn .pre .0 in
+    (R .loaded, rw (c .wide2 .ensures) (entry-below R (turn .before .loop .k - 1) (within turn)), turn .before .loop .inv .needed-long)
 
 loop-less : tie.Need-loop-less Inv-loop μ-loop
 loop-less c = omega arith
 
 loop-again : tie.Need-loop-again Inv-loop μ-loop
 loop-again c =
-    let a = c .before .before .before .before .before .before .before .before .before .before .before .before .args in keeping-yes _ _ _ _ _ _
-    (c .before .before .before .before .before .before .before .before .before .before .before .before .pre .0)
-    (c .before .before .before .before .before .before .before .before .before .loop .k - 1)
-    (omega (arith, c .before .before .before .before .before .before .before .before .before .loop .inv .within)) _ _ _ _ (omega arith)
-    (c .before .before .before .before .before .before .before .before .before .loop .inv)
-    (sym (c .before .before .before .if1 .taken) ∙ answer-is (c .before .before .before .before)) _ (c .add-preconditions .ensures .0)
-    (λ v d. c .add-preconditions .ensures .1 v d ∙ ap (λ x. has (actionOf (a .table .now) x .pre) v d || setsOf
-    (c .before .before .before .before .before .before .before .before .before .loop .needed) v d) (c .before .wide2 .ensures))
+    let at-wide2 = c .before in
+    let at-then1 = wide2-to-then1 at-wide2 in
+    let turn = then1-to-turn at-then1 in
+    keeping-yes (start turn .pre .0) (turn .before .loop .k - 1) (within turn) (behind turn) (sym (at-then1 .if1 .taken) ∙ answer-is (at-then1 .before)) _
+    (rw (at-wide2 .wide2 .ensures) at (c .add-preconditions .ensures))
 
 loop-less-2 : tie.Need-loop-less-2 Inv-loop μ-loop
 loop-less-2 c = omega arith
 
 loop-again-2 : tie.Need-loop-again-2 Inv-loop μ-loop
 loop-again-2 c =
-    let at-head = c .before .before .before .before .before .before in
-    let at-start = at-head .before .before .before in
-    keeping-no _ _ _ _ _ _ (at-start .pre .0) (at-head .loop .k - 1) (omega (arith, at-head .loop .inv .within)) _ _ _ _ (omega arith) (at-head .loop .inv) (sym (c .if1 .left) ∙ answer-is (c .before))
+    let turn = reached-to-turn (c .before) in
+    keeping-no (start turn .pre .0) (turn .before .loop .k - 1) (within turn) (behind turn) (sym (c .if1 .left) ∙ answer-is (c .before))
 
 returns : tie.Need-returns Inv-loop μ-loop
 returns c =
-    let at-start = c .before .before .before .before in
-    let I = c .before .loop .inv in
-    let e : c .before .loop .k ≡ 0 = omega arith in
-    (I .end, I .long, keeping-end _ _ _ _ _ _ (at-start .pre .0) _ _ _ (rw e at I))
+    let head = c .before in
+    let I = head .loop .inv in
+    let e : head .loop .k ≡ 0 = omega arith in
+    (I .end, I .long, keeping-end (head .before .before .pre .0) _ _ _ (rw e at I))
 
 pub keep-back-spec : {M : Type 1} → statement M
 keep-back-spec =

@@ -1,107 +1,103 @@
+use mathlib.Core.Path.{_≡_, refl, sym, ap, _∙_}
+use Prim.Native.Nat.{_-_, _≤_}
+use native.Mathlib.Omega.{arith}
+use borrow.Author.Needs.{needs}
+use Rattle.planning.specs.Record.{Action}
+use Rattle.planning.specs.Runs.{act}
 use Rattle.planning.specs.Relaxed.{reachedNeeded}
-use Rattle.table.specs.Table.{factsIn, effAt, endAt}
-use Rattle.state.specs.Sets.{setsOf, actionOf}
+use Rattle.task.specs.Task.{factsIn, effAt, endAt, actionIn, taskIn}
+use Rattle.state.specs.Sets.{setsOf}
+use Rattle.state.proofs.Listed.{Listed}
+use Rattle.state.proofs.Listing.{loaded-listed}
 use Rattle.relax.specs.Keeping.{byOf}
 use Rattle.relax.proofs.Laws.{reachedNeeded-hit, reachedNeeded-miss, reachedNeeded-end}
-use borrow.Author.Needs.{needs}
-use mathlib.Core.Path.{_≡_, refl, sym, _∙_}
-use Prim.Native.Nat.{_-_, _≤_, _<_}
-use native.Mathlib.Omega.{arith}
 use Rattle.relax.proofs.reached_needed.Statement.{statement}
 use Rattle.relax.proofs.reached_needed.Tie as tie
 
 abbrev Inv-loop : tie.InvT-loop
-Inv-loop masks needed first table i to k₀ k = (to ≡ endAt table i) × (effAt table i ≤ k) × (k ≤ to) × (reachedNeeded (byOf first) (setsOf needed) i (factsIn table (effAt table i) (endAt table i)) ≡ reachedNeeded (byOf first) (setsOf needed) i (factsIn table k (endAt table i)))
+Inv-loop needed first task i to k₀ k =
+    (to ≡ endAt task i) × (effAt task i ≤ k) × (k ≤ to)
+    × (reachedNeeded (byOf first) (setsOf needed) i (factsIn task (effAt task i) (endAt task i)) ≡ reachedNeeded (byOf first) (setsOf needed) i (factsIn task k (endAt task i)))
 
 abbrev μ-loop : tie.MeasureT-loop
-μ-loop masks needed first table i to k₀ k = to - k
+μ-loop needed first task i to k₀ k = to - k
 
-mul-wide : tie.Need-mul-wide Inv-loop μ-loop
-mul-wide c = omega arith
+abbrev start : tie.At-loop Inv-loop μ-loop → tie.Start Inv-loop μ-loop
+start c = c .before .before .before .before
 
-add-wide : tie.Need-add-wide Inv-loop μ-loop
-add-wide c = omega arith
+listed : (c : tie.At-loop Inv-loop μ-loop) → Listed (start c .args .task .now) (start c .args .i)
+listed c = loaded-listed _ (start c .pre .0) _ (start c .pre .1)
 
-mul-wide-2 : tie.Need-mul-wide-2 Inv-loop μ-loop
-mul-wide-2 c = omega arith
+-- the test over the facts by their places is the one over the effects
+whole : (c : tie.At-loop Inv-loop μ-loop) → let a = start c .args in
+    reachedNeeded (byOf (a .first .now)) (setsOf (a .needed .now)) (a .i) (factsIn (a .task .now) (effAt (a .task .now) (a .i)) (endAt (a .task .now) (a .i)))
+    ≡ reachedNeeded (byOf (a .first .now)) (setsOf (a .needed .now)) (a .i) (act (taskIn (a .task .now)) (a .i) .eff)
+unfolding actionIn
+whole c =
+    let a = start c .args in
+    ap (λ (x : Action). reachedNeeded (byOf (a .first .now)) (setsOf (a .needed .now)) (a .i) (x .eff)) (listed c .states)
 
-shared-slice-read-wide : tie.Need-shared-slice-read-wide Inv-loop μ-loop
-shared-slice-read-wide c = omega arith
+eff-end-requires : tie.Need-eff-end-requires Inv-loop μ-loop
+eff-end-requires c κs = search needs
 
-wide-requires : tie.Need-wide-requires Inv-loop μ-loop
-wide-requires c κs = tt
-
-mul-wide-3 : tie.Need-mul-wide-3 Inv-loop μ-loop
-mul-wide-3 c = omega arith
-
-add-wide-2 : tie.Need-add-wide-2 Inv-loop μ-loop
-add-wide-2 c = omega arith
-
-mul-wide-4 : tie.Need-mul-wide-4 Inv-loop μ-loop
-mul-wide-4 c = omega arith
-
-shared-slice-read-wide-2 : tie.Need-shared-slice-read-wide-2 Inv-loop μ-loop
-shared-slice-read-wide-2 c = omega arith
-
-wide-requires-2 : tie.Need-wide-requires-2 Inv-loop μ-loop
-wide-requires-2 c κs = tt
+eff-start-requires : tie.Need-eff-start-requires Inv-loop μ-loop
+eff-start-requires c κs = search needs
 
 loop-holds : tie.Need-loop-holds Inv-loop μ-loop
 loop-holds c =
-    let at-start = c .before .before .before .before .before in
-    let at-start = at-start in
-    let L = at-start .pre .0 in
-    (c .before .before .wide .ensures, omega (arith, c .wide2 .ensures), omega (arith, c .wide2 .ensures, c .before .before .wide .ensures, L .eff-below), rw (c .wide2 .ensures) refl)
+    let p = c .before .before .before .pre in
+    let L = loaded-listed _ (p .0) _ (p .1) in
+    let to = c .before .eff-end .ensures in
+    let from = c .eff-start .ensures in
+    (to, omega (arith, from), omega (arith, from, to, L .eff-below), rw from refl)
 
-mul-wide-5 : tie.Need-mul-wide-5 Inv-loop μ-loop
-mul-wide-5 c = omega arith
+mul-wide : tie.Need-mul-wide Inv-loop μ-loop
+mul-wide c = record { fits = omega (arith, listed (c .before) .end-below, c .before .loop .inv .0) }
 
-shared-slice-read-wide-3 : tie.Need-shared-slice-read-wide-3 Inv-loop μ-loop
-shared-slice-read-wide-3 c = omega arith
+shared-slice-read-wide : tie.Need-shared-slice-read-wide Inv-loop μ-loop
+shared-slice-read-wide c = omega (arith, listed (c .before .before) .end-below, c .before .before .loop .inv .0)
 
-wide-requires-3 : tie.Need-wide-requires-3 Inv-loop μ-loop
-wide-requires-3 c κs = tt
-
-small : (c : tie.After-wide3 Inv-loop μ-loop) → c .wide3 .result < 4096
-small c =
-    let L = c .before .before .before .before .before .before .before .before .before .pre .0 in
-    let I = c .before .before .before .loop .inv in
-    omega (arith, c .wide3 .ensures, L .small (c .before .before .before .loop .k) (omega (arith, L .pre-below, I .1)) (omega (arith, I .0)))
+wide-requires : tie.Need-wide-requires Inv-loop μ-loop
+wide-requires c κs = search needs
 
 first-needed-requires : tie.Need-first-needed-requires Inv-loop μ-loop
-first-needed-requires c κs = (small c, search needs)
+first-needed-requires c κs =
+    let head = c .before .before .before in
+    let L = listed head in
+    let I = head .loop .inv in
+    omega (arith, c .wide .ensures, L .small (head .loop .k) (omega (arith, L .pre-below, I .1)) (omega (arith, I .0)))
 
 returns : tie.Need-returns Inv-loop μ-loop
-unfolding actionOf
 returns c =
-    let at-head = c .before .before .before .before .before in
-    let at-start = at-head .before .before .before .before .before .before in
-    let a = at-start .args in
-    let I = at-head .loop .inv in
-    (reachedNeeded-hit (byOf (a .first .now)) (setsOf (a .needed .now)) (a .i) (a .table .now) _ _ (omega (arith, I .0)) (at-start .pre .0 .end-below) _ (c .before .before .wide3 .ensures) (sym (c .if1 .taken) ∙ c .before .first-needed .ensures) ∙ sym (I .3))
+    let at-wide = c .before .before in
+    let head = at-wide .before .before .before in
+    let a = start head .args in
+    let I = head .loop .inv in
+    reachedNeeded-hit (byOf (a .first .now)) (setsOf (a .needed .now)) (a .i) (a .task .now) _ _ (omega (arith, I .0)) (listed head .end-below) _ (at-wide .wide .ensures)
+    (sym (c .if1 .taken) ∙ c .before .first-needed .ensures) ∙ sym (I .3) ∙ whole head
 
 add-k : tie.Need-add-k Inv-loop μ-loop
-add-k c = omega arith
+add-k c = search needs
 
 loop-less : tie.Need-loop-less Inv-loop μ-loop
 loop-less c = omega arith
 
 loop-again : tie.Need-loop-again Inv-loop μ-loop
 loop-again c =
-    let at-head = c .before .before .before .before .before in
-    let at-head = at-head in
-    let at-start = at-head .before .before .before .before .before .before in
-    let a = at-start .args in
-    let I = at-head .loop .inv in
-    (I .0, omega (arith, I .1), omega arith, I .3 ∙ reachedNeeded-miss (byOf (a .first .now)) (setsOf (a .needed .now)) (a .i) (a .table .now) _ _ (omega (arith, I .0)) (at-start .pre .0 .end-below) _ (c .before .before .wide3 .ensures) (sym (c .if1 .left) ∙ c .before .first-needed .ensures))
+    let at-wide = c .before .before in
+    let head = at-wide .before .before .before in
+    let a = start head .args in
+    let I = head .loop .inv in
+    let step = reachedNeeded-miss (byOf (a .first .now)) (setsOf (a .needed .now)) (a .i) (a .task .now) _ _ (omega (arith, I .0)) (listed head .end-below) _ (at-wide .wide .ensures)
+        (sym (c .if1 .left) ∙ c .before .first-needed .ensures) in
+    (I .0, omega (arith, I .1), omega arith, I .3 ∙ step)
 
 returns-2 : tie.Need-returns-2 Inv-loop μ-loop
-unfolding actionOf
 returns-2 c =
-    let at-start = c .before .before .before .before .before .before .before in
-    let a = at-start .args in
-    let I = c .before .loop .inv in
-    reachedNeeded-end (byOf (a .first .now)) (setsOf (a .needed .now)) (a .i) (a .table .now) _ _ (omega (arith, I .0, I .2)) ∙ sym (I .3)
+    let head = c .before in
+    let a = start head .args in
+    let I = head .loop .inv in
+    reachedNeeded-end (byOf (a .first .now)) (setsOf (a .needed .now)) (a .i) (a .task .now) _ _ (omega (arith, I .0, I .2)) ∙ sym (I .3) ∙ whole head
 
 pub reached-needed-spec : {M : Type 1} → statement M
 reached-needed-spec =
@@ -109,20 +105,12 @@ reached-needed-spec =
     (tie.spec
     Inv-loop
     μ-loop
+    eff-end-requires
+    eff-start-requires
+    loop-holds
     mul-wide
-    add-wide
-    mul-wide-2
     shared-slice-read-wide
     wide-requires
-    mul-wide-3
-    add-wide-2
-    mul-wide-4
-    shared-slice-read-wide-2
-    wide-requires-2
-    loop-holds
-    mul-wide-5
-    shared-slice-read-wide-3
-    wide-requires-3
     first-needed-requires
     returns
     add-k

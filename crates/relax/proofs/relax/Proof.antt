@@ -1,6 +1,6 @@
 use mathlib.Core.Path.{sym, ap, _∙_}
 use lib.ListN.{length}
-use Rattle.record.specs.Stages.{checkedOf}
+use Rattle.answers.specs.Answers.{checkOf}
 use Rattle.relax.proofs.Answers.{relax-refused}
 use borrow.Author.Needs.{needs}
 use Rattle.relax.proofs.relax.Statement.{statement}
@@ -18,7 +18,7 @@ enum-told c = search needs
 relax-accepted-requires : tie.Need-relax-accepted-requires
 relax-accepted-requires c κs =
     let at-check = c .before .before .before in
-    sym (at-check .check .ensures) ∙ ap checkedOf (c .before .enum-told .given .1)
+    sym (at-check .check .ensures) ∙ ap checkOf (c .before .enum-told .given .1)
 
 same-length : tie.Need-same-length
 same-length c = search needs
@@ -37,7 +37,7 @@ returns-2 c =
     let at-c = c .before .before .before .before .before in
     let at-start = at-c .before .before .before .before .before in
     let a = at-start .args in
-    let z = relax-refused (a .bytes .now) (length (a .plan .now)) _ _ (ap checkedOf (sym (at-c .c .given .1)) ∙ at-c .before .before .check .ensures) in
+    let z = relax-refused (a .bytes .now) (length (a .plan .now)) _ _ (ap checkOf (sym (at-c .c .given .1)) ∙ at-c .before .before .check .ensures) in
     (z .0, c .before .before .blank .ensures ∙ z .1)
 
 pub relax-spec : {M : Type 1} → statement M

@@ -1,129 +1,91 @@
-use Prim.Native.Nat.{_≤_}
-use mathlib.Core.Path.{sym, refl, ap, _∙_, subst}
-use native.Mathlib.Omega.{arith}
+use mathlib.Core.Path.{refl, _∙_}
+use mathlib.Core.Bool.{true, false}
 use lib.ListN.{length}
-use lib.Seq.{length-take-le}
-use Rattle.planning.specs.Record.{taskOf}
-use Rattle.forward.specs.Answers.{laidOf}
-use Rattle.forward.proofs.Answers.{table-room}
-use Rattle.relax.specs.Keeping.{Found, KeptOf}
-use Rattle.relax.specs.Answers.{noPlanOf}
-use Rattle.relax.proofs.Answers.{relax-unsolved, relax-whole, relax-short, relax-list}
+use Rattle.task.proofs.Size.{room-enough}
+use Rattle.relax.proofs.Answers.{relax-accepts}
+use borrow.Author.Needs.{needs}
 use Rattle.relax.proofs.relax_accepted.Statement.{statement}
 use Rattle.relax.proofs.relax_accepted.Tie as tie
 
-abbrev known-told-to-start : tie.After-known-told → tie.Start
-known-told-to-start c = c .before .before .before .before .before .before .before .before .before .before .before
+abbrev load-to-start : tie.After-load → tie.Start
+load-to-start c = c .before .before .before .before .before .before
+
+abbrev load2-to-start : tie.After-load2 → tie.Start
+load2-to-start c = c .before .before .before .before .before .before
+
+is-short-requires : tie.Need-is-short-requires
+is-short-requires c κs = search needs
 
 slice-aggregate-load : tie.Need-slice-aggregate-load
-slice-aggregate-load c = refl
+slice-aggregate-load c = search needs
 
 load-requires : tie.Need-load-requires
-load-requires c κs = let at-start = c .before .before .before in let p = at-start .pre in (p, table-room _ _ p refl)
+load-requires c κs =
+    let at-is-short = c .before .before in
+    let p = at-is-short .before .before .before .pre in
+    (p, room-enough _ _ (at-is-short .is-short .result) true (at-is-short .is-short .ensures) (c .before .if1 .taken) refl)
 
-slice-aggregate-relaxed-plan : tie.Need-slice-aggregate-relaxed-plan
-slice-aggregate-relaxed-plan c = omega arith
+slice-aggregate-relax-loaded : tie.Need-slice-aggregate-relax-loaded
+slice-aggregate-relax-loaded c = search needs
 
-relaxed-plan-requires : tie.Need-relaxed-plan-requires
-relaxed-plan-requires c κs =
-    let at-load = c .before .before .before in
-    let at-start = at-load .before .before .before .before in
-    (at-start .pre, at-load .load .ensures .0, refl)
-
-enum-known-k : tie.Need-enum-known-k
-enum-known-k c = omega arith
-
-enum-told : tie.Need-enum-told
-enum-told c = omega arith
-
-blank-requires : tie.Need-blank-requires
-blank-requires c κs = tt
-
-refusal-of-requires : tie.Need-refusal-of-requires
-refusal-of-requires c κs = tt
+relax-loaded-requires : tie.Need-relax-loaded-requires
+relax-loaded-requires c κs = search needs
 
 same-length : tie.Need-same-length
-same-length c = omega arith
+same-length c = search needs
 
 returns : tie.Need-returns
 returns c =
-    let at-blank = c .before .before .before in
-    let at-relaxed-plan = at-blank .before .before .before .before in
-    let at-start = at-relaxed-plan .before .before .before .before .before .before .before .before in
+    let at-done = c .before .before in
+    let at-load = at-done .before .before .before .before in
+    let at-start = load-to-start at-load in
     let a = at-start .args in
-    let e = c .refusal-of .ensures ∙ ap noPlanOf (at-blank .before .before .enum-told .given .1) in
-    let U = subst (KeptOf (taskOf (a .bytes .now)) _) (at-blank .before .before .enum-told .given .1) (at-relaxed-plan .relaxed-plan .ensures) in
-    let z = relax-unsolved (a .bytes .now) (length (a .plan .now)) (at-start .pre) (U .unsolved) _ _ (ap (λ r. r .number) e ∙ U .number′) (ap (λ r. r .place) e ∙ U .place′) in
-    (z .0, at-blank .blank .ensures ∙ z .1)
+    let d = at-done .relax-loaded .ensures in
+    let z = relax-accepts (a .bytes .now) (length (a .plan .now)) (at-start .pre) _ (at-load .load .ensures .1) in
+    (d .0 ∙ z .0, d .1 ∙ z .1)
 
-cast-count : tie.Need-cast-count
-cast-count c = omega arith
+slice-aggregate-load-2 : tie.Need-slice-aggregate-load-2
+slice-aggregate-load-2 c = search needs
 
-kept : (c : tie.After-known-told) → Found (taskOf (known-told-to-start c .args .bytes .now)) (c .before .before .before .relaxed-plan .last .1 .1 .0) (c .before .k .given .0 .0)
-kept c = subst (KeptOf (taskOf (known-told-to-start c .args .bytes .now)) (c .before .before .before .relaxed-plan .last .1 .1 .0)) (c .before .k .given .1) (c .before .before .before .relaxed-plan .ensures)
+load-requires-2 : tie.Need-load-requires-2
+load-requires-2 c κs =
+    let at-is-short = c .before .before in
+    let p = at-is-short .before .before .before .pre in
+    (p, room-enough _ _ (at-is-short .is-short .result) false (at-is-short .is-short .ensures) (c .before .if1 .left) refl)
 
-array-share-prefix-found : tie.Need-array-share-prefix-found
-array-share-prefix-found c = let F = kept c .front in subst (λ x. c .before .k .given .0 .0 ≤ x) (sym (F .long)) (F .few)
+slice-aggregate-relax-loaded-2 : tie.Need-slice-aggregate-relax-loaded-2
+slice-aggregate-relax-loaded-2 c = search needs
 
-slice-aggregate-lay : tie.Need-slice-aggregate-lay
-slice-aggregate-lay c = let F = kept (c .before) .front in sym (length-take-le _ _ (omega (arith, F .few, F .long)))
-
-lay-requires : tie.Need-lay-requires
-lay-requires c κs = tt
-
-enum-known-laid : tie.Need-enum-known-laid
-enum-known-laid c = omega arith
-
-enum-told-2 : tie.Need-enum-told-2
-enum-told-2 c = omega arith
+relax-loaded-requires-2 : tie.Need-relax-loaded-requires-2
+relax-loaded-requires-2 c κs = search needs
 
 same-length-2 : tie.Need-same-length-2
-same-length-2 c = omega arith
+same-length-2 c = search needs
 
 returns-2 : tie.Need-returns-2
 returns-2 c =
-    let at-lay = c .before .before .before .before in
-    let at-known-told = at-lay .before .before .before in
-    let at-start = known-told-to-start at-known-told in
+    let at-done = c .before .before in
+    let at-load = at-done .before .before .before .before in
+    let at-start = load2-to-start at-load in
     let a = at-start .args in
-    let F = kept at-known-told in
-    let z = at-lay .lay .ensures in
-    (relax-whole (a .bytes .now) (length (a .plan .now)) (at-start .pre) (F .solved) _ (F .front .list) _ (F .front .steps) (ap laidOf (sym (c .enum-told2 .given .1)) ∙ z .0), z .1 ∙ relax-list (a .bytes .now) (length (a .plan .now)) (at-start .pre) (F .solved) _ (F .front .list))
-
-same-length-3 : tie.Need-same-length-3
-same-length-3 c = omega arith
-
-returns-3 : tie.Need-returns-3
-returns-3 c =
-    let at-lay = c .before .before .before .before .before in
-    let at-known-told = at-lay .before .before .before in
-    let at-start = known-told-to-start at-known-told in
-    let a = at-start .args in
-    let F = kept at-known-told in
-    let z = at-lay .lay .ensures in
-    (relax-short (a .bytes .now) (length (a .plan .now)) (at-start .pre) (F .solved) _ (F .front .list) _ _ (ap laidOf (sym (c .before .laid .given .1)) ∙ z .0), z .1 ∙ relax-list (a .bytes .now) (length (a .plan .now)) (at-start .pre) (F .solved) _ (F .front .list))
+    let d = at-done .relax-loaded2 .ensures in
+    let z = relax-accepts (a .bytes .now) (length (a .plan .now)) (at-start .pre) _ (at-load .load2 .ensures .1) in
+    (d .0 ∙ z .0, d .1 ∙ z .1)
 
 pub relax-accepted-spec : {M : Type 1} → statement M
 relax-accepted-spec =
     tie.close
     (tie.spec
+    is-short-requires
     slice-aggregate-load
     load-requires
-    slice-aggregate-relaxed-plan
-    relaxed-plan-requires
-    enum-known-k
-    enum-told
-    blank-requires
-    refusal-of-requires
+    slice-aggregate-relax-loaded
+    relax-loaded-requires
     same-length
     returns
-    cast-count
-    array-share-prefix-found
-    slice-aggregate-lay
-    lay-requires
-    enum-known-laid
-    enum-told-2
+    slice-aggregate-load-2
+    load-requires-2
+    slice-aggregate-relax-loaded-2
+    relax-loaded-requires-2
     same-length-2
-    returns-2
-    same-length-3
-    returns-3)
+    returns-2)
