@@ -2,7 +2,7 @@
 use mathlib.Core.Path.{_≡_, refl, sym, ap, _∙_, fun-ext, subst}
 use mathlib.Core.Bool.{Bool, true, false, not, _&&_, _||_, or-false, or-assoc, and-false}
 use mathlib.Core.List.{List, [], _∷_, _++_}
-use Prim.Native.Nat.{ℕ, zero, suc, _+_, _-_, _*_, _/_, _%_, _^_, _<_, _≤_}
+use Prim.Native.Nat.{ℕ, zero, suc, _+_, _-_, _/_, _^_, _<_, _≤_}
 use native.Mathlib.Numerals.{add-one}
 use native.Mathlib.Omega.{arith}
 use native.Mathlib.Decide.{ℕ-discrete}
@@ -16,7 +16,7 @@ use Rattle.planning.specs.Record.{Fact, Action, Task}
 use Rattle.planning.specs.Runs.{touches, actions, act, black}
 use Rattle.planning.specs.Painting.{causalArc, blackArc}
 use Rattle.planning.proofs.Tests.{and-l, and-r, and-i}
-use Rattle.task.specs.Task.{factOf, factsIn, preAt, effAt, endAt, actionIn, taskIn, Loaded}
+use Rattle.task.specs.Task.{factOf, factsIn, preAt, effAt, endAt, actionIn, taskIn}
 use Rattle.state.specs.Sets.{inSet, setsOf, modeOf}
 use Rattle.state.proofs.Members.{inSet-single, inSet-empty, inSet-or, inSet-and}
 use Rattle.state.proofs.Effects.{factsIn-cons, factsIn-none}

@@ -1,6 +1,5 @@
 -- The arcs of one action: from the value that it needs or from every value, and what is left marked for the next action.
-use mathlib.Core.Path.{_≡_, refl, sym, ap, _∙_, subst}
-use mathlib.Core.Logic.{_⊎_, inl, inr}
+use mathlib.Core.Path.{_≡_, refl, sym, ap, _∙_}
 use mathlib.Core.Bool.{Bool, true, false, not, _&&_, _||_}
 use mathlib.Core.List.{List, _++_}
 use mathlib.Core.Option.{Option, none, some}
@@ -9,21 +8,21 @@ use native.Mathlib.Omega.{arith}
 use native.Mathlib.Decide.{ℕ-discrete}
 use lib.Dec.{T, eqb}
 use Rattle.planning.specs.Basics.{Refusal, Check, someBelow, first, refuseAt, andThen}
-use Rattle.planning.specs.Record.{Fact, Task}
+use Rattle.planning.specs.Record.{Task}
 use Rattle.planning.specs.Runs.{State, has, look, variables, actions, act, black, count}
 use Rattle.planning.specs.Painting.{blackArc, onCycle, cyclic, lacksReturn, unreturned, acyclicCheck, returnCheck}
 use Rattle.planning.proofs.Below.{First?, first-is}
 use Rattle.planning.proofs.Formed.{Formed}
 use Rattle.task.specs.Task.{taskIn}
 use Rattle.planning.specs.Repair.{order}
-use Rattle.task.specs.Links.{Chained, Prepared, Relinked}
+use Rattle.task.specs.Links.{Chained, Relinked}
 use Rattle.task.proofs.Relinking.{relinked-task, relinked-none, relinked-trans}
 use Rattle.answers.specs.declared.Checked.{Checked}
 use Rattle.answers.specs.Answers.{checkOf}
 use Rattle.state.specs.Sets.{setsOf, Asked}
 use Rattle.graph.specs.Graph.{Ordered}
 use Rattle.graph.proofs.Searches.{some-found, some-lacks, Searched, searched-start, searched-turn, searched-hit, searched-end}
-use Rattle.painting.specs.Chains.{moveOf, Acyclic, Linked}
+use Rattle.painting.specs.Chains.{Acyclic, Linked}
 use Rattle.painting.specs.Returns.{markAll, marked, Unmarked, returned, unreturnedFrom, arcsBy, lacksBy, lacks, Lacking}
 use Rattle.painting.specs.Answers.{Readied}
 use Rattle.painting.proofs.Chains.{Move, NoMove, acyclic-relinked, ordered-chained, ordered-relinked}

@@ -101,7 +101,9 @@ module _ (i f : ℕ) (l : f < 4096) where
       hit x false z e = e
 
       go : Dec (p ≡ q) → (placed f gs p || eqb (getD (set marks q i) p 0) i) ≡ ((eqb p q || placed f gs p) || eqb (getD marks p 0) i)
-      go (yes e) = rw (e, getD-set-same marks q i 0 (omega (arith, n, place-small f (64 * g .var + g .val) l (omega (arith, S .0, S .1)))), eq-eqb q q refl) (hit (eqb i i) (placed f gs q) (eqb (getD marks q 0) i) (eq-eqb i i refl))
+      go (yes e) =
+          let b : q < length marks = omega (arith, n, place-small f (64 * g .var + g .val) l (omega (arith, S .0, S .1))) in
+          rw (e, getD-set-same marks q i 0 b, eq-eqb q q refl) (hit (eqb i i) (placed f gs q) (eqb (getD marks q 0) i) (eq-eqb i i refl))
       go (no e) = rw (ne-eqb p q e, getD-set-other marks q p i 0 e) refl
 
 -- what is marked
@@ -111,7 +113,8 @@ module _ (f : ℕ) where
   placed-elim [] p h = absurd h
   placed-elim (g ∷ gs) p h = go (or-cases (eqb p (place f (64 * g .var + g .val))) (placed f gs p) h) (placed-elim gs p)
     where
-      go : T (eqb p (place f (64 * g .var + g .val))) ⊎ T (placed f gs p) → (T (placed f gs p) → (u : ℕ) × (x : ℕ) × T (has gs u x) × (p ≡ place f (64 * u + x))) → (u : ℕ) × (x : ℕ) × T (has (g ∷ gs) u x) × (p ≡ place f (64 * u + x))
+      go : T (eqb p (place f (64 * g .var + g .val))) ⊎ T (placed f gs p)
+          → (T (placed f gs p) → (u : ℕ) × (x : ℕ) × T (has gs u x) × (p ≡ place f (64 * u + x))) → (u : ℕ) × (x : ℕ) × T (has (g ∷ gs) u x) × (p ≡ place f (64 * u + x))
       go (inl e) k = (g .var, g .val, has-here g gs, eqb→eq p (place f (64 * g .var + g .val)) e)
       go (inr e) k = let r = k e in (r .0, r .1, has-there g gs (r .0) (r .1) (r .2), r .3)
 
@@ -120,8 +123,11 @@ module _ (f : ℕ) where
   placed-intro [] u x h = absurd (has-nil u x h)
   placed-intro (g ∷ gs) u x h = go (has-cases g gs u x h) (placed-intro gs u x)
     where
-      go : ((u ≡ g .var) × (x ≡ g .val)) ⊎ T (has gs u x) → (T (has gs u x) → T (placed f gs (place f (64 * u + x)))) → T (eqb (place f (64 * u + x)) (place f (64 * g .var + g .val)) || placed f gs (place f (64 * u + x)))
-      go (inl e) k = rw (e .0, e .1) (or-l (eqb (place f (64 * g .var + g .val)) (place f (64 * g .var + g .val))) (placed f gs (place f (64 * g .var + g .val))) (eqb-refl (place f (64 * g .var + g .val))))
+      go : ((u ≡ g .var) × (x ≡ g .val)) ⊎ T (has gs u x) → (T (has gs u x) → T (placed f gs (place f (64 * u + x))))
+          → T (eqb (place f (64 * u + x)) (place f (64 * g .var + g .val)) || placed f gs (place f (64 * u + x)))
+      go (inl e) k =
+          let q : ℕ = place f (64 * g .var + g .val) in
+          rw (e .0, e .1) (or-l (eqb q q) (placed f gs q) (eqb-refl q))
       go (inr e) k = or-r (eqb (place f (64 * u + x)) (place f (64 * g .var + g .val))) (placed f gs (place f (64 * u + x))) (k e)
 
 small-has : (fs : List Fact) → Small fs → (u x : ℕ) → T (has fs u x) → (u < 64) × (x < 64)
@@ -135,7 +141,8 @@ pub record Allows (v e : ℕ) (fs : List Fact) (m : State) : Type 0 where
   pub other : (u x : ℕ) → u ≢ v → T (has fs u x) → T (m u x)
   pub others : (u x : ℕ) → u < 64 → x < 64 → u ≢ v → T (m u x) → T (has fs u x)
 
-pub marks-allow : (i f : ℕ) (fs : List Fact) (marks : List ℕ) → f < 4096 → Small fs → i < 65535 → Unmarked i marks → T (has fs (f / 64) (f % 64)) → Allows (f / 64) (f % 64) fs (marked i (markAll i f fs marks))
+pub marks-allow : (i f : ℕ) (fs : List Fact) (marks : List ℕ) → f < 4096 → Small fs → i < 65535 → Unmarked i marks → T (has fs (f / 64) (f % 64))
+    → Allows (f / 64) (f % 64) fs (marked i (markAll i f fs marks))
 unfolding marked
 marks-allow i f fs marks l S b U h = record {
   own = mark-of (f / 64) (f % 64) (subst (λ (p : ℕ). T (placed f fs p)) own-place (placed-intro f fs (f / 64) (f % 64) h));

@@ -20,10 +20,11 @@ use Rattle.planning.proofs.Facts.{has-cases, has-here, has-there, has-nil, has-
 use Rattle.planning.proofs.Arcs.{Arc, arcFrom-elim, arcFrom-intro}
 use Rattle.planning.proofs.Formed.{Formed, Sorted, sorted-func, sorted-has}
 use Rattle.planning.proofs.Painting.{black-inside, has-outside, outside-has, one-black}
-use Rattle.task.specs.Links.{headAt, nextAt, Next, Sets, Chained}
+use Rattle.task.specs.Task.{taskIn}
+use Rattle.task.specs.Links.{headAt, nextAt, Next, Sets}
 use Rattle.state.specs.Sets.{Asked}
 use Rattle.graph.proofs.Searches.{both, false-not, some-same, some-found, some-lacks}
-use Rattle.painting.specs.Returns.{returnsBy, returned, unreturnedFrom, arcsBy, lacksBy, lacks}
+use Rattle.painting.specs.Returns.{returnsBy, returned, unreturnedFrom, arcsBy, lacksBy, lacks, OnChain}
 use Rattle.painting.proofs.Chains.{NoMove}
 use Rattle.painting.proofs.Marks.{Small, Allows}
 
@@ -106,7 +107,8 @@ module _ (t : Task) (F : Formed t) where
     unfolding returnBy union
     return-is d n j = both (returnBy t v d i j) (has (act t j .eff) v d && holds m (act t j .pre)) there back
       where
-        there : T ((arcFrom (act t) v (target (act t) v i) j && eqb (target (act t) v j) d) && holds (has (outside v (act t i .pre) ++ outside v (act t i .eff))) (outside v (act t j .pre))) → T (has (act t j .eff) v d && holds m (act t j .pre))
+        there : T ((arcFrom (act t) v (target (act t) v i) j && eqb (target (act t) v j) d) && holds (has (outside v (act t i .pre) ++ outside v (act t i .eff))) (outside v (act t j .pre)))
+            → T (has (act t j .eff) v d && holds m (act t j .pre))
         there h =
             let a : T (arcFrom (act t) v (target (act t) v i) j) = search (and-l, and-r) in
             let q : target (act t) v j ≡ d = eqb→eq (target (act t) v j) d (search (and-l, and-r)) in
@@ -123,7 +125,8 @@ module _ (t : Task) (F : Formed t) where
             need u y g (no z) x o =
                 A .other u y z (of-union u y (holds→sub (has (outside v (act t i .pre) ++ outside v (act t i .eff))) (outside v (act t j .pre)) o u y (has-outside v (act t j .pre) u y z g)))
 
-        back : T (has (act t j .eff) v d && holds m (act t j .pre)) → T ((arcFrom (act t) v (target (act t) v i) j && eqb (target (act t) v j) d) && holds (has (outside v (act t i .pre) ++ outside v (act t i .eff))) (outside v (act t j .pre)))
+        back : T (has (act t j .eff) v d && holds m (act t j .pre))
+            → T ((arcFrom (act t) v (target (act t) v i) j && eqb (target (act t) v j) d) && holds (has (outside v (act t i .pre) ++ outside v (act t i .eff))) (outside v (act t j .pre)))
         back h =
             let s : T (has (act t j .eff) v d) = search (and-l, and-r) in
             let p : T (holds m (act t j .pre)) = search (and-l, and-r) in
@@ -134,7 +137,8 @@ module _ (t : Task) (F : Formed t) where
             }) in
             let q : T (eqb (target (act t) v j) d) = rw (r .1) (eqb-refl d) in
             let a : T (arcFrom (act t) v (target (act t) v i) j) = r .0 in
-            let o : T (holds (has (outside v (act t i .pre) ++ outside v (act t i .eff))) (outside v (act t j .pre))) = sub→holds (has (outside v (act t i .pre) ++ outside v (act t i .eff))) (outside v (act t j .pre)) (λ u x g.
+            let o : T (holds (has (outside v (act t i .pre) ++ outside v (act t i .eff))) (outside v (act t j .pre))) =
+            sub→holds (has (outside v (act t i .pre) ++ outside v (act t i .eff))) (outside v (act t j .pre)) (λ u x g.
             let z = outside-not v (act t j .pre) u x g in
             let k = outside-has v (act t j .pre) u x g in
             in-union u x z (A .others u x (pre-small j u x k .0) (pre-small j u x k .1) z (holds→sub m (act t j .pre) p u x k))) in
@@ -178,7 +182,8 @@ module _ (t : Task) (F : Formed t) where
 
       from-in : (a n k : ℕ) → k < n → a + k ≢ e → T (not (returned t m v (a + k))) → T (unreturnedFrom t m v e a n)
       unfolding unreturnedFrom
-      from-in a n k b z r = some-intro n (λ k. not (eqb (a + k) e) && not (returned t m v (a + k))) k b (and-i (not (eqb (a + k) e)) (not (returned t m v (a + k))) (not-T (eqb (a + k) e) (λ q. z (eqb→eq (a + k) e q))) r)
+      from-in a n k b z r = some-intro n (λ k. not (eqb (a + k) e) && not (returned t m v (a + k))) k b
+          (and-i (not (eqb (a + k) e)) (not (returned t m v (a + k))) (not-T (eqb (a + k) e) (λ q. z (eqb→eq (a + k) e q))) r)
 
       from-out : (a n : ℕ) → T (unreturnedFrom t m v e a n) → (k : ℕ) × (k < n) × (a + k ≢ e) × T (not (returned t m v (a + k)))
       unfolding unreturnedFrom
@@ -254,41 +259,51 @@ pub record Chasing (t : Task) (m : State) (v d j : ℕ) : Type 0 where
   pub valid : (j ≡ 65535) ⊎ ((j < actions t) × Sets t v d j)
   pub passed : (k : ℕ) → k < actions t → k < j → T (returnsBy t m v d k) → ⊥
 
-module _ (t : Task) (m : State) (task : List ℕ) (f : ℕ) (C : Chained t task) (o : T (black t (f / 64))) (few : actions t ≤ 1024) where
-  pub chasing-start : f < 4096 → (j : ℕ) → j ≡ headAt task f → Chasing t m (f / 64) (f % 64) j
-  chasing-start b j e =
+module _ (task : List ℕ) (f : ℕ) (O : OnChain task f) (m : State) where
+  pub chasing-start : (j : ℕ) → j ≡ headAt task f → Chasing (taskIn task) m (f / 64) (f % 64) j
+  chasing-start j e =
       let q : f ≡ 64 * (f / 64) + f % 64 = omega arith in
-      let N : Next (actions t) (Sets t (f / 64) (f % 64)) 0 j = subst (Next (actions t) (Sets t (f / 64) (f % 64)) 0) (sym (e ∙ ap (headAt task) q)) (C .heads (f / 64) (f % 64) (omega arith) (omega arith) o) in
+      let N : Next (actions (taskIn task)) (Sets (taskIn task) (f / 64) (f % 64)) 0 j =
+      subst (Next (actions (taskIn task)) (Sets (taskIn task) (f / 64) (f % 64)) 0) (sym (e ∙ ap (headAt task) q))
+      (O .chained .heads (f / 64) (f % 64) (omega (arith, O .small)) (omega arith) (O .on)) in
       record {
         valid = elim (N .found) [ inl q ↦ inl q | inr q ↦ inr (q .1, q .2) ];
-        passed = λ k b l h. N .least k (omega arith) b l (and-l (has (act t k .eff) (f / 64) (f % 64)) (holds m (act t k .pre)) h);
+        passed = λ k b l h. N .least k (omega arith) b l (sets-of k h);
       }
+    where
+      sets-of : (k : ℕ) → T (returnsBy (taskIn task) m (f / 64) (f % 64) k) → Sets (taskIn task) (f / 64) (f % 64) k
+      sets-of k h = and-l (has (act (taskIn task) k .eff) (f / 64) (f % 64)) (holds m (act (taskIn task) k .pre)) h
 
-  module _ (j : ℕ) (J : Chasing t m (f / 64) (f % 64) j) where
-    pub chasing-at : (j ≡ 65535 → ⊥) → (j < actions t) × Sets t (f / 64) (f % 64) j
+  module _ (j : ℕ) (J : Chasing (taskIn task) m (f / 64) (f % 64) j) where
+    pub chasing-at : (j ≡ 65535 → ⊥) → (j < actions (taskIn task)) × Sets (taskIn task) (f / 64) (f % 64) j
     chasing-at n = elim (J .valid) [ inl q ↦ absurd (n q) | inr q ↦ q ]
 
-    pub chasing-turn : (j ≡ 65535 → ⊥) → (x : ℕ) → x ≡ nextAt task j → holds m (act t j .pre) ≡ false → Chasing t m (f / 64) (f % 64) x × (j < x)
+    pub chasing-turn : (j ≡ 65535 → ⊥) → (x : ℕ) → x ≡ nextAt task j → holds m (act (taskIn task) j .pre) ≡ false → Chasing (taskIn task) m (f / 64) (f % 64) x × (j < x)
     chasing-turn n x e z = (
       record { valid = elim (N .found) [ inl q ↦ inl q | inr q ↦ inr (q .1, q .2) ]; passed = λ k b l. go k b l (ℕ-discrete k j) (decLt k j) },
-      elim (N .found) [ inl q ↦ omega (arith, chasing-at n .0) | inr q ↦ omega (arith, q .0) ],
+      elim (N .found) [ inl q ↦ omega (arith, chasing-at n .0, O .loaded .formed .actions-max) | inr q ↦ omega (arith, q .0) ],
     )
       where
-        N : Next (actions t) (Sets t (f / 64) (f % 64)) (j + 1) x
-        N = subst (Next (actions t) (Sets t (f / 64) (f % 64)) (j + 1)) (sym e) (C .links (f / 64) (f % 64) j o (chasing-at n .0) (chasing-at n .1))
+        N : Next (actions (taskIn task)) (Sets (taskIn task) (f / 64) (f % 64)) (j + 1) x
+        N = subst (Next (actions (taskIn task)) (Sets (taskIn task) (f / 64) (f % 64)) (j + 1)) (sym e) (O .chained .links (f / 64) (f % 64) j (O .on) (chasing-at n .0) (chasing-at n .1))
 
-        go : (k : ℕ) → k < actions t → k < x → Dec (k ≡ j) → Dec (k < j) → T (returnsBy t m (f / 64) (f % 64) k) → ⊥
-        go k b l (yes y) w h = false-not (holds m (act t j .pre)) z (subst (λ (i : ℕ). T (holds m (act t i .pre))) y (and-r (has (act t k .eff) (f / 64) (f % 64)) (holds m (act t k .pre)) h))
+        go : (k : ℕ) → k < actions (taskIn task) → k < x → Dec (k ≡ j) → Dec (k < j) → T (returnsBy (taskIn task) m (f / 64) (f % 64) k) → ⊥
+        go k b l (yes y) w h = false-not (holds m (act (taskIn task) j .pre)) z
+            (subst (λ (i : ℕ). T (holds m (act (taskIn task) i .pre))) y (and-r (has (act (taskIn task) k .eff) (f / 64) (f % 64)) (holds m (act (taskIn task) k .pre)) h))
         go k b l (no y) (yes w) h = J .passed k b w h
-        go k b l (no y) (no w) h = N .least k (omega arith) b l (and-l (has (act t k .eff) (f / 64) (f % 64)) (holds m (act t k .pre)) h)
+        go k b l (no y) (no w) h = N .least k (omega arith) b l (and-l (has (act (taskIn task) k .eff) (f / 64) (f % 64)) (holds m (act (taskIn task) k .pre)) h)
 
-    pub chasing-hit : (j ≡ 65535 → ⊥) → holds m (act t j .pre) ≡ true → Next (actions t) (λ k. T (returnsBy t m (f / 64) (f % 64) k)) 0 j
+    pub chasing-hit : (j ≡ 65535 → ⊥) → holds m (act (taskIn task) j .pre) ≡ true → Next (actions (taskIn task)) (λ k. T (returnsBy (taskIn task) m (f / 64) (f % 64) k)) 0 j
     chasing-hit n e = record {
       least = λ k l b w h. J .passed k b w h;
-      found = inr (omega arith, chasing-at n .0, and-i (has (act t j .eff) (f / 64) (f % 64)) (holds m (act t j .pre)) (chasing-at n .1) (true→T (holds m (act t j .pre)) e));
+      found = inr (
+        omega arith,
+        chasing-at n .0,
+        and-i (has (act (taskIn task) j .eff) (f / 64) (f % 64)) (holds m (act (taskIn task) j .pre)) (chasing-at n .1) (true→T (holds m (act (taskIn task) j .pre)) e),
+      );
     }
 
-    pub chasing-end : j ≡ 65535 → Next (actions t) (λ k. T (returnsBy t m (f / 64) (f % 64) k)) 0 j
+    pub chasing-end : j ≡ 65535 → Next (actions (taskIn task)) (λ k. T (returnsBy (taskIn task) m (f / 64) (f % 64) k)) 0 j
     chasing-end e = record { least = λ k l b w h. J .passed k b w h; found = inl e }
 
 -- what is found is whether there is one

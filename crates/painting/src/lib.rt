@@ -1,10 +1,11 @@
 // The check of a painting, 7 then 8, and what it leaves in the loaded task: the chains of actions by the black fact that they set,
 // and the clients-first order. Once the black causal graph has no cycle, an action sets one black fact at most: its move. The return
 // of an arc is looked for in the chain of the fact that it has to set, with what the first action allows marked.
-use answers::{Checked, Refusal};
+use answers::Checked;
+use answers::Refusal;
 use graph::Found;
 ghost use mathlib.Core.Path.{_≡_};
-ghost use mathlib.Core.Option.{none, some};
+ghost use mathlib.Core.Option.{some};
 ghost use mathlib.Core.Bool.{_||_};
 ghost use mathlib.Core.List.{_++_};
 ghost use Prim.Native.Nat.{ℕ, _-_, _/_, _%_, _<_, _≤_};
@@ -150,7 +151,14 @@ fn is_returned(task: &[u16], marks: &[u16; 4096], i: u16, f: usize, last: &mut [
 }
 
 // An action that sets f from d, where that is an arc, has its return.
-fn arc_returned(task: &[u16], marks: &[u16; 4096], i: u16, f: usize, d: usize, last: &mut [u16; 4096]) -> bool
+fn arc_returned(
+    task: &[u16],
+    marks: &[u16; 4096],
+    i: u16,
+    f: usize,
+    d: usize,
+    last: &mut [u16; 4096],
+) -> bool
     requires { ⌜ OnChain (now task) f × (d < 64) ⌝ }
     ensures { λ r. ⌜ r ≡ (eqb d (f % 64) || returned (taskIn (now (task .entry))) (marked i (now (marks .entry))) (f / 64) d) ⌝ }
 {
@@ -184,7 +192,13 @@ fn lacks_between(
 }
 
 // Some arc of action i, which sets f, lacks its return: the arc from the value that it needs, or from every value.
-fn lacks_marked(task: &[u16], marks: &[u16; 4096], i: usize, f: usize, last: &mut [u16; 4096]) -> bool
+fn lacks_marked(
+    task: &[u16],
+    marks: &[u16; 4096],
+    i: usize,
+    f: usize,
+    last: &mut [u16; 4096],
+) -> bool
     requires { ⌜ OnChain (now task) f × (i < actions (taskIn (now task))) ⌝ }
     ensures { λ r. ⌜ r ≡ lacksBy (taskIn (now (task .entry))) (marked i (now (marks .entry))) i (f / 64) (f % 64) ⌝ }
 {
@@ -202,7 +216,13 @@ fn lacks_marked(task: &[u16], marks: &[u16; 4096], i: usize, f: usize, last: &mu
 }
 
 // Action i has an arc that lacks its return.
-fn is_lacking(task: &[u16], paint: u64, i: usize, marks: &mut [u16; 4096], last: &mut [u16; 4096]) -> bool
+fn is_lacking(
+    task: &[u16],
+    paint: u64,
+    i: usize,
+    marks: &mut [u16; 4096],
+    last: &mut [u16; 4096],
+) -> bool
     requires { ⌜ Acyclic (now task) paint × Chained (taskIn (now task)) (now task) × (i < actions (taskIn (now task))) × Unmarked i (now marks) ⌝ }
     ensures { λ r. ⌜ Lacking (taskIn (now (task .entry))) i (now (marks .exit)) r ⌝ }
 {

@@ -12,12 +12,12 @@ eff-start-requires : tie.Need-eff-start-requires
 eff-start-requires c κs = search needs
 
 touched-requires : tie.Need-touched-requires
-touched-requires c κs = 
+touched-requires c κs =
     let p = c .before .before .before .pre in
     listed-effects _ _ (loaded-listed _ (p .0) _ (p .1)) _ _ (c .eff-start .ensures) (c .before .eff-end .ensures)
 
 returns : tie.Need-returns
-returns c = 
+returns c =
     let t = c .before in
     let e = t .before .before in
     let p = e .before .before .pre in
@@ -30,13 +30,13 @@ pre-start-requires : tie.Need-pre-start-requires
 pre-start-requires c κs = search needs
 
 add-arcs-requires : tie.Need-add-arcs-requires
-add-arcs-requires c κs = 
+add-arcs-requires c κs =
     let e = c .before .before .before .before .before in
     let p = e .before .before .pre in
     (listed-facts _ _ (loaded-listed _ (p .0) _ (p .1)) _ _ (c .pre-start .ensures) (e .eff-end .ensures), p .2)
 
 returns-2 : tie.Need-returns-2
-returns-2 c = 
+returns-2 c =
     let s = c .before in
     let t = s .before .before .before in
     let e = t .before .before in

@@ -25,7 +25,7 @@ pre-start-requires : tie.Need-pre-start-requires Inv-loop μ-loop
 pre-start-requires c κs = search needs
 
 loop-holds : tie.Need-loop-holds Inv-loop μ-loop
-loop-holds c = 
+loop-holds c =
     let e = c .before in
     let p = e .before .before .pre in
     let L = loaded-listed _ (p .0) _ (p .1) in
@@ -47,7 +47,7 @@ element-copy-out-if1 : tie.Need-element-copy-out-if1 Inv-loop μ-loop
 element-copy-out-if1 c = let l = c .before .before .before in walking-small _ _ _ _ _ _ (l .loop .inv) (omega arith) _ (c .wide .ensures)
 
 returns : tie.Need-returns Inv-loop μ-loop
-returns c = 
+returns c =
     let w = c .before .before in
     let l = w .before .before .before in
     walking-hit _ _ _ _ _ _ (l .loop .inv) (omega arith) _ (w .wide .ensures) _ (marked-hit _ _ _ (c .if1 .taken))
@@ -59,7 +59,7 @@ loop-less : tie.Need-loop-less Inv-loop μ-loop
 loop-less c = search needs
 
 loop-again : tie.Need-loop-again Inv-loop μ-loop
-loop-again c = 
+loop-again c =
     let w = c .before .before in
     let l = w .before .before .before in
     walking-turn _ _ _ _ _ _ (l .loop .inv) (omega arith) _ (w .wide .ensures) (marked-skip _ _ _ (c .if1 .left))

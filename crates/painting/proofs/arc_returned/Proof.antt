@@ -16,12 +16,12 @@ add-is-returned : tie.Need-add-is-returned
 add-is-returned c = search needs
 
 is-returned-requires : tie.Need-is-returned-requires
-is-returned-requires c κs = 
+is-returned-requires c κs =
     let p = c .before .before .before .pre in
     record { loaded = p .0 .loaded; chained = p .0 .chained; small = omega (arith, p .0 .small, p .1); on = rw (fact-var _ _ (p .1)) (p .0 .on) }
 
 returns-2 : tie.Need-returns-2
-returns-2 c = 
+returns-2 c =
     let e = c .before .before in
     let p = e .before .before .pre in
     c .is-returned .ensures ∙ rw (fact-var _ _ (p .1), fact-val _ _ (p .1), ne-eqb _ _ (e .if1 .left)) refl

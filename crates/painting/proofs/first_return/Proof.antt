@@ -18,50 +18,50 @@ first-setter-requires : tie.Need-first-setter-requires Inv-loop μ-loop
 first-setter-requires c κs = let p = c .before .pre in (p .loaded, p .small)
 
 loop-holds : tie.Need-loop-holds Inv-loop μ-loop
-loop-holds c = let p = c .before .before .pre in chasing-start _ _ _ _ (p .chained) (p .on) (p .loaded .formed .actions-max) (p .small) _ (c .first-setter .ensures)
+loop-holds c = let p = c .before .before .pre in chasing-start _ _ p _ _ (c .first-setter .ensures)
 
 all-marked-requires : tie.Need-all-marked-requires Inv-loop μ-loop
-all-marked-requires c κs = 
+all-marked-requires c κs =
     let l = c .before in
     let p = l .before .before .before .pre in
-    (p .loaded, chasing-at _ _ _ _ (p .chained) (p .on) (p .loaded .formed .actions-max) _ (l .loop .inv) (c .loop-test .taken) .0)
+    (p .loaded, chasing-at _ _ p _ _ (l .loop .inv) (c .loop-test .taken) .0)
 
 returns : tie.Need-returns Inv-loop μ-loop
-returns c = 
+returns c =
     let m = c .before in
     let l = m .before .before in
     let p = l .before .before .before .pre in
-    chasing-hit _ _ _ _ (p .chained) (p .on) (p .loaded .formed .actions-max) _ (l .loop .inv) (m .before .loop-test .taken) (sym (m .all-marked .ensures) ∙ c .if1 .taken)
+    chasing-hit _ _ p _ _ (l .loop .inv) (m .before .loop-test .taken) (sym (m .all-marked .ensures) ∙ c .if1 .taken)
 
 next-setter-requires : tie.Need-next-setter-requires Inv-loop μ-loop
-next-setter-requires c κs = 
+next-setter-requires c κs =
     let n = c .before .before in
     let l = n .before in
     let p = l .before .before .before .pre in
-    let b = chasing-at _ _ _ _ (p .chained) (p .on) (p .loaded .formed .actions-max) _ (l .loop .inv) (n .loop-test .taken) in
+    let b = chasing-at _ _ p _ _ (l .loop .inv) (n .loop-test .taken) in
     (p .loaded, omega (arith, b .0, p .loaded .formed .actions-max))
 
 loop-less : tie.Need-loop-less Inv-loop μ-loop
-loop-less c = 
+loop-less c =
     let m = c .before .before in
     let l = m .before .before in
     let p = l .before .before .before .pre in
-    let b = chasing-at _ _ _ _ (p .chained) (p .on) (p .loaded .formed .actions-max) _ (l .loop .inv) (m .before .loop-test .taken) in
-    let r = chasing-turn _ _ _ _ (p .chained) (p .on) (p .loaded .formed .actions-max) _ (l .loop .inv) (m .before .loop-test .taken) _ (c .next-setter .ensures) (sym (m .all-marked .ensures) ∙ c .before .if1 .left) in
+    let b = chasing-at _ _ p _ _ (l .loop .inv) (m .before .loop-test .taken) in
+    let r = chasing-turn _ _ p _ _ (l .loop .inv) (m .before .loop-test .taken) _ (c .next-setter .ensures) (sym (m .all-marked .ensures) ∙ c .before .if1 .left) in
     omega (arith, b .0, r .1, p .loaded .formed .actions-max)
 
 loop-again : tie.Need-loop-again Inv-loop μ-loop
-loop-again c = 
+loop-again c =
     let m = c .before .before in
     let l = m .before .before in
     let p = l .before .before .before .pre in
-    chasing-turn _ _ _ _ (p .chained) (p .on) (p .loaded .formed .actions-max) _ (l .loop .inv) (m .before .loop-test .taken) _ (c .next-setter .ensures) (sym (m .all-marked .ensures) ∙ c .before .if1 .left) .0
+    chasing-turn _ _ p _ _ (l .loop .inv) (m .before .loop-test .taken) _ (c .next-setter .ensures) (sym (m .all-marked .ensures) ∙ c .before .if1 .left) .0
 
 returns-2 : tie.Need-returns-2 Inv-loop μ-loop
-returns-2 c = 
+returns-2 c =
     let l = c .before in
     let p = l .before .before .before .pre in
-    chasing-end _ _ _ _ (p .chained) (p .on) (p .loaded .formed .actions-max) _ (l .loop .inv) (c .loop-test .left)
+    chasing-end _ _ p _ _ (l .loop .inv) (c .loop-test .left)
 
 pub first-return-spec : {M : Type 1} → statement M
 first-return-spec =

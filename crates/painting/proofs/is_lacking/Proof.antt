@@ -8,14 +8,14 @@ move-of-requires : tie.Need-move-of-requires
 move-of-requires c κs = search needs
 
 returns : tie.Need-returns
-returns c = 
+returns c =
     let m = c .before in
     let p = m .before .before .pre in
     let f = colour-move _ _ (p .0) _ _ (m .move-of .ensures) in
     lacking-none _ (p .0 .loaded .formed) _ (p .2) _ (p .3) (no-move _ _ (p .0 .loaded .formed) _ _ f (c .if1 .taken))
 
 mark-requires : tie.Need-mark-requires
-mark-requires c κs = 
+mark-requires c κs =
     let e = c .before in
     let m = e .before in
     let p = m .before .before .pre in
@@ -23,7 +23,7 @@ mark-requires c κs =
     (p .0 .loaded, p .2, the-move _ _ (p .0 .loaded .formed) _ _ f (e .if1 .left) .small)
 
 lacks-marked-requires : tie.Need-lacks-marked-requires
-lacks-marked-requires c κs = 
+lacks-marked-requires c κs =
     let e = c .before .before .before .before in
     let m = e .before in
     let p = m .before .before .pre in
@@ -32,7 +32,7 @@ lacks-marked-requires c κs =
     (record { loaded = p .0 .loaded; chained = p .1; small = k .small; on = k .on }, p .2)
 
 returns-2 : tie.Need-returns-2
-returns-2 c = 
+returns-2 c =
     let w = c .before .before .before in
     let e = w .before .before in
     let m = e .before in

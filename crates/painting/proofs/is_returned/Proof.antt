@@ -20,7 +20,7 @@ returns-by-requires : tie.Need-returns-by-requires
 returns-by-requires c κs = search needs
 
 returns : tie.Need-returns
-returns c = 
+returns c =
     let r = c .before in
     let a = r .before .before in
     returned-by _ _ _ _ _ (omega (arith, a .actions .ensures)) _ (r .returns-by .ensures) (c .if2 .taken)

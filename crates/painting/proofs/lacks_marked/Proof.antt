@@ -19,7 +19,7 @@ eff-start-requires : tie.Need-eff-start-requires
 eff-start-requires c κs = search needs
 
 asked-requires : tie.Need-asked-requires
-asked-requires c κs = 
+asked-requires c κs =
     let s = c .before in
     let p = s .before .before .pre in
     let F = listed-preconditions _ _ (loaded-listed _ (p .0 .loaded) _ (p .1)) _ _ (s .pre-start .ensures) (c .eff-start .ensures) in
@@ -32,7 +32,7 @@ lacks-between-requires : tie.Need-lacks-between-requires
 lacks-between-requires c κs = search needs
 
 returns : tie.Need-returns
-returns c = 
+returns c =
     let a = c .before .before .before in
     let e = a .before in
     let s = e .before in
@@ -44,13 +44,13 @@ count-requires : tie.Need-count-requires
 count-requires c κs = let p = c .before .before .before .before .before .pre in (p .0 .loaded, black-inside _ _ (p .0 .on))
 
 lacks-between-requires-2 : tie.Need-lacks-between-requires-2
-lacks-between-requires-2 c κs = 
+lacks-between-requires-2 c κs =
     let n = c .before in
     let p = n .before .before .before .before .before .before .pre in
     (p .0, omega arith, few-values _ (p .0 .loaded .formed) _ _ (n .count .ensures))
 
 returns-2 : tie.Need-returns-2
-returns-2 c = 
+returns-2 c =
     let a = c .before .before .before .before in
     let e = a .before in
     let s = e .before in

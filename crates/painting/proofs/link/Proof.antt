@@ -14,7 +14,7 @@ returns : tie.Need-returns
 returns c = link-none _ _ _ _ (c .before .move-of .ensures) (c .if1 .taken)
 
 link-requires : tie.Need-link-requires
-link-requires c κs = 
+link-requires c κs =
     let e = c .before in
     let m = e .before in
     let p = m .before .before .before .pre in
@@ -25,7 +25,7 @@ same-length-2 : tie.Need-same-length-2
 same-length-2 c = search needs
 
 returns-2 : tie.Need-returns-2
-returns-2 c = 
+returns-2 c =
     let k = c .before .before in
     let e = k .before .before in
     link-one _ _ _ _ _ (e .before .move-of .ensures) (e .if1 .left) (k .link .ensures)

@@ -24,7 +24,7 @@ unlink-requires : tie.Need-unlink-requires Inv-loop μ-loop
 unlink-requires c κs = let v = c .before in let p = v .before .before .before .before .before .pre in (omega (arith, v .variables .ensures, p .loaded .formed .variables-max), p .loaded .head)
 
 loop-holds : tie.Need-loop-holds Inv-loop μ-loop
-loop-holds c = 
+loop-holds c =
     let u = c .before .before in
     let v = u .before .before in
     let a = v .before .before in
@@ -35,7 +35,7 @@ sub-i : tie.Need-sub-i Inv-loop μ-loop
 sub-i c = search needs
 
 link-requires : tie.Need-link-requires Inv-loop μ-loop
-link-requires c κs = 
+link-requires c κs =
     let l = c .before .before in
     let u = l .before .before .before in
     let v = u .before .before in
@@ -47,7 +47,7 @@ loop-less : tie.Need-loop-less Inv-loop μ-loop
 loop-less c = search needs
 
 loop-again : tie.Need-loop-again Inv-loop μ-loop
-loop-again c = 
+loop-again c =
     let l = c .before .before .before .before .before in
     let u = l .before .before .before in
     let v = u .before .before in
@@ -56,7 +56,7 @@ loop-again c =
     linking-back _ _ _ p _ (u .unlink .ensures) _ _ (l .loop .inv) (omega arith) _ (c .before .before .link .ensures)
 
 same-length : tie.Need-same-length Inv-loop μ-loop
-same-length c = 
+same-length c =
     let l = c .before in
     let u = l .before .before .before in
     let v = u .before .before in
@@ -65,7 +65,7 @@ same-length c =
     linking-long _ _ _ p _ (u .unlink .ensures) _ _ (l .loop .inv)
 
 returns : tie.Need-returns Inv-loop μ-loop
-returns c = 
+returns c =
     let l = c .before in
     let u = l .before .before .before in
     let v = u .before .before in

@@ -24,7 +24,7 @@ is-lacking-requires : tie.Need-is-lacking-requires Inv-loop μ-loop
 is-lacking-requires c κs = let l = c .before .before .before in let a = l .before in let p = a .before .before .pre in (p .0, p .1, omega (arith, a .actions .ensures), l .loop .inv .unmarked)
 
 returns : tie.Need-returns Inv-loop μ-loop
-returns c = 
+returns c =
     let r = c .before in
     let l = r .before .before .before .before in
     scanning-hit _ _ (l .before .actions .ensures) _ _ (l .loop .inv) _ _ (r .is-lacking .ensures) (omega arith) (c .if1 .taken)
@@ -36,7 +36,7 @@ loop-less : tie.Need-loop-less Inv-loop μ-loop
 loop-less c = search needs
 
 loop-again : tie.Need-loop-again Inv-loop μ-loop
-loop-again c = 
+loop-again c =
     let r = c .before in
     let l = r .before .before .before .before in
     scanning-turn _ _ (l .before .actions .ensures) _ _ (l .loop .inv) _ _ (r .is-lacking .ensures) (omega arith) (c .if1 .left)

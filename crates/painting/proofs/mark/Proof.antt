@@ -28,7 +28,7 @@ pre-start-requires : tie.Need-pre-start-requires Inv-loop μ-loop
 pre-start-requires c κs = search needs
 
 loop-holds : tie.Need-loop-holds Inv-loop μ-loop
-loop-holds c = 
+loop-holds c =
     let e = c .before in
     let p = e .before .before .pre in
     let L = loaded-listed _ (p .0) _ (p .1) in
@@ -47,14 +47,14 @@ place-of-requires : tie.Need-place-of-requires Inv-loop μ-loop
 place-of-requires c κs = search needs
 
 mul-marks : tie.Need-mul-marks Inv-loop μ-loop
-mul-marks c = 
+mul-marks c =
     let w = c .before in
     let l = w .before .before .before in
     let q = marking-small _ _ _ _ _ _ _ _ (l .loop .inv) (omega arith) (l .before .before .before .before .pre .2) _ _ (w .wide .ensures) (c .place-of .ensures) in
     omega (arith, q)
 
 element-write-marks : tie.Need-element-write-marks Inv-loop μ-loop
-element-write-marks c = 
+element-write-marks c =
     let w = c .before in
     let l = w .before .before .before in
     marking-small _ _ _ _ _ _ _ _ (l .loop .inv) (omega arith) (l .before .before .before .before .pre .2) _ _ (w .wide .ensures) (c .place-of .ensures)

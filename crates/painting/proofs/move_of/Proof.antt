@@ -26,7 +26,7 @@ eff-start-requires : tie.Need-eff-start-requires Inv-loop μ-loop
 eff-start-requires c κs = search needs
 
 loop-holds : tie.Need-loop-holds Inv-loop μ-loop
-loop-holds c = 
+loop-holds c =
     let e = c .before in
     let p = e .before .before .pre in
     let L = loaded-listed _ (p .0) _ (p .1) in
@@ -45,7 +45,7 @@ member-requires : tie.Need-member-requires Inv-loop μ-loop
 member-requires c κs = let l = c .before .before .before in let q = walking-small _ _ _ _ _ _ (l .loop .inv) (omega arith) _ (c .wide .ensures) in omega (arith, q)
 
 returns : tie.Need-returns Inv-loop μ-loop
-returns c = 
+returns c =
     let w = c .before .before in
     let l = w .before .before .before in
     walking-hit _ _ _ _ _ _ (l .loop .inv) (omega arith) _ (w .wide .ensures) _ (move-hit _ _ (sym (c .before .member .ensures) ∙ c .if1 .taken))
@@ -57,7 +57,7 @@ loop-less : tie.Need-loop-less Inv-loop μ-loop
 loop-less c = search needs
 
 loop-again : tie.Need-loop-again Inv-loop μ-loop
-loop-again c = 
+loop-again c =
     let w = c .before .before in
     let l = w .before .before .before in
     walking-turn _ _ _ _ _ _ (l .loop .inv) (omega arith) _ (w .wide .ensures) (move-skip _ _ (sym (c .before .member .ensures) ∙ c .if1 .left))

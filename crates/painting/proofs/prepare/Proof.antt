@@ -30,7 +30,7 @@ returns : tie.Need-returns
 returns c = let r = c .before .before in readied-seven _ _ _ _ (r .refused-at .ensures) (r .before .cycle .ensures) (ap checkOf (c .enum-told2 .given .1))
 
 prepare-acyclic-requires : tie.Need-prepare-acyclic-requires
-prepare-acyclic-requires c κs = 
+prepare-acyclic-requires c κs =
     let e = c .before .before in
     let r = e .before .before in
     let k = r .before in

@@ -7,21 +7,21 @@ link-all-requires : tie.Need-link-all-requires
 link-all-requires c κs = search needs
 
 write-order-requires : tie.Need-write-order-requires
-write-order-requires c κs = 
+write-order-requires c κs =
     let k = c .before .before .before in
     let p = k .before .before .before .pre in
     let A = linked-acyclic _ _ _ (p .0) (k .link-all .ensures) in
     (A .loaded, linked-rows _ _ _ (p .0) (k .link-all .ensures) _ (p .1), A .colours)
 
 lowest-lacking-requires : tie.Need-lowest-lacking-requires
-lowest-lacking-requires c κs = 
+lowest-lacking-requires c κs =
     let w = c .before .before .before in
     let k = w .before .before .before .before in
     let p = k .before .before .before .pre in
     (readied-acyclic _ _ _ _ (p .0) (k .link-all .ensures) (w .write-order .ensures), readied-chained _ _ _ _ (p .0) (k .link-all .ensures) (w .write-order .ensures))
 
 refused-at-requires : tie.Need-refused-at-requires
-refused-at-requires c κs = 
+refused-at-requires c κs =
     let w = c .before .before .before .before in
     let k = w .before .before .before .before in
     let p = k .before .before .before .pre in
@@ -31,7 +31,7 @@ same-length : tie.Need-same-length
 same-length c = search needs
 
 returns : tie.Need-returns
-returns c = 
+returns c =
     let e = c .before in
     let w = e .before .before .before .before in
     let k = w .before .before .before .before in

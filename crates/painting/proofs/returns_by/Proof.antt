@@ -15,14 +15,14 @@ eff-end-requires : tie.Need-eff-end-requires
 eff-end-requires c κs = search needs
 
 asked-requires : tie.Need-asked-requires
-asked-requires c κs = 
+asked-requires c κs =
     let s = c .before in
     let p = s .before .before .pre in
     let F = listed-effects _ _ (loaded-listed _ (p .0) _ (p .1)) _ _ (s .eff-start .ensures) (c .eff-end .ensures) in
     (F .rises, F .within)
 
 returns : tie.Need-returns
-returns c = 
+returns c =
     let a = c .before in
     let e = a .before in
     let s = e .before in
@@ -34,7 +34,7 @@ all-marked-requires : tie.Need-all-marked-requires
 all-marked-requires c κs = search needs
 
 returns-2 : tie.Need-returns-2
-returns-2 c = 
+returns-2 c =
     let a = c .before .before in
     let e = a .before in
     let s = e .before in
