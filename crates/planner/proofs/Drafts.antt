@@ -6,11 +6,12 @@ use mathlib.Core.List.{List, [], _∷_, _++_}
 use mathlib.Core.Option.{none}
 use Prim.Native.Nat.{ℕ, zero, suc, _<_, _≤_}
 use native.Mathlib.Omega.{arith}
+use lib.Dec.{leb, leb→le}
 use lib.ListN.{length, getD, take}
-use Rattle.planning.specs.Basics.{Check, refuse, andThen, inOrder, Answer, answer, done, refuseAt}
+use Rattle.planning.specs.Basics.{Check, refuse, check, andThen, inOrder, Answer, answer, done, refuseAt}
 use Rattle.planning.specs.Record.{Task, taskOf, recordCheck}
 use Rattle.planning.specs.Runs.{actions, relaxed, real, black, isPlan, costOf, stepsRun, act, initial, Judged, judged}
-use Rattle.planning.specs.Relaxed.{relaxedPlan}
+use Rattle.planning.specs.Relaxed.{reachesGoals, relaxedPlan}
 use Rattle.planning.specs.Painting.{cyclic, unreturned, acyclicCheck, returnCheck}
 use Rattle.planning.specs.Repair.{repaired}
 use Rattle.planning.specs.Calls.{capacity, capacityOf, roomCheck, goalsCheck, Planned as Result, lengthCheck, relaxedCheck, planned, planOf, planCall, repairCall}
@@ -18,10 +19,15 @@ use Rattle.planning.proofs.Steps.{All}
 use Rattle.planning.proofs.Plans.{isPlan-elim}
 use Rattle.planning.proofs.Formed.{Formed}
 use Rattle.planning.proofs.Painting.{repaired-is-plan}
-use Rattle.planning.proofs.Checks.{andThen-none, andThen-assoc, refuseAt-none, inOrder-pass, inOrder-passed, inOrder-++}
+use Rattle.planning.proofs.Checks.{check-none, andThen-none, andThen-assoc, refuseAt-none, inOrder-pass, inOrder-passed, inOrder-++}
 use Rattle.answers.specs.declared.Refusal.{Refusal}
+use Rattle.answers.specs.declared.Number.{Number}
+use Rattle.answers.specs.declared.Number.the-variants.{Value}
+use Rattle.answers.proofs.Stages.{passed}
+use Rattle.relax.specs.Keeping.{Unfound}
+use Rattle.repair.specs.Repairs.{Held}
 use Rattle.judge.specs.declared.Verdict.{Verdict}
-use Rattle.judge.specs.Answers.{judgedOf, Entries, Ready}
+use Rattle.judge.specs.Answers.{judgedOf, Entries, Ready, callerCheck}
 use Rattle.judge.proofs.Modes.{judged-alike, mode-real}
 use Rattle.state.specs.Sets.{modeOf}
 use Rattle.task.specs.Task.{taskIn, Loaded}
@@ -29,7 +35,7 @@ use Rattle.task.specs.Links.{Prepared}
 use Rattle.planner.specs.declared.Planned.{Planned}
 use Rattle.planner.specs.declared.Planned.the-variants.{Plan, Refused}
 use Rattle.planner.specs.Answers.{answerOf}
-use Rattle.planner.specs.Drafts.{source, sourceCheck, paintingCheck, InFront, Drafted}
+use Rattle.planner.specs.Drafts.{source, sourceCheck, paintingCheck, InFront, Drafted, Sourced, Painted, Called}
 
 -- entries of a plan are actions
 all-entries : (n : ℕ) (l : List ℕ) → All (λ i. i < n) l → (k : ℕ) → k < length l → getD l k 0 < n
@@ -91,12 +97,58 @@ module _ (t : Task) (k : List ℕ) (room : ℕ) (plan : List ℕ) where
       record { answer′ = q ∙ rw c refl; front = (omega (arith, z, en), rw (z ∙ sym en) e) }
   drafted-whole n c en h e (Refused f) q = let z : _≡_ {A = ℕ} 0 1 = cc in absurd (omega arith)
 
+-- a repair that fits, taken apart
+pub held-whole : (l d : List ℕ) (room : ℕ) (r : Number) (n : ℕ) → Held l d room r → r ≡ Value n → (roomCheck (length l) room ≡ none) × (n ≡ length l) × (n ≤ room) × (take n d ≡ l)
+unfolding roomCheck
+held-whole l d room r n H e =
+    let p = passed r n (roomCheck (length l) room) (length l) e (H .says) in
+    let q = leb→le (length l) room (check-none (leb (length l) room) 11 room (p .0)) in
+    (p .0, sym (p .1), omega (arith, p .1), H .fills n e)
+
+-- what is asked of the relaxed plan, and which it is
+module _ (t : Task) (l : List ℕ) where
+  pub given-check : (g : Bool) → g ≡ true → sourceCheck g t l ≡ callerCheck t l
+  unfolding sourceCheck
+  given-check g e = rw e refl
+
+  pub own-check : (g : Bool) → g ≡ false → sourceCheck g t l ≡ goalsCheck t
+  unfolding sourceCheck
+  own-check g e = rw e refl
+
+  pub given-source : (g : Bool) → g ≡ true → l ≡ source g t l
+  unfolding source
+  given-source g e = rw e refl
+
+  pub own-source : (g : Bool) → g ≡ false → relaxedPlan t ≡ source g t l
+  unfolding source
+  own-source g e = rw e refl
+
+  pub sourced : (g : Bool) (k : List ℕ) (room : ℕ) (plan : List ℕ) (r : Planned) → k ≡ source g t l → sourceCheck g t l ≡ none → Drafted t [] k room plan r → Sourced g t l room plan r
+  sourced g k room plan r e h D = drafted-pass t (source g t l) room plan (sourceCheck g t l) [] r h (subst (λ (x : List ℕ). Drafted t [] x room plan r) e D)
+
+-- the task's own relaxed plan is found, or there is none
+pub unfound-check : (t : Task) (f : Refusal) → Unfound t f → goalsCheck t ≡ refuse (f .number) (f .place)
+unfolding goalsCheck check
+unfound-check t f U = rw (U .unsolved, U .number′, U .place′) refl
+
+pub found-check : (t : Task) → reachesGoals t ≡ true → goalsCheck t ≡ none
+unfolding goalsCheck check
+found-check t e = rw e refl
+
 -- a painting that passes
 pub painting-passes : (t : Task) → paintingCheck t ≡ none → (cyclic t ≡ none) × (unreturned t ≡ none)
 unfolding paintingCheck acyclicCheck returnCheck
 painting-passes t e =
     let h = andThen-none (acyclicCheck t) (returnCheck t) e in
     (refuseAt-none 7 (cyclic t) (h .0), refuseAt-none 8 (unreturned t) (h .1))
+
+-- the same task behind its painting, and behind its record
+module _ (g : Bool) (t u : Task) (e : u ≡ t) (l : List ℕ) (room : ℕ) (plan : List ℕ) (r : Planned) where
+  pub painted : paintingCheck t ≡ none → Sourced g u l room plan r → Painted g t l room plan r
+  painted h D = drafted-pass t (source g t l) room plan (paintingCheck t) (sourceCheck g t l ∷ []) r h (subst (λ (x : Task). Sourced g x l room plan r) e D)
+
+pub called : (g : Bool) (s : List ℕ) (u : Task) → u ≡ taskOf s → (l : List ℕ) (room : ℕ) (plan : List ℕ) (r : Planned) → recordCheck s ≡ none → Painted g u l room plan r → Called g s l room plan r
+called g s u e l room plan r h D = drafted-pass (taskOf s) (source g (taskOf s) l) room plan (recordCheck s) (paintingCheck (taskOf s) ∷ sourceCheck g (taskOf s) l ∷ []) r h (subst (λ (x : Task). Painted g x l room plan r) e D)
 
 -- the checks of a call one by one: those that were taken together stand side by side
 module _ (s : List ℕ) (xs : List Check) where
@@ -120,7 +172,7 @@ module _ (s l : List ℕ) (n w : ℕ) (plan : List ℕ) (r : Planned) where
 
   pub repair-called : Drafted (taskOf s) (recordCheck s ∷ paintingCheck (taskOf s) ∷ sourceCheck true (taskOf s) l ∷ []) (source true (taskOf s) l) (capacityOf n w) plan r
       → (answerOf r ≡ repairCall s l n w) × InFront (repaired (taskOf s) l) plan r
-  unfolding repairCall source sourceCheck
+  unfolding repairCall source sourceCheck inOrder
   repair-called D =
       let t = taskOf s in
       let room = roomCheck (length (repaired t l)) (capacityOf n w) in

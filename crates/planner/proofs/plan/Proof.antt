@@ -1,3 +1,4 @@
+use mathlib.Core.List.{[]}
 use mathlib.Core.Path.{ap, _∙_}
 use lib.ListN.{length}
 use Rattle.planning.specs.Calls.{workList}
@@ -21,15 +22,13 @@ same-length-2 c = search needs
 
 returns : tie.Need-returns
 returns c =
-    let at-finish = c .before .before .before .before in
-    let at-work = at-finish .before .before .before .before in
-    let at-plan-checked = at-work .before .before .before in
-    let at-start = at-plan-checked .before .before .before .before .before .before in
-    let a = at-start .args in
-    let D = at-plan-checked .plan-checked .ensures in
-    let E = at-finish .finish .ensures in
-    let S = plan-settled (a .bytes .now) (length (a .plan .now)) (length (a .work .now)) _ (at-work .before .before .plan .given) _ D _ (E .0) in
-    (D .answer, (S .0, (E .1 ∙ ap workList (at-work .work .given), (S .1, S .2))))
+    let a = c .before .before .before .before .before .before .before .before .before .before .before .before .before .before .before .before .before .before .args in
+    let n = length (a .plan .now) in
+    let w = length (a .work .now) in
+    let D = plan-called (a .bytes .now) [] n w _ _ (c .before .before .before .before .before .before .before .before .before .before .before .plan-checked .ensures) in
+    let E = c .before .before .before .before .finish .ensures in
+    let S = plan-settled (a .bytes .now) n w _ (c .before .before .before .before .before .before .before .before .before .before .plan .given) _ (record { answer = D .0; front = D .1 }) _ (E .0) in
+    (D .0, (S .0, (E .1 ∙ ap workList (c .before .before .before .before .before .before .before .before .work .given), (S .1, S .2))))
 
 pub plan-spec : {M : Type 1} → statement M
 plan-spec =
