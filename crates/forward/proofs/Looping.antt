@@ -10,7 +10,7 @@ use native.Mathlib.Omega.{arith}
 use lib.Dec.{T, T-not, not-T, eqb, eqb-refl}
 use lib.ListN.{length, set, replicate}
 use Rattle.planning.specs.Basics.{first, tally}
-use Rattle.planning.specs.Record.{Action, Task}
+use Rattle.planning.specs.Record.{Task}
 use Rattle.planning.specs.Runs.{State, Mode, has, holds, step, relaxed, actions, act, initial, goals}
 use Rattle.planning.specs.Relaxed.{adds}
 use Rattle.planning.proofs.Tests.{and-l, and-r}
@@ -143,11 +143,14 @@ module _ {task : List ℕ} {g : Goals} {fst plan sets work ready : List ℕ} {n 
                     not-T (holds s (act t j .eff))
                     (λ y. T-not (holds (setsOf sets′) (act t j .eff)) x (sub→holds (setsOf sets′) (act t j .eff) (λ v d z. grows v d (holds→sub s (act t j .eff) y v d z))))
 
+                old : T (not (holds (setsOf sets′) (act t i .eff))) → ⊥
+                old x = T-not (holds (setsOf sets′) (act t i .eff)) x has-all
+
                 pub take-less : left task sets′ ready″ < left task sets ready
                 unfolding left
                 take-less =
                     omega (
                       arith,
                       tally-le 1024 (member ready″),
-                      tally-fewer (actions t) (λ j. not (holds (setsOf sets′) (act t j .eff))) (λ j. not (holds s (act t j .eff))) (λ j _. still-new j) i chosen-below (rw h tt) (λ x. T-not (holds (setsOf sets′) (act t i .eff)) x has-all),
+                      tally-fewer (actions t) (λ j. not (holds (setsOf sets′) (act t j .eff))) (λ j. not (holds s (act t j .eff))) (λ j _. still-new j) i chosen-below (rw h tt) old,
                     )

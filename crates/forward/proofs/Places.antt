@@ -3,7 +3,7 @@
 use mathlib.Core.Path.{_≡_, refl, sym, ap, _∙_, subst}
 use mathlib.Core.Logic.{_⊎_, inl, inr, _≢_}
 use mathlib.Core.Bool.{Bool, true, false, not, _&&_, _||_}
-use mathlib.Core.List.{List, [], _∷_}
+use mathlib.Core.List.{List}
 use Prim.Native.Nat.{ℕ, zero, suc, _+_, _-_, _/_, _%_, _<_, _≤_}
 use native.Mathlib.Omega.{arith}
 use native.Mathlib.Decide.{ℕ-discrete, decLt}
@@ -17,13 +17,15 @@ use Rattle.planning.specs.Record.{Action}
 use Rattle.task.specs.Task.{factOf, factsIn, preAt, effAt, actionIn, taskIn}
 use Rattle.state.proofs.Listed.{Listed}
 use Rattle.state.proofs.Effects.{factsIn-cons, factsIn-none}
-use Rattle.forward.specs.Waiting.{reaches, Passing, Unmet, Looked, Noted}
+use Rattle.forward.specs.Waiting.{reaches, Passing, Looked, Noted}
 
 module _ (l : List ℕ) where
   at-has′ : (n a b v d : ℕ) → a + n ≡ b → b ≤ length l → T (has (factsIn l a b) v d) → (x : ℕ) × (a ≤ x) × (x < b) × (v ≡ getD l x 0 / 64) × (d ≡ getD l x 0 % 64)
   unfolding has factOf
   at-has′ zero a b v d e h t = absurd (rw (factsIn-none l a b (omega arith)) at t)
-  at-has′ (suc n) a b v d e h t = go (or-cases (eqb v (getD l a 0 / 64) && eqb d (getD l a 0 % 64)) (has (factsIn l (a + 1) b) v d) (rw (factsIn-cons l a b (omega arith) h) at t)) (at-has′ n (a + 1) b v d (omega arith) h)
+  at-has′ (suc n) a b v d e h t =
+      go (or-cases (eqb v (getD l a 0 / 64) && eqb d (getD l a 0 % 64)) (has (factsIn l (a + 1) b) v d) (rw (factsIn-cons l a b (omega arith) h) at t))
+      (at-has′ n (a + 1) b v d (omega arith) h)
     where
       go : T (eqb v (getD l a 0 / 64) && eqb d (getD l a 0 % 64)) ⊎ T (has (factsIn l (a + 1) b) v d)
           → (T (has (factsIn l (a + 1) b) v d) → (x : ℕ) × (a + 1 ≤ x) × (x < b) × (v ≡ getD l x 0 / 64) × (d ≡ getD l x 0 % 64))
@@ -49,7 +51,9 @@ module _ (l : List ℕ) where
       d = getD l x 0 % 64
 
       go : Dec (x ≡ a) → (a + 1 ≤ x → x < b → T (has (factsIn l (a + 1) b) v d)) → T ((eqb v (getD l a 0 / 64) && eqb d (getD l a 0 % 64)) || has (factsIn l (a + 1) b) v d)
-      go (yes i) f = or-l (eqb v (getD l a 0 / 64) && eqb d (getD l a 0 % 64)) (has (factsIn l (a + 1) b) v d) (rw i (and-i (eqb (getD l a 0 / 64) (getD l a 0 / 64)) (eqb (getD l a 0 % 64) (getD l a 0 % 64)) (eqb-refl (getD l a 0 / 64)) (eqb-refl (getD l a 0 % 64))))
+      go (yes i) f =
+          let w = getD l a 0 in
+          or-l (eqb v (w / 64) && eqb d (w % 64)) (has (factsIn l (a + 1) b) v d) (rw i (and-i (eqb (w / 64) (w / 64)) (eqb (w % 64) (w % 64)) (eqb-refl (w / 64)) (eqb-refl (w % 64))))
       go (no i) f = or-r (eqb v (getD l a 0 / 64) && eqb d (getD l a 0 % 64)) (has (factsIn l (a + 1) b) v d) (f (omega arith) q)
 
   module _ (a b : ℕ) (p : a ≤ b) (q : b ≤ length l) where
@@ -191,7 +195,10 @@ module _ (s : State) (l : List ℕ) (a b i : ℕ) (first₀ : List ℕ) where
     noting-answer = go new refl
       where
         go : (c : Bool) → new ≡ c → c ≡ not (holds s (factsIn l a b))
-        go true e = let r = N .some′ e in rw (F→false (holds s (factsIn l a b)) (λ t. subst T (r .3) (holds-each l a b (omega (arith, N .from, N .to)) q s t (r .0) (r .1) (omega (arith, r .2, to-end))))) refl
+        go true e =
+            let r = N .some′ e in
+            let o : a ≤ b = omega (arith, N .from, N .to) in
+            rw (F→false (holds s (factsIn l a b)) (λ t. subst T (r .3) (holds-each l a b o q s t (r .0) (r .1) (omega (arith, r .2, to-end))))) refl
         go false e = rw (T→true (holds s (factsIn l a b)) (each-holds l a b (omega (arith, N .from, N .to)) q s (λ x p c. N .none′ e x p (omega (arith, to-end))))) refl
 
 -- what the first unmet precondition of action i says

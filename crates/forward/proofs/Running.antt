@@ -17,11 +17,11 @@ use Rattle.planning.specs.Relaxed.{adds, forward, addable, forwardRun, forwardE
 use Rattle.planning.proofs.Tests.{T→true, F→false, and-l}
 use Rattle.planning.proofs.Below.{total-le, total-pred, total-one, tally-pos}
 use Rattle.planning.proofs.Facts.{_⊆_, holds→sub}
-use Rattle.planning.proofs.Steps.{All, step-eff, step-keep, run-append, run-grows}
+use Rattle.planning.proofs.Steps.{All, step-eff, run-append, run-grows}
 use Rattle.planning.proofs.Formed.{Formed, sorted-has, initial-holds}
 use Rattle.planning.proofs.Forward.{Once, forward-take, forwardRun-ran, forwardRun-once}
 use Rattle.task.specs.Task.{factsIn}
-use Rattle.forward.specs.Waiting.{reaches, Each, Passing, Unmet, Noted}
+use Rattle.forward.specs.Waiting.{reaches, Each, Passing, Noted}
 use Rattle.state.specs.Sets.{setsOf}
 use Rattle.forward.specs.declared.Ran.{Ran}
 use Rattle.forward.specs.Running.{achiever, Achieved, RanOf, Going}
@@ -38,7 +38,9 @@ once-distinct [] o = tt
 once-distinct (i ∷ l) o = (all-each (λ j. i ≢ j) (λ j. j ≢ i) (λ j n e. n (sym e)) l (o .0), once-distinct l (o .1))
 
 pub forwardRun-few : (t : Task) → Formed t → length (forwardRun t) ≤ 1024
-forwardRun-few t F = omega (arith, F .actions-max, distinct-length (actions t) (forwardRun t) (all-each (λ i. i < actions t) (λ i. i < actions t) (λ i h. h) (forwardRun t) (forwardRun-ran t F .below)) (once-distinct (forwardRun t) (forwardRun-once t F)))
+forwardRun-few t F =
+    let below = all-each (λ i. i < actions t) (λ i. i < actions t) (λ i h. h) (forwardRun t) (forwardRun-ran t F .below) in
+    omega (arith, F .actions-max, distinct-length (actions t) (forwardRun t) below (once-distinct (forwardRun t) (forwardRun-once t F)))
 
 -- F actions are enough from the initial state
 forwardRun-fuel : (t : Task) → Formed t → total (variables t) (count t) ≤ size (variables t) (count t) (initial t) + addable t
@@ -77,7 +79,8 @@ module _ (act : ℕ → Action) (i : ℕ) (v d : ℕ) where
   firstAchiever-snoc [] s = refl
   firstAchiever-snoc (j ∷ l) s = go (has (act j .eff) v d && not (s v d)) (firstAchiever-snoc l (step relaxed (act j) s))
     where
-      go : (b : Bool) → firstAchiever act (l ++ (i ∷ [])) (step relaxed (act j) s) v d ≡ orElse (firstAchiever act l (step relaxed (act j) s) v d) (newly act i (run act relaxed l (step relaxed (act j) s)) v d)
+      go : (b : Bool)
+          → firstAchiever act (l ++ (i ∷ [])) (step relaxed (act j) s) v d ≡ orElse (firstAchiever act l (step relaxed (act j) s) v d) (newly act i (run act relaxed l (step relaxed (act j) s)) v d)
           → elim b as (λ _. Option ℕ) [ true ↦ some j | false ↦ firstAchiever act (l ++ (i ∷ [])) (step relaxed (act j) s) v d ]
           ≡ orElse (elim b as (λ _. Option ℕ) [ true ↦ some j | false ↦ firstAchiever act l (step relaxed (act j) s) v d ]) (newly act i (run act relaxed l (step relaxed (act j) s)) v d)
       go true e = refl

@@ -9,6 +9,7 @@ use mathlib.Core.List.{List, [], _∷_}
 use Prim.Native.Nat.{ℕ, _+_, _/_, _%_, _<_, _≤_}
 use lib.Dec.{T, eqb}
 use lib.ListN.{length, getD, set}
+use Rattle.planning.specs.Record.{Action}
 use Rattle.planning.specs.Runs.{State, has, holds, actions, act}
 use Rattle.task.specs.Task.{preAt, effAt, taskIn}
 use Rattle.state.specs.Sets.{inSet, setsOf}
@@ -125,3 +126,8 @@ pub record Noted (s : State) (effects : State) (i : ℕ) (first first′ : List 
   pub long : length first′ ≡ 4096
   pub noted : (f : ℕ) → f < 4096 → T (reaches effects f) → reaches s f ≡ false → getD first′ f 0 ≡ i
   pub kept : (f : ℕ) → f < 4096 → (T (reaches effects f) → T (reaches s f)) → getD first′ f 0 ≡ getD first f 0
+
+-- the effects of a are noted, and new says whether one was not reached
+pub record Notes (s : State) (a : Action) (i : ℕ) (first first′ : List ℕ) (new : Bool) : Type 0 where
+  pub adds : new ≡ not (holds s (a .eff))
+  pub noted : Noted s (has (a .eff)) i first first′

@@ -5,18 +5,17 @@ use answers::Refusal;
 use state::Goals;
 use state::State;
 ghost use mathlib.Core.Path.{_≡_};
-ghost use mathlib.Core.Bool.{not};
 ghost use mathlib.Core.List.{[]};
 ghost use mathlib.Core.Option.{none};
-ghost use Prim.Native.Nat.{ℕ, _+_, _<_, _≤_};
-ghost use lib.ListN.{length, getD, set, replicate};
+ghost use Prim.Native.Nat.{ℕ, _<_, _≤_};
+ghost use lib.ListN.{length, getD, replicate};
 ghost use lib.Dec.{T};
-ghost use Rattle.planning.specs.Record.{taskOf, recordCheck};
-ghost use Rattle.planning.specs.Runs.{has, holds, actions, act};
+ghost use Rattle.planning.specs.Record.{recordCheck};
+ghost use Rattle.planning.specs.Runs.{has, actions, act};
 ghost use Rattle.planning.specs.Calls.{forwardCall, forwardList};
 ghost use Rattle.task.specs.Task.{factsIn, taskIn, Loaded};
 ghost use Rattle.state.specs.Sets.{setsOf};
-ghost use Rattle.forward.specs.Waiting.{Unmet, member, LowestIn, Lowest, With, Without, hung, placeAt, Looked, Settles, Sites, Settled, Noted};
+ghost use Rattle.forward.specs.Waiting.{Unmet, member, LowestIn, Lowest, With, Without, hung, placeAt, Looked, Settles, Sites, Settled, Notes};
 ghost use Rattle.forward.specs.Running.{RanOf, Looping};
 ghost use Rattle.forward.specs.Answers.{foundOf, forwardOf, forwardIn};
 
@@ -74,7 +73,9 @@ fn unmark(ready: &mut [u64; 16], i: usize)
 // What waits: for each fact the head of its chain of actions, 4,096; from LINK on each action's next on its chain; from PLACE on
 // the place of the precondition that it waits for.
 const LINK: usize = 4096;
+
 const PLACE: usize = 5120;
+
 const ALL: usize = 6144;
 
 // Action j hangs on the chain of fact f, in front.
@@ -147,7 +148,7 @@ fn wake(sets: &[u64; 64], task: &[u16], work: &mut [u16; ALL], ready: &mut [u64;
 // Action i is the first to reach those of its effects that are not in the state. True if there is one.
 fn note(sets: &[u64; 64], task: &[u16], i: usize, first: &mut [u16; 4096]) -> bool
     requires { ⌜ Loaded (now task) × (i < actions (taskIn (now task))) × (length (now first) ≡ 4096) ⌝ }
-    ensures { λ r. ⌜ (r ≡ not (holds (setsOf (now (sets .entry))) (act (taskIn (now (task .entry))) i .eff))) × Noted (setsOf (now (sets .entry))) (has (act (taskIn (now (task .entry))) i .eff)) i (now (first .entry)) (now (first .exit)) ⌝ }
+    ensures { λ r. ⌜ Notes (setsOf (now (sets .entry))) (act (taskIn (now (task .entry))) i) i (now (first .entry)) (now (first .exit)) r ⌝ }
 {
     let to = task::eff_end(task, i);
     let mut k = task::eff_start(task, i);

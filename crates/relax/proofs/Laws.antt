@@ -1,7 +1,7 @@
 -- The loops of the relaxed plan: facts that join sets, the test whether an action is kept, and the way back over the run.
 use mathlib.Core.Path.{_≡_, refl, sym, ap, _∙_, subst, fun-ext}
 use mathlib.Core.Logic.{_≢_}
-use mathlib.Core.Bool.{Bool, true, false, _&&_, _||_}
+use mathlib.Core.Bool.{Bool, true, false, _&&_, _||_, or-comm}
 use mathlib.Core.List.{List, [], _∷_}
 use mathlib.Core.Option.{Option, none, some}
 use Prim.Native.Nat.{ℕ, zero, suc, _+_, _-_, _*_, _/_, _%_, _^_, _<_, _≤_}
@@ -20,9 +20,10 @@ use Rattle.planning.proofs.Tests.{or-l, or-r, and-i}
 use Rattle.planning.proofs.Steps.{All}
 use Rattle.planning.proofs.Formed.{Formed, sorted-has}
 use Rattle.planning.proofs.Forward.{forwardRun-ran}
-use Rattle.task.specs.Task.{factOf, factsIn, taskIn}
+use Rattle.task.specs.Task.{factOf, factsIn, preAt, effAt, actionIn, taskIn}
 use Rattle.state.specs.Sets.{inSet, setsOf}
 use Rattle.state.proofs.Members.{inSet-or, inSet-single}
+use Rattle.state.proofs.Listed.{Listed}
 use Rattle.state.proofs.Effects.{factsIn-cons, factsIn-none}
 use Rattle.forward.specs.Running.{achiever, Achieved}
 use Rattle.relax.specs.Keeping.{Joined, byOf, Replay, Keeping}
@@ -33,14 +34,11 @@ module _ (ms : List ℕ) (f w : ℕ) (n : length ms ≡ 64) (b : f < 4096) (e : 
   unfolding setsOf
   setsOf-add v d = go (ℕ-discrete v (f / 64))
     where
-      swap : (p q : Bool) → (p || q) ≡ (q || p)
-      swap true true = refl
-      swap true false = refl
-      swap false true = refl
-      swap false false = refl
-
       go : Dec (v ≡ f / 64) → inSet (getD (set ms (f / 64) w) v 0) d ≡ ((eqb v (f / 64) && eqb d (f % 64)) || inSet (getD ms v 0) d)
-      go (yes q) = rw (q, getD-set-same ms (f / 64) w 0 (omega arith), e, eq-eqb (f / 64) (f / 64) refl, inSet-or (getD ms (f / 64) 0) (2 ^ (f % 64)) d, inSet-single (f % 64) d) (swap (inSet (getD ms (f / 64) 0) d) (eqb d (f % 64)))
+      go (yes q) =
+          let old = getD ms (f / 64) 0 in
+          rw (q, getD-set-same ms (f / 64) w 0 (omega arith), e, eq-eqb (f / 64) (f / 64) refl, inSet-or old (2 ^ (f % 64)) d, inSet-single (f % 64) d)
+          (or-comm (inSet old d) (eqb d (f % 64)))
       go (no q) = rw (getD-set-other ms (f / 64) v w 0 q, ne-eqb v (f / 64) q) refl
 
 -- the facts from place k on are still to join the sets
@@ -51,13 +49,15 @@ pub record Adding (facts : List ℕ) (a b : ℕ) (ms₀ ms : List ℕ) (k : ℕ)
   pub so-far : (v d : ℕ) → (has (factsIn facts a b) v d || setsOf ms₀ v d) ≡ (has (factsIn facts k b) v d || setsOf ms v d)
 
 module _ (facts : List ℕ) (a b : ℕ) (q : b ≤ length facts) (ms₀ : List ℕ) where
-  pub adding-turn : (ms : List ℕ) (k f w : ℕ) → Adding facts a b ms₀ ms k → k < b → f ≡ getD facts k 0 → f < 4096 → w ≡ bitOr (getD ms (f / 64) 0) (2 ^ (f % 64)) → Adding facts a b ms₀ (set ms (f / 64) w) (k + 1)
+  pub adding-turn : (ms : List ℕ) (k f w : ℕ) → Adding facts a b ms₀ ms k → k < b → f ≡ getD facts k 0 → f < 4096 → w ≡ bitOr (getD ms (f / 64) 0) (2 ^ (f % 64))
+      → Adding facts a b ms₀ (set ms (f / 64) w) (k + 1)
   unfolding has factOf
   adding-turn ms k f w A h e g ew = record {
     from = omega (arith, A .from);
     to = omega arith;
     long = simp length-set (A .long);
-    so-far = λ v d. A .so-far v d ∙ rw (factsIn-cons facts k b h q, setsOf-add ms f w (A .long) g ew v d, e) (turn (eqb v (getD facts k 0 / 64) && eqb d (getD facts k 0 % 64)) (has (factsIn facts (k + 1) b) v d) (setsOf ms v d));
+    so-far = λ v d. A .so-far v d ∙ rw (factsIn-cons facts k b h q, setsOf-add ms f w (A .long) g ew v d, e)
+        (turn (eqb v (getD facts k 0 / 64) && eqb d (getD facts k 0 % 64)) (has (factsIn facts (k + 1) b) v d) (setsOf ms v d));
   }
     where
       turn : (x h s : Bool) → ((x || h) || s) ≡ (h || (x || s))
@@ -70,6 +70,12 @@ module _ (facts : List ℕ) (a b : ℕ) (q : b ≤ length facts) (ms₀ : List �
   unfolding has
   adding-end ms k A h = record { long = A .long; are = λ v d. sym (A .so-far v d ∙ rw (factsIn-none facts k b (omega (arith, A .to))) refl) }
 
+-- the preconditions of action i, by their places
+pub joined-pre : (task : List ℕ) (i a b : ℕ) (before after : List ℕ) → Listed task i → Joined (has (factsIn task a b)) before after → a ≡ preAt task i → b ≡ effAt task i
+    → Joined (has (act (taskIn task) i .pre)) before after
+unfolding actionIn
+joined-pre task i a b before after L J ea eb = subst (λ (x : Action). Joined (has (x .pre)) before after) (L .states) (rw (ea, eb) at J)
+
 -- the test of one effect, and of each
 module _ (fst : List ℕ) (N : State) (i f : ℕ) where
   pub needed-not : i ≢ getD fst f 0 → false ≡ (is i (byOf fst (f / 64) (f % 64)) && N (f / 64) (f % 64))
@@ -80,28 +86,31 @@ module _ (fst : List ℕ) (N : State) (i f : ℕ) where
   unfolding is byOf
   needed-is q = let e : 64 * (f / 64) + f % 64 ≡ f = omega arith in rw (e, eq-eqb i (getD fst f 0) q) refl
 
-module _ (by : ℕ → ℕ → Option ℕ) (N : State) (i : ℕ) (table : List ℕ) (k b : ℕ) (h : k < b) (q : b ≤ length table) (f : ℕ) (e : f ≡ getD table k 0) where
-  reachedNeeded-cons : reachedNeeded by N i (factsIn table k b) ≡ ((is i (by (f / 64) (f % 64)) && N (f / 64) (f % 64)) || reachedNeeded by N i (factsIn table (k + 1) b))
+module _ (by : ℕ → ℕ → Option ℕ) (N : State) (i : ℕ) (task : List ℕ) (k b : ℕ) (h : k < b) (o : b ≤ length task) (f : ℕ) (e : f ≡ getD task k 0) where
+  reachedNeeded-cons : reachedNeeded by N i (factsIn task k b) ≡ ((is i (by (f / 64) (f % 64)) && N (f / 64) (f % 64)) || reachedNeeded by N i (factsIn task (k + 1) b))
   unfolding reachedNeeded factOf
-  reachedNeeded-cons = rw (factsIn-cons table k b h q, e) refl
+  reachedNeeded-cons = rw (factsIn-cons task k b h o, e) refl
 
-  pub reachedNeeded-hit : true ≡ (is i (by (f / 64) (f % 64)) && N (f / 64) (f % 64)) → true ≡ reachedNeeded by N i (factsIn table k b)
-  reachedNeeded-hit t = sym (reachedNeeded-cons ∙ rw (← t) refl)
+  module _ (r : Bool) (q : r ≡ (is i (by (f / 64) (f % 64)) && N (f / 64) (f % 64))) where
+    pub reachedNeeded-hit : r ≡ true → true ≡ reachedNeeded by N i (factsIn task k b)
+    reachedNeeded-hit t = sym (reachedNeeded-cons ∙ rw (← q, t) refl)
 
-  pub reachedNeeded-miss : false ≡ (is i (by (f / 64) (f % 64)) && N (f / 64) (f % 64)) → reachedNeeded by N i (factsIn table k b) ≡ reachedNeeded by N i (factsIn table (k + 1) b)
-  reachedNeeded-miss t = reachedNeeded-cons ∙ rw (← t) refl
+    pub reachedNeeded-miss : r ≡ false → reachedNeeded by N i (factsIn task k b) ≡ reachedNeeded by N i (factsIn task (k + 1) b)
+    reachedNeeded-miss t = reachedNeeded-cons ∙ rw (← q, t) refl
 
-pub reachedNeeded-end : (by : ℕ → ℕ → Option ℕ) (N : State) (i : ℕ) (table : List ℕ) (k b : ℕ) → k ≡ b → false ≡ reachedNeeded by N i (factsIn table k b)
+pub reachedNeeded-end : (by : ℕ → ℕ → Option ℕ) (N : State) (i : ℕ) (task : List ℕ) (k b : ℕ) → k ≡ b → false ≡ reachedNeeded by N i (factsIn task k b)
 unfolding reachedNeeded
-reachedNeeded-end by N i table k b e = rw (factsIn-none table k b e) refl
+reachedNeeded-end by N i task k b e = rw (factsIn-none task k b e) refl
 
 -- the test depends on the first achievers of the effects only
-reachedNeeded-same : (by by′ : ℕ → ℕ → Option ℕ) (N : State) (i : ℕ) (fs : List Fact) → ((v d : ℕ) → T (has fs v d) → is i (by v d) ≡ is i (by′ v d)) → reachedNeeded by N i fs ≡ reachedNeeded by′ N i fs
+reachedNeeded-same : (by by′ : ℕ → ℕ → Option ℕ) (N : State) (i : ℕ) (fs : List Fact) → ((v d : ℕ) → T (has fs v d) → is i (by v d) ≡ is i (by′ v d))
+    → reachedNeeded by N i fs ≡ reachedNeeded by′ N i fs
 unfolding reachedNeeded has
 reachedNeeded-same by by′ N i [] h = refl
 reachedNeeded-same by by′ N i (f ∷ fs) h =
     rw (
-      h (f .var) (f .val) (or-l (eqb (f .var) (f .var) && eqb (f .val) (f .val)) (has fs (f .var) (f .val)) (and-i (eqb (f .var) (f .var)) (eqb (f .val) (f .val)) (eqb-refl (f .var)) (eqb-refl (f .val)))),
+      h (f .var) (f .val)
+          (or-l (eqb (f .var) (f .var) && eqb (f .val) (f .val)) (has fs (f .var) (f .val)) (and-i (eqb (f .var) (f .var)) (eqb (f .val) (f .val)) (eqb-refl (f .var)) (eqb-refl (f .val)))),
       reachedNeeded-same by by′ N i fs (λ v d t. h v d (or-r (eqb v (f .var) && eqb d (f .val)) (has fs v d) t)),
     ) refl
 
@@ -112,7 +121,8 @@ is-achiever i (some j) b = refl
 
 -- one step back over the run
 module _ (act : ℕ → Action) (by : ℕ → ℕ → Option ℕ) (goal : List Fact) (i : ℕ) (l : List ℕ) where
-  keep-yes : reachedNeeded by (keep act by goal l .needed) i (act i .eff) ≡ true → (keep act by goal (i ∷ l) .actions′ ≡ i ∷ keep act by goal l .actions′) × (keep act by goal (i ∷ l) .needed ≡ (λ v d. has (act i .pre) v d || keep act by goal l .needed v d))
+  keep-yes : reachedNeeded by (keep act by goal l .needed) i (act i .eff) ≡ true
+      → (keep act by goal (i ∷ l) .actions′ ≡ i ∷ keep act by goal l .actions′) × (keep act by goal (i ∷ l) .needed ≡ (λ v d. has (act i .pre) v d || keep act by goal l .needed v d))
   unfolding keep
   keep-yes e = (rw (e, keep) refl, rw (e, keep) refl)
 

@@ -242,6 +242,7 @@ fn load_variables(bytes: &[u8], task: &mut [u16], n: usize, count: usize)
 
 // Lengths of a list for a loaded task: one for the short records, one for every record.
 pub const SHORT: usize = 9280;
+
 pub const LONG: usize = 40260;
 
 // A list of SHORT numbers is enough for the record; for any other one of LONG is.

@@ -4,6 +4,7 @@ use native.Mathlib.Omega.{arith}
 use Rattle.forward.proofs.lowest.Statement.{statement}
 use Rattle.forward.proofs.lowest.Tie as tie
 
+-- The sets before place w are empty, so the first that is not holds the lowest member.
 abbrev Inv-loop : tie.InvT-loop
 Inv-loop ready w₀ w = Searching ready w
 

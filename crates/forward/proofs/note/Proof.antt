@@ -1,21 +1,20 @@
 use borrow.Author.Needs.{needs}
 use mathlib.Core.Path.{_≡_, sym, _∙_, subst}
-use mathlib.Core.Bool.{not}
 use mathlib.Core.Logic.{⊎-elim}
 use Prim.Native.Nat.{_-_, _<_}
 use native.Mathlib.Omega.{arith}
 use borrow.Author.Tests.{not-true, not-false}
 use Rattle.planning.specs.Record.{Action}
-use Rattle.planning.specs.Runs.{has, holds}
 use Rattle.task.specs.Task.{effAt, endAt, actionIn}
 use Rattle.state.specs.Sets.{setsOf}
 use Rattle.state.proofs.Listed.{Listed}
 use Rattle.state.proofs.Listing.{loaded-listed}
-use Rattle.forward.specs.Waiting.{Noted}
+use Rattle.forward.specs.Waiting.{Notes}
 use Rattle.forward.proofs.Places.{Noting, noting-start, noting-new, noting-old, noting-end, noting-answer}
 use Rattle.forward.proofs.note.Statement.{statement}
 use Rattle.forward.proofs.note.Tie as tie
 
+-- The effects before place k are noted where they were not reached, and `new` says whether there was one.
 abbrev Inv-loop : tie.InvT-loop
 Inv-loop sets task i first₀ to k₀ new₀ first k new = (to ≡ endAt task i) × Noting (setsOf sets) task (effAt task i) (endAt task i) i first₀ first k new
 
@@ -81,9 +80,9 @@ loop-again c =
     let h = c .before .holds .ensures in (
       I .0,
       ⊎-elim
-      (λ q. noting-new _ _ _ _ _ _ _ _ _ _ (I .1) (omega (arith, I .0)) (at-wide .wide .ensures) (small at-wide) (sym h ∙ not-true _ (q .0 .taken)) _ _ (q .1) (q .2))
-      (λ q. noting-old _ _ _ _ _ _ _ _ _ _ (I .1) (omega (arith, I .0)) (at-wide .wide .ensures) (sym h ∙ not-false _ (q .0 .left)) _ _ (q .1) (q .2))
-      (c .if1 .came),
+          (λ q. noting-new _ _ _ _ _ _ _ _ _ _ (I .1) (omega (arith, I .0)) (at-wide .wide .ensures) (small at-wide) (sym h ∙ not-true _ (q .0 .taken)) _ _ (q .1) (q .2))
+          (λ q. noting-old _ _ _ _ _ _ _ _ _ _ (I .1) (omega (arith, I .0)) (at-wide .wide .ensures) (sym h ∙ not-false _ (q .0 .left)) _ _ (q .1) (q .2))
+          (c .if1 .came),
     )
 
 returns : tie.Need-returns Inv-loop μ-loop
@@ -92,8 +91,10 @@ returns c =
     let I = c .before .loop .inv in
     let L = listed (c .before) in
     let a = start (c .before) .args in
-    subst (λ (x : Action). (c .before .loop .new ≡ not (holds (setsOf (a .sets .now)) (x .eff))) × Noted (setsOf (a .sets .now)) (has (x .eff)) (a .i) (a .first .now) (c .before .loop .first)) (L .states)
-    (noting-answer _ _ _ _ _ _ _ _ _ (I .1) (omega (arith, I .0)) (L .end-below), noting-end _ _ _ _ _ _ _ _ _ (I .1) (omega (arith, I .0)) (L .end-below))
+    subst (λ (x : Action). Notes (setsOf (a .sets .now)) x (a .i) (a .first .now) (c .before .loop .first) (c .before .loop .new)) (L .states) (record {
+      adds = noting-answer _ _ _ _ _ _ _ _ _ (I .1) (omega (arith, I .0)) (L .end-below);
+      noted = noting-end _ _ _ _ _ _ _ _ _ (I .1) (omega (arith, I .0)) (L .end-below);
+    })
 
 pub note-spec : {M : Type 1} → statement M
 note-spec =

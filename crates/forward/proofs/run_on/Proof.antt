@@ -76,11 +76,11 @@ note-requires c κs =
 -- what the answer of the noting says
 fresh : (c : tie.Then3 Inv-loop μ-loop) → let at-note = c .before in let head = note-to-head at-note in
     holds (setsOf (head .loop .s .sets)) (act (taskIn (head .before .before .args .task .now)) (unmark-to-lowest (note-to-unmark at-note) .lowest .result) .eff) ≡ false
-fresh c = not-true _ (sym (c .before .note .ensures .0) ∙ c .if3 .taken)
+fresh c = not-true _ (sym (c .before .note .ensures .adds) ∙ c .if3 .taken)
 
 stale : (c : tie.Else3 Inv-loop μ-loop) → let at-note = c .before in let head = note-to-head at-note in
     holds (setsOf (head .loop .s .sets)) (act (taskIn (head .before .before .args .task .now)) (unmark-to-lowest (note-to-unmark at-note) .lowest .result) .eff) ≡ true
-stale c = not-false _ (sym (c .before .note .ensures .0) ∙ c .if3 .left)
+stale c = not-false _ (sym (c .before .note .ensures .adds) ∙ c .if3 .left)
 
 room : (c : tie.Then3 Inv-loop μ-loop) → note-to-head (c .before) .loop .steps < 1024
 room c =
@@ -88,7 +88,7 @@ room c =
     let at-lowest = unmark-to-lowest at-unmark in
     let at-unmet = lowest-to-unmet at-lowest in
     take-room (unmet-to-head at-unmet .loop .inv) (at-unmet .unmet .ensures) (at-lowest .before .before .if1 .left) (at-lowest .lowest .ensures) (omega arith)
-    (at-unmark .unmark .ensures) (c .before .note .ensures .1) (fresh c)
+    (at-unmark .unmark .ensures) (c .before .note .ensures .noted) (fresh c)
 
 cast-plan : tie.Need-cast-plan Inv-loop μ-loop
 cast-plan c = record { fits = omega arith }
@@ -122,7 +122,7 @@ wake-requires c κs =
     let W = at-lowest .lowest .ensures in (
       I .loaded,
       chosen-below I U o W (omega arith),
-      take-sites I U o W (omega arith) (at-unmark .unmark .ensures) (step-to-note at-step .note .ensures .1) (fresh (at-step .before)) _ (at-step .step .ensures),
+      take-sites I U o W (omega arith) (at-unmark .unmark .ensures) (step-to-note at-step .note .ensures .noted) (fresh (at-step .before)) _ (at-step .step .ensures),
     )
 
 loop-less : tie.Need-loop-less Inv-loop μ-loop
@@ -132,7 +132,7 @@ loop-less c =
     let at-lowest = unmark-to-lowest at-unmark in
     let at-unmet = lowest-to-unmet at-lowest in
     take-less (unmet-to-head at-unmet .loop .inv) (at-unmet .unmet .ensures) (at-lowest .before .before .if1 .left) (at-lowest .lowest .ensures) (omega arith)
-    (at-unmark .unmark .ensures) (step-to-note at-step .note .ensures .1) (fresh (at-step .before)) _ (at-step .step .ensures) (c .wake .ensures)
+    (at-unmark .unmark .ensures) (step-to-note at-step .note .ensures .noted) (fresh (at-step .before)) _ (at-step .step .ensures) (c .wake .ensures)
 
 loop-again : tie.Need-loop-again Inv-loop μ-loop
 loop-again c =
@@ -141,7 +141,7 @@ loop-again c =
     let at-lowest = unmark-to-lowest at-unmark in
     let at-unmet = lowest-to-unmet at-lowest in
     looping-take (unmet-to-head at-unmet .loop .inv) (at-unmet .unmet .ensures) (at-lowest .before .before .if1 .left) (at-lowest .lowest .ensures) (omega arith)
-    (at-unmark .unmark .ensures) (step-to-note at-step .note .ensures .1) (fresh (at-step .before)) _ (at-step .step .ensures) (c .wake .ensures)
+    (at-unmark .unmark .ensures) (step-to-note at-step .note .ensures .noted) (fresh (at-step .before)) _ (at-step .step .ensures) (c .wake .ensures)
 
 loop-less-2 : tie.Need-loop-less-2 Inv-loop μ-loop
 loop-less-2 c =
@@ -149,7 +149,7 @@ loop-less-2 c =
     let at-lowest = unmark-to-lowest at-unmark in
     let at-unmet = lowest-to-unmet at-lowest in
     drop-less (unmet-to-head at-unmet .loop .inv) (at-unmet .unmet .ensures) (at-lowest .before .before .if1 .left) (at-lowest .lowest .ensures) (omega arith)
-    (at-unmark .unmark .ensures) (c .before .note .ensures .1) (stale c)
+    (at-unmark .unmark .ensures) (c .before .note .ensures .noted) (stale c)
 
 loop-again-2 : tie.Need-loop-again-2 Inv-loop μ-loop
 loop-again-2 c =
@@ -157,7 +157,7 @@ loop-again-2 c =
     let at-lowest = unmark-to-lowest at-unmark in
     let at-unmet = lowest-to-unmet at-lowest in
     looping-drop (unmet-to-head at-unmet .loop .inv) (at-unmet .unmet .ensures) (at-lowest .before .before .if1 .left) (at-lowest .lowest .ensures) (omega arith)
-    (at-unmark .unmark .ensures) (c .before .note .ensures .1) (stale c)
+    (at-unmark .unmark .ensures) (c .before .note .ensures .noted) (stale c)
 
 pub run-on-spec : {M : Type 1} → statement M
 run-on-spec =

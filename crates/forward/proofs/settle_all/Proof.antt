@@ -8,6 +8,7 @@ use Rattle.forward.proofs.Chains.{sites-ended, sites-spent, front, site
 use Rattle.forward.proofs.settle_all.Statement.{statement}
 use Rattle.forward.proofs.settle_all.Tie as tie
 
+-- Each turn takes the front action off the chain that is left and settles it; a chain has at most 1,024 actions.
 abbrev Inv-loop : tie.InvT-loop
 Inv-loop sets task work₀ ready₀ h from to j₀ left₀ work ready j left =
     Sites task (actions (taskIn task)) (setsOf sets) (has (factsIn task from to)) work ready j left

@@ -15,6 +15,7 @@ use Rattle.forward.proofs.Chains.{sites-off}
 use Rattle.forward.proofs.wake.Statement.{statement}
 use Rattle.forward.proofs.wake.Tie as tie
 
+-- The chains of the effects from place k on are still owed; a turn takes one of them off and settles its actions.
 abbrev Inv-loop : tie.InvT-loop
 Inv-loop sets task work₀ ready₀ i to k₀ work ready k = (to ≡ endAt task i) × (effAt task i ≤ k) × (k ≤ to) × Settled task (setsOf sets) (has (factsIn task k to)) work ready
 

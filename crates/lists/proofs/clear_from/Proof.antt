@@ -8,6 +8,7 @@ use lib.ListN.{length-set, length, take, drop, replicate}
 use Rattle.lists.proofs.clear_from.Statement.{statement}
 use Rattle.lists.proofs.clear_from.Tie as tie
 
+-- The entries from k up to i are 0, and the rest is as it was.
 abbrev Inv-loop : tie.InvT-loop
 Inv-loop d₀ k i₀ d i = (k ≤ i) × (i ≤ max k (length d₀)) × (length d ≡ length d₀) × (d ≡ take k d₀ ++ (replicate (i - k) 0 ++ drop i d₀))
 
@@ -27,7 +28,10 @@ loop-less : tie.Need-loop-less Inv-loop μ-loop
 loop-less c = search needs
 
 loop-again : tie.Need-loop-again Inv-loop μ-loop
-loop-again c = (omega arith, omega arith, simp length-set (omega arith), rw (c .before .loop .inv .3) (from-more (c .before .before .args .d .now) (c .before .before .args .k) (c .before .loop .i) 0 (omega arith) (omega arith)))
+loop-again c =
+    let a = c .before .before .args in
+    let h = c .before .loop in
+    (omega arith, omega arith, simp length-set (omega arith), rw (h .inv .3) (from-more (a .d .now) (a .k) (h .i) 0 (omega arith) (omega arith)))
 
 same-length : tie.Need-same-length Inv-loop μ-loop
 same-length c = search needs

@@ -8,6 +8,7 @@ use lib.ListN.{length, take, drop}
 use Rattle.lists.proofs.copy.Statement.{statement}
 use Rattle.lists.proofs.copy.Tie as tie
 
+-- The first k entries are copied, and the rest is as it was.
 abbrev Inv-loop : tie.InvT-loop
 Inv-loop from to₀ k₀ to k = (k ≤ length from) × (length to ≡ length to₀) × (to ≡ take k from ++ drop k to₀)
 
@@ -36,7 +37,10 @@ loop-less : tie.Need-loop-less Inv-loop μ-loop
 loop-less c = omega arith
 
 loop-again : tie.Need-loop-again Inv-loop μ-loop
-loop-again c = let a = c .before .before .before .args in let I = c .before .before .loop .inv in (omega arith, simp length-set (I .1), rw (I .2) (copy-turn (a .to .now) (a .from .now) (c .before .before .loop .k) (omega arith) (omega arith)))
+loop-again c =
+    let a = c .before .before .before .args in
+    let h = c .before .before .loop in
+    (omega arith, simp length-set (h .inv .1), rw (h .inv .2) (copy-turn (a .to .now) (a .from .now) (h .k) (omega arith) (omega arith)))
 
 same-length : tie.Need-same-length Inv-loop μ-loop
 same-length c = omega arith

@@ -46,7 +46,8 @@ returns-2 c =
     let at-start = at-capacity .before .before .before in
     let a = at-start .args in
     let e = at-capacity .capacity .ensures in
-    (sym (room-fits (length (a .list .now)) _ (omega (arith, e))), c .before .before .blank-from .ensures ∙ laid-whole (a .list .now) (a .plan .now) _ e (at-copy .before .before .if1 .left) _ (at-copy .copy .ensures))
+    let whole = laid-whole (a .list .now) (a .plan .now) _ e (at-copy .before .before .if1 .left) _ (at-copy .copy .ensures) in
+    (sym (room-fits (length (a .list .now)) _ (omega (arith, e))), c .before .before .blank-from .ensures ∙ whole)
 
 pub lay-spec : {M : Type 1} → statement M
 lay-spec =

@@ -1,11 +1,7 @@
-use mathlib.Core.Path.{subst}
 use native.Mathlib.Omega.{arith}
 use borrow.Author.Needs.{needs}
-use Rattle.planning.specs.Record.{Action}
-use Rattle.planning.specs.Runs.{has}
-use Rattle.task.specs.Task.{actionIn}
 use Rattle.state.proofs.Listing.{loaded-listed}
-use Rattle.relax.specs.Keeping.{Joined}
+use Rattle.relax.proofs.Laws.{joined-pre}
 use Rattle.relax.proofs.add_preconditions.Statement.{statement}
 use Rattle.relax.proofs.add_preconditions.Tie as tie
 
@@ -29,14 +25,12 @@ add-facts-requires c κs =
     )
 
 returns : tie.Need-returns
-unfolding actionIn
 returns c =
     let at-eff-start = c .before .before in
-    let at-start = at-eff-start .before .before .before in
-    let a = at-start .args in
-    let p = at-start .pre in
-    let J = rw (at-eff-start .before .pre-start .ensures, at-eff-start .eff-start .ensures) at (c .add-facts .ensures) in
-    subst (λ (x : Action). Joined (has (x .pre)) (a .sets .now) (c .add-facts .last .0)) (loaded-listed _ (p .0) _ (p .1) .states) J
+    let from = at-eff-start .before .pre-start .ensures in
+    let to = at-eff-start .eff-start .ensures in
+    let p = at-eff-start .before .before .before .pre in
+    joined-pre _ _ _ _ _ _ (loaded-listed _ (p .0) _ (p .1)) (c .add-facts .ensures) (omega (arith, from, to)) (omega (arith, from, to))
 
 pub add-preconditions-spec : {M : Type 1} → statement M
 add-preconditions-spec =

@@ -21,7 +21,9 @@ holds-requires : tie.Need-holds-requires
 holds-requires c κs = search needs
 
 returns-2 : tie.Need-returns-2
-returns-2 c = let a = c .before .before .before .before .args in c .holds .ensures ∙ needed-is (a .first .now) (setsOf (a .needed .now)) (a .i) (a .f) (c .before .if1 .left ∙ c .before .before .wide .ensures)
+returns-2 c =
+    let a = c .before .before .before .before .args in
+    c .holds .ensures ∙ needed-is (a .first .now) (setsOf (a .needed .now)) (a .i) (a .f) (c .before .if1 .left ∙ c .before .before .wide .ensures)
 
 pub first-needed-spec : {M : Type 1} → statement M
 first-needed-spec =

@@ -12,6 +12,7 @@ use Rattle.relax.proofs.Laws.{keeping-start, entry-below, keeping-no, k
 use Rattle.relax.proofs.keep_back.Statement.{statement}
 use Rattle.relax.proofs.keep_back.Tie as tie
 
+-- Of the run from place k on, the kept actions stand from place m on, and what they need is in the sets.
 abbrev Inv-loop : tie.InvT-loop
 Inv-loop task first run n needed₀ kept₀ k₀ m₀ needed kept k m = Keeping (taskIn task) n needed kept k m
 
