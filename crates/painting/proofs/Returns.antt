@@ -1,6 +1,6 @@
 -- Check 8 by chains and marks. An action with the move v = e gives arcs of v alone, since 7 passes; its arc from d has its
 -- return exactly if some action sets v = d and needs marked facts alone.
-use mathlib.Core.Path.{_≡_, refl, sym, ap, _∙_, subst}
+use mathlib.Core.Path.{_≡_, refl, sym, _∙_, subst}
 use mathlib.Core.Logic.{_⊎_, inl, inr, _≢_}
 use mathlib.Core.Bool.{Bool, true, false, not, _&&_}
 use mathlib.Core.List.{List, [], _∷_, _++_}
@@ -24,7 +24,7 @@ use Rattle.task.specs.Task.{taskIn}
 use Rattle.task.specs.Links.{headAt, nextAt, Next, Sets}
 use Rattle.state.specs.Sets.{Asked}
 use Rattle.graph.proofs.Searches.{both, false-not, some-same, some-found, some-lacks}
-use Rattle.painting.specs.Returns.{returnsBy, returned, unreturnedFrom, arcsBy, lacksBy, lacks, OnChain}
+use Rattle.painting.specs.Returns.{returnsBy, returned, unreturnedFrom, arcsBy, lacksBy, lacks, OnChain, InChain, Serves}
 use Rattle.painting.proofs.Chains.{NoMove}
 use Rattle.painting.proofs.Marks.{Small, Allows}
 
@@ -237,87 +237,98 @@ module _ (t : Task) (F : Formed t) where
       let o : T (black t v) = search (and-l, and-r) in
       absent v (target (act t) v i) o (arcFrom-elim (act t) v d i (pre-func i) a .into))))
 
--- one action: it sets v = d where the value that its effects ask of v is d
-module _ (t : Task) (F : Formed t) (m : State) (j v d x : ℕ) (q : Asked (look (act t j .eff) v) x) (b : d < 64) where
-  pub returns-unset : (x ≡ d → ⊥) → false ≡ returnsBy t m v d j
-  returns-unset n = sym (F→false (returnsBy t m v d j) (λ h.
-      let g = and-l (has (act t j .eff) v d) (holds m (act t j .pre)) h in
-      n (go (look (act t j .eff) v) (look-is (act t j .eff) v d (eff-func t F j) g (look (act t j .eff) v) refl) q)))
+-- an action is in the chain of v = d where the value that its effects ask of v is d
+pub asked-chain : (t : Task) (j v d x : ℕ) → Asked (look (act t j .eff) v) x → d < 64 → x ≡ d → j < actions t → InChain t v d j
+asked-chain t j v d x q b e h = inr (h, go (look (act t j .eff) v) refl q)
+  where
+    go : (o : Option ℕ) → look (act t j .eff) v ≡ o → Asked o x → T (has (act t j .eff) v d)
+    go none y q = absurd (omega arith)
+    go (some z) y q = let k : z ≡ d = sym (q .0) ∙ e in look-some (act t j .eff) v d (y ∙ rw k refl)
+
+-- the chain of v = d, gone through from a up to action j
+pub record Chasing (t : Task) (m : State) (v d a j : ℕ) : Type 0 where
+  pub valid : (j ≡ 65535) ⊎ ((a ≤ j) × (j < actions t) × Sets t v d j)
+  pub passed : (k : ℕ) → a ≤ k → k < actions t → k < j → T (returnsBy t m v d k) → ⊥
+
+pub chasing-start : (t : Task) (m : State) (v d j : ℕ) → InChain t v d j → Chasing t m v d j j
+chasing-start t m v d j h = record {
+  valid = elim h [ inl q ↦ inl q | inr q ↦ inr (omega arith, q .0, q .1) ];
+  passed = λ k a b l _. omega arith;
+}
+
+module _ (task : List ℕ) (f : ℕ) (O : OnChain task f) (m : State) (a j : ℕ) (J : Chasing (taskIn task) m (f / 64) (f % 64) a j) where
+  pub chasing-at : (j ≡ 65535 → ⊥) → (a ≤ j) × (j < actions (taskIn task)) × Sets (taskIn task) (f / 64) (f % 64) j
+  chasing-at n = elim (J .valid) [ inl q ↦ absurd (n q) | inr q ↦ q ]
+
+  pub chasing-near : (j ≡ 65535 → ⊥) → j < 1024
+  chasing-near n = omega (arith, chasing-at n .1, O .loaded .formed .actions-max)
+
+  pub chasing-turn : (j ≡ 65535 → ⊥) → (x : ℕ) → x ≡ nextAt task j → holds m (act (taskIn task) j .pre) ≡ false → Chasing (taskIn task) m (f / 64) (f % 64) a x × (j < x)
+  chasing-turn n x e z = (
+    record {
+      valid = elim (N .found) [ inl q ↦ inl q | inr q ↦ inr (omega (arith, chasing-at n .0, q .0), q .1, q .2) ];
+      passed = λ k l b h. go k l b h (ℕ-discrete k j) (decLt k j);
+    },
+    elim (N .found) [ inl q ↦ omega (arith, chasing-near n) | inr q ↦ omega (arith, q .0) ],
+  )
     where
-      go : (o : Option ℕ) → o ≡ some d → Asked o x → x ≡ d
-      go o e q = (rw e at q) .0
+      N : Next (actions (taskIn task)) (Sets (taskIn task) (f / 64) (f % 64)) (j + 1) x
+      N = subst (Next (actions (taskIn task)) (Sets (taskIn task) (f / 64) (f % 64)) (j + 1)) (sym e)
+          (O .chained .links (f / 64) (f % 64) j (O .on) (chasing-at n .1) (chasing-at n .2))
 
-  pub returns-set : x ≡ d → returnsBy t m v d j ≡ holds m (act t j .pre)
-  returns-set e = rw (T→true (has (act t j .eff) v d) (go (look (act t j .eff) v) refl q)) refl
-    where
-      go : (o : Option ℕ) → look (act t j .eff) v ≡ o → Asked o x → T (has (act t j .eff) v d)
-      go none y q = absurd (omega arith)
-      go (some z) y q = let k : z ≡ d = sym (q .0) ∙ e in look-some (act t j .eff) v d (y ∙ rw k refl)
+      go : (k : ℕ) → a ≤ k → k < actions (taskIn task) → k < x → Dec (k ≡ j) → Dec (k < j) → T (returnsBy (taskIn task) m (f / 64) (f % 64) k) → ⊥
+      go k l b h (yes y) w r =
+          let p : T (holds m (act (taskIn task) k .pre)) = and-r (has (act (taskIn task) k .eff) (f / 64) (f % 64)) (holds m (act (taskIn task) k .pre)) r in
+          false-not (holds m (act (taskIn task) j .pre)) z (subst (λ (i : ℕ). T (holds m (act (taskIn task) i .pre))) y p)
+      go k l b h (no y) (yes w) r = J .passed k l b w r
+      go k l b h (no y) (no w) r = N .least k (omega arith) b h (and-l (has (act (taskIn task) k .eff) (f / 64) (f % 64)) (holds m (act (taskIn task) k .pre)) r)
 
--- the chain of v = d, gone through up to action j
-pub record Chasing (t : Task) (m : State) (v d j : ℕ) : Type 0 where
-  pub valid : (j ≡ 65535) ⊎ ((j < actions t) × Sets t v d j)
-  pub passed : (k : ℕ) → k < actions t → k < j → T (returnsBy t m v d k) → ⊥
+  pub chasing-hit : (j ≡ 65535 → ⊥) → holds m (act (taskIn task) j .pre) ≡ true → Next (actions (taskIn task)) (λ k. T (returnsBy (taskIn task) m (f / 64) (f % 64) k)) a j
+  chasing-hit n e =
+      let p = and-i (has (act (taskIn task) j .eff) (f / 64) (f % 64)) (holds m (act (taskIn task) j .pre)) (chasing-at n .2) (true→T (holds m (act (taskIn task) j .pre)) e) in
+      record { least = λ k l b h r. J .passed k l b h r; found = inr (chasing-at n .0, chasing-at n .1, p) }
 
-module _ (task : List ℕ) (f : ℕ) (O : OnChain task f) (m : State) where
-  pub chasing-start : (j : ℕ) → j ≡ headAt task f → Chasing (taskIn task) m (f / 64) (f % 64) j
-  chasing-start j e =
-      let q : f ≡ 64 * (f / 64) + f % 64 = omega arith in
-      let N : Next (actions (taskIn task)) (Sets (taskIn task) (f / 64) (f % 64)) 0 j =
-      subst (Next (actions (taskIn task)) (Sets (taskIn task) (f / 64) (f % 64)) 0) (sym (e ∙ ap (headAt task) q))
-      (O .chained .heads (f / 64) (f % 64) (omega (arith, O .small)) (omega arith) (O .on)) in
-      record {
-        valid = elim (N .found) [ inl q ↦ inl q | inr q ↦ inr (q .1, q .2) ];
-        passed = λ k b l h. N .least k (omega arith) b l (sets-of k h);
-      }
-    where
-      sets-of : (k : ℕ) → T (returnsBy (taskIn task) m (f / 64) (f % 64) k) → Sets (taskIn task) (f / 64) (f % 64) k
-      sets-of k h = and-l (has (act (taskIn task) k .eff) (f / 64) (f % 64)) (holds m (act (taskIn task) k .pre)) h
+  pub chasing-end : j ≡ 65535 → Next (actions (taskIn task)) (λ k. T (returnsBy (taskIn task) m (f / 64) (f % 64) k)) a j
+  chasing-end e = record { least = λ k l b h r. J .passed k l b h r; found = inl e }
 
-  module _ (j : ℕ) (J : Chasing (taskIn task) m (f / 64) (f % 64) j) where
-    pub chasing-at : (j ≡ 65535 → ⊥) → (j < actions (taskIn task)) × Sets (taskIn task) (f / 64) (f % 64) j
-    chasing-at n = elim (J .valid) [ inl q ↦ absurd (n q) | inr q ↦ q ]
+-- what is found from any action on serves
+pub next-serves : (t : Task) (m : State) (v d a j : ℕ) → Next (actions t) (λ k. T (returnsBy t m v d k)) a j → Serves t m v d j
+next-serves t m v d a j N = elim (N .found) [ inl q ↦ inl q | inr q ↦ inr (q .1, q .2) ]
 
-    pub chasing-turn : (j ≡ 65535 → ⊥) → (x : ℕ) → x ≡ nextAt task j → holds m (act (taskIn task) j .pre) ≡ false → Chasing (taskIn task) m (f / 64) (f % 64) x × (j < x)
-    chasing-turn n x e z = (
-      record { valid = elim (N .found) [ inl q ↦ inl q | inr q ↦ inr (q .1, q .2) ]; passed = λ k b l. go k b l (ℕ-discrete k j) (decLt k j) },
-      elim (N .found) [ inl q ↦ omega (arith, chasing-at n .0, O .loaded .formed .actions-max) | inr q ↦ omega (arith, q .0) ],
-    )
+module _ (task : List ℕ) (f : ℕ) (O : OnChain task f) where
+  head-next : Next (actions (taskIn task)) (Sets (taskIn task) (f / 64) (f % 64)) 0 (headAt task f)
+  head-next =
+      let q : 64 * (f / 64) + f % 64 ≡ f = omega arith in
+      subst (λ (g : ℕ). Next (actions (taskIn task)) (Sets (taskIn task) (f / 64) (f % 64)) 0 (headAt task g)) q
+      (O .chained .heads (f / 64) (f % 64) (omega (arith, O .small)) (omega arith) (O .on))
+
+  -- the head stands in its chain
+  pub head-chain : (h : ℕ) → h ≡ headAt task f → InChain (taskIn task) (f / 64) (f % 64) h
+  head-chain h e = rw e (elim (head-next .found) [ inl q ↦ inl q | inr q ↦ inr (q .1, q .2) ])
+
+  module _ (m : State) (j : ℕ) where
+    pub serves-near : Serves (taskIn task) m (f / 64) (f % 64) j → j < 65536
+    serves-near S = elim S [ inl q ↦ omega arith | inr q ↦ omega (arith, q .0, O .loaded .formed .actions-max) ]
+
+    -- whether one was found is whether there is one
+    pub served : Serves (taskIn task) m (f / 64) (f % 64) j → (j ≡ 65535 → ⊥) → not (eqb j 65535) ≡ returned (taskIn task) m (f / 64) (f % 64)
+    unfolding returned
+    served S n = elim S [
+      | inl q ↦ absurd (n q)
+      | inr q ↦ rw (ne-eqb j 65535 n) (sym (some-found (actions (taskIn task)) (returnsBy (taskIn task) m (f / 64) (f % 64)) j (q .0) (T→true (returnsBy (taskIn task) m (f / 64) (f % 64) j) (q .1))))
+    ]
+
+    pub served-first : (h : ℕ) → h ≡ headAt task f → Next (actions (taskIn task)) (λ k. T (returnsBy (taskIn task) m (f / 64) (f % 64) k)) h j
+        → not (eqb j 65535) ≡ returned (taskIn task) m (f / 64) (f % 64)
+    unfolding returned
+    served-first h e N = go (ℕ-discrete j 65535)
       where
-        N : Next (actions (taskIn task)) (Sets (taskIn task) (f / 64) (f % 64)) (j + 1) x
-        N = subst (Next (actions (taskIn task)) (Sets (taskIn task) (f / 64) (f % 64)) (j + 1)) (sym e) (O .chained .links (f / 64) (f % 64) j (O .on) (chasing-at n .0) (chasing-at n .1))
+        none-serves : j ≡ 65535 → (k : ℕ) → k < actions (taskIn task) → Dec (k < h) → T (returnsBy (taskIn task) m (f / 64) (f % 64) k) → ⊥
+        none-serves q k b (yes l) r =
+            head-next .least k (omega arith) b (omega arith) (and-l (has (act (taskIn task) k .eff) (f / 64) (f % 64)) (holds m (act (taskIn task) k .pre)) r)
+        none-serves q k b (no l) r = N .least k (omega arith) b (omega (arith, O .loaded .formed .actions-max)) r
 
-        go : (k : ℕ) → k < actions (taskIn task) → k < x → Dec (k ≡ j) → Dec (k < j) → T (returnsBy (taskIn task) m (f / 64) (f % 64) k) → ⊥
-        go k b l (yes y) w h = false-not (holds m (act (taskIn task) j .pre)) z
-            (subst (λ (i : ℕ). T (holds m (act (taskIn task) i .pre))) y (and-r (has (act (taskIn task) k .eff) (f / 64) (f % 64)) (holds m (act (taskIn task) k .pre)) h))
-        go k b l (no y) (yes w) h = J .passed k b w h
-        go k b l (no y) (no w) h = N .least k (omega arith) b l (and-l (has (act (taskIn task) k .eff) (f / 64) (f % 64)) (holds m (act (taskIn task) k .pre)) h)
-
-    pub chasing-hit : (j ≡ 65535 → ⊥) → holds m (act (taskIn task) j .pre) ≡ true → Next (actions (taskIn task)) (λ k. T (returnsBy (taskIn task) m (f / 64) (f % 64) k)) 0 j
-    chasing-hit n e = record {
-      least = λ k l b w h. J .passed k b w h;
-      found = inr (
-        omega arith,
-        chasing-at n .0,
-        and-i (has (act (taskIn task) j .eff) (f / 64) (f % 64)) (holds m (act (taskIn task) j .pre)) (chasing-at n .1) (true→T (holds m (act (taskIn task) j .pre)) e),
-      );
-    }
-
-    pub chasing-end : j ≡ 65535 → Next (actions (taskIn task)) (λ k. T (returnsBy (taskIn task) m (f / 64) (f % 64) k)) 0 j
-    chasing-end e = record { least = λ k l b w h. J .passed k b w h; found = inl e }
-
--- what is found is whether there is one
-module _ (t : Task) (m : State) (v d : ℕ) where
-  pub returned-by : (j : ℕ) → j < actions t → (r : Bool) → r ≡ returnsBy t m v d j → r ≡ true → true ≡ returned t m v d
-  unfolding returned
-  returned-by j b r e z = sym (some-found (actions t) (returnsBy t m v d) j b (sym e ∙ z))
-
-  pub returned-first : actions t ≤ 1024 → (j : ℕ) → Next (actions t) (λ k. T (returnsBy t m v d k)) 0 j → not (eqb j 65535) ≡ returned t m v d
-  unfolding returned
-  returned-first few j N = elim (N .found) [
-    | inl q ↦ rw (eq-eqb j 65535 q) (sym (some-lacks (actions t) (returnsBy t m v d) (λ k b. F→false (returnsBy t m v d k) (N .least k (omega arith) b (omega arith)))))
-    | inr q ↦ rw (ne-eqb j 65535 (λ z. omega (arith, q .1))) (sym (some-found (actions t) (returnsBy t m v d) j (q .1) (T→true (returnsBy t m v d j) (q .2))))
-  ]
-
-  pub first-near : actions t ≤ 1024 → (j : ℕ) → Next (actions t) (λ k. T (returnsBy t m v d k)) 0 j → j < 65536
-  first-near few j N = elim (N .found) [ inl q ↦ omega arith | inr q ↦ omega (arith, q .1) ]
+        go : Dec (j ≡ 65535) → not (eqb j 65535) ≡ someBelow (actions (taskIn task)) (returnsBy (taskIn task) m (f / 64) (f % 64))
+        go (no n) = served (next-serves (taskIn task) m (f / 64) (f % 64) h j N) n
+        go (yes q) = rw (eq-eqb j 65535 q)
+            (sym (some-lacks (actions (taskIn task)) (returnsBy (taskIn task) m (f / 64) (f % 64)) (λ k b. F→false (returnsBy (taskIn task) m (f / 64) (f % 64) k) (none-serves q k b (decLt k h)))))

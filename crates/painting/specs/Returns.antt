@@ -12,7 +12,7 @@ use Rattle.planning.specs.Record.{Fact, Task}
 use Rattle.planning.specs.Runs.{State, has, look, holds, variables, actions, act, black, count}
 use Rattle.planning.specs.Painting.{lacksReturn}
 use Rattle.task.specs.Task.{taskIn, Loaded}
-use Rattle.task.specs.Links.{Chained}
+use Rattle.task.specs.Links.{Sets, Chained}
 
 abbrev pub pickPlace : Bool → ℕ → ℕ → ℕ
 pickPlace true g f = f
@@ -66,6 +66,14 @@ pub record OnChain (task : List ℕ) (f : ℕ) : Type 0 where
   pub chained : Chained (taskIn task) task
   pub small : f < 4096
   pub on : T (black (taskIn task) (f / 64))
+
+-- action j sets v = d; or it is 65,535, which ends a chain
+abbrev pub InChain : Task → ℕ → ℕ → ℕ → Type 0
+InChain t v d j = (j ≡ 65535) ⊎ ((j < actions t) × Sets t v d j)
+
+-- action j sets v = d and needs marked facts only; or it is 65,535
+abbrev pub Serves : Task → State → ℕ → ℕ → ℕ → Type 0
+Serves t m v d j = (j ≡ 65535) ⊎ ((j < actions t) × T (returnsBy t m v d j))
 
 -- the answer r for action i, and the marks left for the next one
 pub record Lacking (t : Task) (i : ℕ) (marks : List ℕ) (r : Bool) : Type 0 where

@@ -19,7 +19,7 @@ ghost use Rattle.task.specs.Links.{Next, Chained};
 ghost use Rattle.state.specs.Sets.{modeOf, setsOf};
 ghost use Rattle.graph.specs.Graph.{foundOf};
 ghost use Rattle.painting.specs.Chains.{moveOf, linkedMove, Acyclic, Linked};
-ghost use Rattle.painting.specs.Returns.{place, markAll, marked, Unmarked, returnsBy, returned, unreturnedFrom, lacksBy, OnChain, Lacking};
+ghost use Rattle.painting.specs.Returns.{place, markAll, marked, Unmarked, returnsBy, returned, unreturnedFrom, lacksBy, OnChain, InChain, Serves, Lacking};
 ghost use Rattle.painting.specs.Answers.{Readied};
 
 // The first black fact that action i sets; 65,535 if there is none.
@@ -102,50 +102,52 @@ fn all_marked(task: &[u16], j: usize, marks: &[u16; 4096], i: u16) -> bool
     true
 }
 
-// Action j sets f and needs facts that are marked i alone.
-fn returns_by(task: &[u16], marks: &[u16; 4096], i: u16, f: usize, j: usize) -> bool
-    requires { ⌜ Loaded (now task) × (j < actions (taskIn (now task))) ⌝ }
-    ensures { λ r. ⌜ r ≡ returnsBy (taskIn (now (task .entry))) (marked i (now (marks .entry))) (f / 64) (f % 64) j ⌝ }
+// The first action from j on that sets the black fact f and needs facts that are marked i alone; 65,535 if there is none. The walk goes
+// along the chain of f, in which j stands.
+fn first_return(task: &[u16], marks: &[u16; 4096], i: u16, f: usize, j: usize) -> usize
+    requires { ⌜ OnChain (now task) f × InChain (taskIn (now task)) (f / 64) (f % 64) j ⌝ }
+    ensures { λ r. ⌜ Next (actions (taskIn (now (task .entry)))) (λ k. T (returnsBy (taskIn (now (task .entry))) (marked i (now (marks .entry))) (f / 64) (f % 64) k)) j r ⌝ }
 {
+    let mut k = j;
+    while k != 65535 {
+        if all_marked(task, k, marks, i) {
+            return k;
+        }
+        k = task::next_setter(task, k);
+    }
+    k
+}
+
+// The same from h on, which may be any number; 65,535 also if h does not set f.
+fn later_return(task: &[u16], marks: &[u16; 4096], i: u16, f: usize, h: usize) -> usize
+    requires { ⌜ OnChain (now task) f ⌝ }
+    ensures { λ r. ⌜ Serves (taskIn (now (task .entry))) (marked i (now (marks .entry))) (f / 64) (f % 64) r ⌝ }
+{
+    if task::actions(task) <= h {
+        return 65535;
+    }
     let d = state::asked(
         task,
-        task::eff_start(task, j),
-        task::eff_end(task, j),
+        task::eff_start(task, h),
+        task::eff_end(task, h),
         f / 64,
     );
     if d != f % 64 {
-        return false;
+        return 65535;
     }
-    all_marked(task, j, marks, i)
+    first_return(task, marks, i, f, h)
 }
 
-// The first action that sets the black fact f and needs facts that are marked i alone; 65,535 if there is none.
-fn first_return(task: &[u16], marks: &[u16; 4096], i: u16, f: usize) -> usize
-    requires { ⌜ OnChain (now task) f ⌝ }
-    ensures { λ r. ⌜ Next (actions (taskIn (now (task .entry)))) (λ j. T (returnsBy (taskIn (now (task .entry))) (marked i (now (marks .entry))) (f / 64) (f % 64) j)) 0 r ⌝ }
-{
-    let mut j = task::first_setter(task, f);
-    while j != 65535 {
-        if all_marked(task, j, marks, i) {
-            return j;
-        }
-        j = task::next_setter(task, j);
-    }
-    j
-}
-
-// Some action sets the black fact f and needs facts that are marked i alone. The one that did so last is tried first.
+// Some action sets the black fact f and needs facts that are marked i alone. The walk starts at the one that was found last for f, and
+// then at the first.
 fn is_returned(task: &[u16], marks: &[u16; 4096], i: u16, f: usize, last: &mut [u16; 4096]) -> bool
     requires { ⌜ OnChain (now task) f ⌝ }
     ensures { λ r. ⌜ r ≡ returned (taskIn (now (task .entry))) (marked i (now (marks .entry))) (f / 64) (f % 64) ⌝ }
 {
-    let h = lists::wide(last[f]);
-    if h < task::actions(task) {
-        if returns_by(task, marks, i, f, h) {
-            return true;
-        }
+    let mut j = later_return(task, marks, i, f, lists::wide(last[f]));
+    if j == 65535 {
+        j = first_return(task, marks, i, f, task::first_setter(task, f));
     }
-    let j = first_return(task, marks, i, f);
     last[f] = j as u16;
     j != 65535
 }

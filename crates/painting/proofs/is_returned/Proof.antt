@@ -1,5 +1,6 @@
+use mathlib.Core.Logic.{⊎-elim}
 use native.Mathlib.Omega.{arith}
-use Rattle.painting.proofs.Returns.{returned-by, returned-first, first-near}
+use Rattle.painting.proofs.Returns.{next-serves, head-chain, serves-near, served, served-first}
 use borrow.Author.Needs.{needs}
 use Rattle.painting.proofs.is_returned.Statement.{statement}
 use Rattle.painting.proofs.is_returned.Tie as tie
@@ -13,23 +14,25 @@ element-copy-out-wide c = search needs
 wide-requires : tie.Need-wide-requires
 wide-requires c κs = search needs
 
-actions-requires : tie.Need-actions-requires
-actions-requires c κs = search needs
+later-return-requires : tie.Need-later-return-requires
+later-return-requires c κs = search needs
 
-returns-by-requires : tie.Need-returns-by-requires
-returns-by-requires c κs = search needs
-
-returns : tie.Need-returns
-returns c =
-    let r = c .before in
-    let a = r .before .before in
-    returned-by _ _ _ _ _ (omega (arith, a .actions .ensures)) _ (r .returns-by .ensures) (c .if2 .taken)
+first-setter-requires : tie.Need-first-setter-requires
+first-setter-requires c κs = search needs
 
 first-return-requires : tie.Need-first-return-requires
-first-return-requires c κs = search needs
+first-return-requires c κs =
+    let p = c .before .before .before .before .before .before .pre in
+    (p, head-chain _ _ p _ (c .first-setter .ensures))
 
 cast-last : tie.Need-cast-last
-cast-last c = let p = c .before .before .before .before .before .before .pre in omega (arith, first-near _ _ _ _ (p .loaded .formed .actions-max) _ (c .first-return .ensures))
+cast-last c =
+    let l = c .before .before in
+    let p = l .before .before .before .before .pre in
+    ⊎-elim
+    (λ w. omega (arith, w .3, serves-near _ _ p _ _ (next-serves _ _ _ _ _ _ (w .2 .ensures))))
+    (λ w. omega (arith, w .1, serves-near _ _ p _ _ (l .later-return .ensures)))
+    (c .before .if1 .came)
 
 mul-last : tie.Need-mul-last
 mul-last c = search needs
@@ -37,8 +40,14 @@ mul-last c = search needs
 element-write-last : tie.Need-element-write-last
 element-write-last c = search needs
 
-returns-2 : tie.Need-returns-2
-returns-2 c = let p = c .before .before .before .before .before .before .pre in returned-first _ _ _ _ (p .loaded .formed .actions-max) _ (c .first-return .ensures)
+returns : tie.Need-returns
+returns c =
+    let l = c .before .before in
+    let p = l .before .before .before .before .pre in
+    ⊎-elim
+    (λ w. rw (w .3) (served-first _ _ p _ _ _ (w .1 .ensures) (w .2 .ensures)))
+    (λ w. rw (w .1) (served _ _ p _ _ (l .later-return .ensures) (w .0 .left)))
+    (c .before .if1 .came)
 
 pub is-returned-spec : {M : Type 1} → statement M
 is-returned-spec =
@@ -47,11 +56,10 @@ is-returned-spec =
     mul-wide
     element-copy-out-wide
     wide-requires
-    actions-requires
-    returns-by-requires
-    returns
+    later-return-requires
+    first-setter-requires
     first-return-requires
     cast-last
     mul-last
     element-write-last
-    returns-2)
+    returns)
