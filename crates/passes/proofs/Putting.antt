@@ -14,12 +14,11 @@ use Rattle.planning.specs.Runs.{State, look, count, act}
 use Rattle.planning.specs.Repair.{toward, after}
 use Rattle.planning.proofs.Facts.{look-some}
 use Rattle.planning.proofs.Formed.{Formed, sorted-has}
-use Rattle.table.specs.Table.{factsIn, preAt, effAt}
-use Rattle.state.specs.Sets.{actionOf}
-use Rattle.paths.specs.Paths.{Asked, Memo, Put}
+use Rattle.state.specs.Sets.{Asked}
+use Rattle.paths.specs.Paths.{Memo, Put}
 use Rattle.paths.specs.declared.Written.{Written}
 use Rattle.paths.specs.declared.Written.the-variants.{Upto, Long}
-use Rattle.passes.specs.Passes.{askedBy, Fitting, Blank}
+use Rattle.passes.specs.Passes.{askedBy, Fitting, Blank, Behind}
 
 pub asked-some : (d : ℕ) → d < 64 → askedBy d ≡ some d
 unfolding askedBy
@@ -40,10 +39,6 @@ after-some c d h = rw (asked-some d h) refl
 pub after-none : (c d : ℕ) → 64 ≤ d → c ≡ after c (askedBy d)
 unfolding after
 after-none c d h = rw (asked-none d h) refl
-
-pub asked-pre : (table : List ℕ) (i v from to d : ℕ) → from ≡ preAt table i → to ≡ effAt table i → Asked (look (factsIn table from to) v) d → Asked (look (actionOf table i .pre) v) d
-unfolding actionOf
-asked-pre table i v from to d a b q = rw (← a, ← b) q
 
 -- a value that is asked is one of its variable
 pub pre-fitting : (t : Task) → Formed t → (i : ℕ) → Fitting t (act t i .pre)
@@ -73,24 +68,26 @@ pub lead-some : (path : ℕ → ℕ → List ℕ) (c d : ℕ) (l l′ : List ℕ
 unfolding toward
 lead-some path c d l l′ at r h p = subst (λ (o : Option ℕ). Put l l′ at (toward path c o) r) (sym (asked-some d h)) p
 
--- one entry more, behind what an answer r says
-module _ (d₀ d : List ℕ) (a : ℕ) (l : List ℕ) (i : ℕ) (r : Written) (p : Put d₀ d a l r) where
-  pub put-upto : (e : ℕ) → r ≡ Upto e → Put d₀ d a l (Upto e)
-  put-upto e q = subst (λ (z : Written). Put d₀ d a l z) q p
+-- the answer, with what it was taken apart to
+pub put-as : (d₀ d : List ℕ) (a : ℕ) (l : List ℕ) (r x : Written) → r ≡ x → Put d₀ d a l r → Put d₀ d a l x
+put-as d₀ d a l r x q p = subst (λ (z : Written). Put d₀ d a l z) q p
 
-  pub put-more : (e : ℕ) → r ≡ Upto e → e < length d₀ → length d ≡ length d₀ → Put d₀ (set d e i) a (l ++ (i ∷ [])) (Upto (e + 1))
-  put-more e q h n =
-      let b : e < length d = omega arith in
-      let z = put-upto e q in
-      (omega (arith, z .0, length-append l (i ∷ [])), omega arith, rw (add-one, take-suc-set d e i b, z .2, append-assoc) refl)
+-- one entry more
+pub push-long : (d : List ℕ) (i : ℕ) (w : Written) → w ≡ Long → Behind w i d d Long
+push-long d i w q d₀ a l n p =
+    let z = put-as d₀ d a l w Long q p in
+    omega (arith, z, length-append l (i ∷ []))
 
-  pub put-long : r ≡ Long → length d₀ < a + length (l ++ (i ∷ []))
-  put-long q =
-      let z : Put d₀ d a l Long = subst (λ (z : Written). Put d₀ d a l z) q p in
-      omega (arith, z, length-append l (i ∷ []))
+module _ (d : List ℕ) (i : ℕ) (w : Written) (e : ℕ) (q : w ≡ Upto e) where
+  pub push-full : length d ≤ e → Behind w i d d Long
+  push-full h d₀ a l n p =
+      let z = put-as d₀ d a l w (Upto e) q p in
+      omega (arith, z .0, length-append l (i ∷ []))
 
-  pub put-full : (e : ℕ) → r ≡ Upto e → length d₀ ≤ e → length d₀ < a + length (l ++ (i ∷ []))
-  put-full e q h = omega (arith, put-upto e q .0, length-append l (i ∷ []))
+  pub push-more : e < length d → Behind w i d (set d e i) (Upto (e + 1))
+  push-more h d₀ a l n p =
+      let z = put-as d₀ d a l w (Upto e) q p in
+      (omega (arith, z .0, length-append l (i ∷ [])), omega arith, rw (add-one, take-suc-set d e i h, z .2, append-assoc) refl)
 
 -- forgetting
 pub record Forgetting (memo : List ℕ) (k : ℕ) : Type 0 where

@@ -1,18 +1,25 @@
 -- What a pass is handed, and the paths that it inserts.
 use mathlib.Core.Path.{_≡_}
 use mathlib.Core.Bool.{true, false}
-use mathlib.Core.List.{List}
+use mathlib.Core.List.{List, [], _∷_, _++_}
 use mathlib.Core.Option.{Option, none, some}
 use Prim.Native.Nat.{ℕ, _+_, _<_}
 use lib.Dec.{ltb}
 use lib.ListN.{length, getD}
 use Rattle.planning.specs.Record.{Fact, Task}
 use Rattle.planning.specs.Runs.{State, look, actions, count, act}
-use Rattle.planning.specs.Repair.{shortest}
+use Rattle.planning.specs.Repair.{pass}
+use Rattle.task.specs.Task.{factsIn}
+use Rattle.paths.specs.Paths.{pathsOf, Put}
+use Rattle.paths.specs.declared.Written.{Written}
 
--- the shortest paths of v along usable arcs
-abbrev pub pathsOf : Task → State → ℕ → ℕ → ℕ → List ℕ
-pathsOf t K v = shortest (act t) (actions t) K v (count t v)
+-- the pass for v, whose value is c, over the list l, where the facts K are known and the facts w are wanted
+abbrev pub passOf : Task → State → ℕ → ℕ → List ℕ → List Fact → List ℕ
+passOf t K v c l w = pass (act t) (pathsOf t K v) v c l w
+
+-- the facts of a whole list of numbers
+abbrev pub factsOf : List ℕ → List Fact
+factsOf l = factsIn l 0 (length l)
 
 -- the value asked by the number d: 64 and more ask none
 unfoldable pub askedBy : ℕ → Option ℕ
@@ -30,3 +37,7 @@ Entries t l = (k : ℕ) → k < length l → getD l k 0 < actions t
 pub record Blank (memo : List ℕ) : Type 0 where
   pub long : length memo ≡ 4160
   pub none-marked : (d : ℕ) → d < 64 → getD memo (4096 + d) 0 ≡ 0
+
+-- what w says of a list that was written, r says of the same list with i behind it
+abbrev pub Behind : Written → ℕ → List ℕ → List ℕ → Written → Type 0
+Behind w i d d′ r = (d₀ : List ℕ) (a : ℕ) (l : List ℕ) → length d ≡ length d₀ → Put d₀ d a l w → Put d₀ d′ a (l ++ (i ∷ [])) r

@@ -11,17 +11,17 @@ use lib.Bits.{bitOr, bitXor}
 use lib.Dec.{T, eqb, ltb, lt→ltb, eqb→eq}
 use lib.ListN.{length, getD, replicate}
 use lib.Pow.{high, ones-split, ones-lt}
-use Rattle.planning.specs.Record.{Task, taskOf}
-use Rattle.planning.specs.Runs.{State, look, holds, actions, count, act, black}
-use Rattle.planning.specs.Painting.{fits}
+use Rattle.planning.specs.Record.{Task}
+use Rattle.planning.specs.Runs.{State, actions, count, act, black}
 use Rattle.planning.specs.Repair.{usableArc}
 use Rattle.planning.proofs.Tests.{and-l, and-r, and-i}
-use Rattle.planning.proofs.Formed.{Formed, formed-of}
-use Rattle.state.specs.Sets.{inSet, actionOf, Listed}
-use Rattle.state.proofs.Members.{inSet-single, one-shl}
-use Rattle.state.proofs.Tabled.{tabled-listed, tabled-action}
-use Rattle.state.specs.Chains.{Next, Sets}
-use Rattle.paths.specs.Paths.{Ground, Member, lower, Enters, Marks, Kept, Apart, Leads}
+use Rattle.planning.proofs.Formed.{Formed}
+use Rattle.planning.proofs.Painting.{black-inside}
+use Rattle.task.specs.Task.{taskIn}
+use Rattle.task.specs.Links.{Next, Sets, Prepared, headAt, nextAt}
+use Rattle.state.specs.Sets.{inSet}
+use Rattle.state.proofs.Members.{inSet-single}
+use Rattle.paths.specs.Paths.{Member, lower, sourceOf, Enters, Marks, Marked, Kept, Apart, Leads}
 use Rattle.paths.proofs.Sets.{inSet-either, either, inSet-all}
 use Rattle.paths.proofs.Leads.{marks-turn, marks-map, usableArc-is, usableArc-fits, Layered, layered-start, layered-turn, layered-stop}
 
@@ -35,47 +35,73 @@ pub record Arriving (t : Task) (K : State) (v front e rest : ℕ) (row₀ row : 
   pub marks : Marks (actions t) rest (Before t K v front e i) row grow
   pub kept : Kept rest row₀ row
 
-module _ (t : Task) (F : Formed t) (K : State) (v front e rest : ℕ) (apart : Apart front rest) (m : T (inSet front e)) where
+-- the chain that is walked: actions that set v to e, a member of the set front
+pub record Chain (task : List ℕ) (v front e rest : ℕ) : Type 0 where
+  pub prepared : Prepared task
+  pub painted : T (black (taskIn task) v)
+  pub near : e < 64
+  pub member : T (inSet front e)
+  pub apart : Apart front rest
+
+module _ (task : List ℕ) (v front e rest : ℕ) (H : Chain task v front e rest) where
+  abbrev t : Task
+  t = taskIn task
+
+  F : Formed t
+  F = H .prepared .loaded .formed
+
   next-here : (a x : ℕ) → Next (actions t) (Sets t v e) a x → (x ≡ 65535) ⊎ ((x < actions t) × Sets t v e x)
   next-here a x N = elim (N .found) [ inl q ↦ inl q | inr q ↦ inr (q .1, q .2) ]
 
-  pub arriving-start : (row : List ℕ) (grow i : ℕ) → length row ≡ 64 → Marks (actions t) rest (Enters t K v front e) row grow → Next (actions t) (Sets t v e) 0 i
+  pub chain-place : 64 * v + e < 4096
+  chain-place = omega (arith, H .near, black-inside t v (H .painted), F .variables-max)
+
+  chain-head : Next (actions t) (Sets t v e) 0 (headAt task (64 * v + e))
+  chain-head = H .prepared .chained .heads v e (omega (arith, black-inside t v (H .painted), F .variables-max)) (H .near) (H .painted)
+
+  pub arriving-start : (K : State) (row : List ℕ) (grow i : ℕ) → length row ≡ 64 → Marked t K v front rest e row grow → i ≡ headAt task (64 * v + e)
       → Arriving t K v front e rest row row grow i
-  arriving-start row grow i long M N = record {
+  arriving-start K row grow i long M q = record {
     here = next-here 0 i N;
     long = long;
-    marks = marks-add M;
+    marks = record {
+      least = λ c cb r. let N′ = M .least c cb r in record {
+        least = λ j a jb l D. elim D [ inl d ↦ N′ .least j a jb l d | inr d ↦ N .least j (omega arith) jb (d .2) (d .1) ];
+        found = elim (N′ .found) [ inl q ↦ inl q | inr q ↦ inr (q .0, q .1, inl (q .2)) ];
+      };
+      inside = M .inside;
+      grown = M .grown;
+      grows = M .grows;
+    };
     kept = λ c b h. refl;
   }
     where
-      marks-add : Marks (actions t) rest (Enters t K v front e) row grow → Marks (actions t) rest (Before t K v front e i) row grow
-      marks-add M = record {
-        least = λ c cb r. let N′ = M .least c cb r in record {
-          least = λ j a jb l D. elim D [ inl d ↦ N′ .least j a jb l d | inr d ↦ N .least j (omega arith) jb (d .2) (d .1) ];
-          found = elim (N′ .found) [ inl q ↦ inl q | inr q ↦ inr (q .0, q .1, inl (q .2)) ];
-        };
-        inside = M .inside;
-        grown = M .grown;
-        grows = M .grows;
-      }
+      N : Next (actions t) (Sets t v e) 0 i
+      N = rw q chain-head
 
-  module _ (row₀ row : List ℕ) (grow i : ℕ) (G : Arriving t K v front e rest row₀ row grow i) where
+  module _ (K : State) (row₀ row : List ℕ) (grow i : ℕ) (G : Arriving t K v front e rest row₀ row grow i) where
     pub arriving-here : i < 1024 → (i < actions t) × Sets t v e i
     arriving-here h = elim (G .here) [ inl q ↦ absurd (omega arith) | inr q ↦ q ]
 
+    chain-next : i < 1024 → Next (actions t) (Sets t v e) (i + 1) (nextAt task i)
+    chain-next h = let q = arriving-here h in H .prepared .chained .links v e i (H .painted) (q .0) (q .1)
+
+    pub arriving-above : i < 1024 → (x : ℕ) → x ≡ nextAt task i → i < x
+    arriving-above h x q = rw q (elim (chain-next h .found) [ inl z ↦ omega arith | inr z ↦ let a = z .0 in omega arith ])
+
     pub arriving-turn : i < 1024 → (set x : ℕ) (row′ : List ℕ) → length row′ ≡ 64
-        → ((c : ℕ) → inSet set c ≡ (inSet rest c && (holds K (act t i .pre) && fits (look (act t i .pre) v) c)))
+        → ((c : ℕ) → inSet set c ≡ (inSet rest c && sourceOf t K v i c))
         → ((c : ℕ) → c < 64 → getD row′ c 0 ≡ lower (inSet set c) i (getD row c 0))
-        → Next (actions t) (Sets t v e) (i + 1) x
+        → x ≡ nextAt task i
         → Arriving t K v front e rest row₀ row′ (bitOr grow set) x
-    unfolding lower
-    arriving-turn h set x row′ long′ law low N =
+    unfolding lower sourceOf
+    arriving-turn h set x row′ long′ law low ex =
         let q = arriving-here h in
         record {
           here = next-here (i + 1) x N;
           long = long′;
           marks = marks-turn (actions t) rest (Before t K v front e i) (Before t K v front e x) row row′ grow set i (G .marks) (F .actions-max) (q .0) low
-              (λ c s. (in-rest c s, inr (usableArc-is t F K v c e i (q .0) (q .1) (λ z. apart e m (subst (λ y. T (inSet rest y)) z (in-rest c s))) (in-set c s), q .1, next-above)))
+              (λ c s. (in-rest c s, inr (usableArc-is t F K v c e i (q .0) (q .1) (λ z. H .apart e (H .member) (subst (λ y. T (inSet rest y)) z (in-rest c s))) (in-set c s), q .1, next-above)))
               (λ c j cb r jb D. elim D [
                 | inl d ↦ inl (inl d)
                 | inr d ↦ split c j r jb (d .0) (d .1) (d .2) (ℕ-discrete j i)
@@ -84,14 +110,17 @@ module _ (t : Task) (F : Formed t) (K : State) (v front e rest : ℕ) (apart : A
           kept = λ c cb r. low c cb ∙ lower-not c (λ s. r (in-rest c s)) ∙ G .kept c cb r;
         }
       where
-        in-rest : (c : ℕ) → T (inSet set c) → T (inSet rest c)
-        in-rest c s = and-l (inSet rest c) (holds K (act t i .pre) && fits (look (act t i .pre) v) c) (rw (law c) at s)
+        N : Next (actions t) (Sets t v e) (i + 1) x
+        N = rw ex (chain-next h)
 
-        in-set : (c : ℕ) → T (inSet set c) → T (holds K (act t i .pre) && fits (look (act t i .pre) v) c)
-        in-set c s = and-r (inSet rest c) (holds K (act t i .pre) && fits (look (act t i .pre) v) c) (rw (law c) at s)
+        in-rest : (c : ℕ) → T (inSet set c) → T (inSet rest c)
+        in-rest c s = and-l (inSet rest c) (sourceOf t K v i c) (rw (law c) at s)
+
+        in-set : (c : ℕ) → T (inSet set c) → T (sourceOf t K v i c)
+        in-set c s = and-r (inSet rest c) (sourceOf t K v i c) (rw (law c) at s)
 
         next-above : i < x
-        next-above = elim (N .found) [ inl q ↦ omega arith | inr q ↦ let a = q .0 in omega arith ]
+        next-above = arriving-above h x ex
 
         lower-not : (c : ℕ) → (T (inSet set c) → ⊥) → lower (inSet set c) i (getD row c 0) ≡ getD row c 0
         lower-not c s = go (inSet set c) s
@@ -101,23 +130,21 @@ module _ (t : Task) (F : Formed t) (K : State) (v front e rest : ℕ) (apart : A
             go false h = refl
 
         split : (c j : ℕ) → T (inSet rest c) → j < actions t → T (usableArc (act t) K v c j) → Sets t v e j → j < x → Dec (j ≡ i) → Before t K v front e i c j ⊎ ((j ≡ i) × T (inSet set c))
-        split c j r jb p s l (yes z) = inr (z, rw (law c) (and-i (inSet rest c) (holds K (act t i .pre) && fits (look (act t i .pre) v) c) r (usableArc-fits t F K v c i (subst (λ y. T (usableArc (act t) K v c y)) z p))))
+        split c j r jb p s l (yes z) = inr (z, rw (law c) (and-i (inSet rest c) (sourceOf t K v i c) r (usableArc-fits t F K v c i (subst (λ y. T (usableArc (act t) K v c y)) z p))))
         split c j r jb p s l (no z) = below (decLt j i)
           where
             below : Dec (j < i) → Before t K v front e i c j ⊎ ((j ≡ i) × T (inSet set c))
             below (yes b) = inl (inr (p, s, b))
             below (no b) = absurd (N .least j (omega arith) jb l s)
 
-    pub arriving-end : 1024 ≤ i → Marks (actions t) rest (Enters t K v front (e + 1)) row grow × Kept rest row₀ row
-    arriving-end h = (
-      marks-map (actions t) rest (Before t K v front e i) (Enters t K v front (e + 1)) row grow
-          (λ c j jb D. elim D [
-            | inl d ↦ (d .0, (d .1 .0, omega (arith, d .1 .1), d .1 .2, d .1 .3))
-            | inr d ↦ (d .0, (e, omega arith, m, d .1))
-          ])
-          (λ c j jb D. old c j jb D (ℕ-discrete (D .1 .0) e)) (G .marks),
-      G .kept,
-    )
+    pub arriving-end : 1024 ≤ i → Marked t K v front rest (e + 1) row grow
+    arriving-end h =
+        marks-map (actions t) rest (Before t K v front e i) (Enters t K v front (e + 1)) row grow
+        (λ c j jb D. elim D [
+          | inl d ↦ (d .0, (d .1 .0, omega (arith, d .1 .1), d .1 .2, d .1 .3))
+          | inr d ↦ (d .0, (e, omega arith, H .member, d .1))
+        ])
+        (λ c j jb D. old c j jb D (ℕ-discrete (D .1 .0) e)) (G .marks)
       where
         last : i ≡ 65535
         last = elim (G .here) [ inl q ↦ q | inr q ↦ absurd (omega (arith, q .0, F .actions-max)) ]
@@ -131,7 +158,7 @@ pub record Laying (t : Task) (K : State) (v front rest : ℕ) (row₀ row : List
   pub within : e ≤ 64
   pub member : e < 64 → T (inSet front e)
   pub long : length row ≡ 64
-  pub marks : Marks (actions t) rest (Enters t K v front e) row grow
+  pub marks : Marked t K v front rest e row grow
   pub kept : Kept rest row₀ row
 
 module _ (t : Task) (K : State) (v front rest : ℕ) where
@@ -163,45 +190,6 @@ module _ (t : Task) (K : State) (v front rest : ℕ) where
       let q : e ≡ 64 = omega (arith, L .within) in
       (subst (λ x. Marks (actions t) rest (Enters t K v front x) row grow) q (L .marks), L .kept)
 
--- what stands on the ground of an accepted record
-module _ (s table head chain masks : List ℕ) (G : Ground s table head chain masks) where
-  pub ground-formed : Formed (taskOf s)
-  ground-formed = formed-of s (G .accepted)
-
-  pub ground-listed : (i : ℕ) → i < actions (taskOf s) → Listed table i
-  ground-listed i b = tabled-listed (taskOf s) table ground-formed (G .tabled) i b
-
-  pub ground-act : (i : ℕ) → i < actions (taskOf s) → actionOf table i ≡ act (taskOf s) i
-  ground-act i b = tabled-action (taskOf s) table i (G .tabled i b)
-
-  module _ (K : State) (v front e rest : ℕ) (vb : v < 64) (eb : e < 64) (bl : T (black (taskOf s) v)) (m : T (inSet front e)) (apart : Apart front rest) where
-    pub arrive-start : (row : List ℕ) (grow i : ℕ) → length row ≡ 64 → Marks (actions (taskOf s)) rest (Enters (taskOf s) K v front e) row grow
-        → i ≡ getD head (64 * v + e) 0 → Arriving (taskOf s) K v front e rest row row grow i
-    arrive-start row grow i long M q = arriving-start (taskOf s) ground-formed K v front e rest apart m row grow i long M (rw q (G .chained .heads v e vb eb bl))
-
-    module _ (row₀ row : List ℕ) (grow i : ℕ) (R : Arriving (taskOf s) K v front e rest row₀ row grow i) where
-      pub arrive-listed : i < 1024 → Listed table i
-      arrive-listed h = ground-listed i (arriving-here (taskOf s) ground-formed K v front e rest apart m row₀ row grow i R h .0)
-
-      pub arrive-next : i < 1024 → Next (actions (taskOf s)) (Sets (taskOf s) v e) (i + 1) (getD chain i 0)
-      arrive-next h = let q = arriving-here (taskOf s) ground-formed K v front e rest apart m row₀ row grow i R h in G .chained .links v e i bl (q .0) (q .1)
-
-      pub arrive-above : i < 1024 → (x : ℕ) → x ≡ getD chain i 0 → i < x
-      arrive-above h x q = rw q (elim (arrive-next h .found) [ inl z ↦ omega arith | inr z ↦ let a = z .0 in omega arith ])
-
-      pub arrive-turn : i < 1024 → (set x : ℕ) (row′ : List ℕ) → length row′ ≡ 64
-          → ((c : ℕ) → inSet set c ≡ (inSet rest c && (holds K (actionOf table i .pre) && fits (look (actionOf table i .pre) v) c)))
-          → ((c : ℕ) → c < 64 → getD row′ c 0 ≡ lower (inSet set c) i (getD row c 0))
-          → x ≡ getD chain i 0
-          → Arriving (taskOf s) K v front e rest row₀ row′ (bitOr grow set) x
-      arrive-turn h set x row′ long law low q =
-          let b = arriving-here (taskOf s) ground-formed K v front e rest apart m row₀ row grow i R h .0 in
-          arriving-turn (taskOf s) ground-formed K v front e rest apart m row₀ row grow i R h set x row′ long
-          (λ c. rw (ground-act i b) at (law c)) low (rw q (arrive-next h))
-
-      pub arrive-end : 1024 ≤ i → Marks (actions (taskOf s)) rest (Enters (taskOf s) K v front (e + 1)) row grow × Kept rest row₀ row
-      arrive-end h = arriving-end (taskOf s) ground-formed K v front e rest apart m row₀ row grow i R h
-
 -- the search as a whole
 all-ones : (n : ℕ) → n ≤ 64 → 18446744073709551615 / 2 ^ (64 - n) ≡ 2 ^ n - 1
 all-ones n h =
@@ -222,7 +210,7 @@ getD-replicate (suc k) x zero h = refl
 getD-replicate (suc k) x (suc c) h = getD-replicate k x c (omega arith)
 
 pub searching-start : (t : Task) (F : Formed t) (K : State) (v d n front rest : ℕ) (row₀ row : List ℕ) → n ≡ count t v → n ≤ 64 → d < n → length row₀ ≡ 64 → row ≡ replicate (length row₀) 65535
-    → front ≡ 1 * 2 ^ d % 2 ^ 64 → rest ≡ bitXor (18446744073709551615 / 2 ^ (64 - n)) front → Layered t K v d 0 front rest row
+    → front ≡ 2 ^ d → rest ≡ bitXor (18446744073709551615 / 2 ^ (64 - n)) front → Layered t K v d 0 front rest row
 searching-start t F K v d n front rest row₀ row en n64 db long er ef ers =
     layered-start t F K v d front rest row (omega arith) (rw (er, long) (replicate-length 64))
     (λ c b. rw (er, long) (getD-replicate 64 65535 c b))
@@ -230,7 +218,7 @@ searching-start t F K v d n front rest row₀ row en n64 db long er ef ers =
     (λ c. rw (ers, inSet-either, fr c, all-ones n n64, inSet-all n c, ← en) (rest-bit (ltb c n) (eqb c d) (λ q. lt→ltb c n (omega (arith, eqb→eq c d q)))))
   where
     fr : (c : ℕ) → inSet front c ≡ eqb c d
-    fr c = rw (ef, one-shl d (omega arith)) (inSet-single d c)
+    fr c = rw ef (inSet-single d c)
 
     replicate-length : (k : ℕ) → length {A = ℕ} (replicate k 65535) ≡ k
     replicate-length zero = refl

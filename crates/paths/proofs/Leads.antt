@@ -26,7 +26,7 @@ use Rattle.planning.proofs.Formed.{Formed, sorted-has, sorted-func}
 use Rattle.planning.proofs.Short.{usableArc-elim, adjacent-elim, usableArc→adjacent}
 use Rattle.state.specs.Sets.{inSet}
 use Rattle.state.proofs.Members.{inSet-empty, inSet-or}
-use Rattle.state.specs.Chains.{Next, Sets}
+use Rattle.task.specs.Links.{Next, Sets}
 use Rattle.paths.specs.Paths.{lower, leadIn, lead, numberOf, Leads, Enters, Marks, Kept, Apart}
 use Rattle.paths.proofs.Sets.{inSet-either, either}
 

@@ -10,7 +10,7 @@ use lib.Dec.{T}
 use lib.ListN.{length, getD, set, take, length-set}
 use lib.Seq.{take-suc-set}
 use Rattle.planning.specs.Basics.{first, reach}
-use Rattle.planning.specs.Record.{Task, taskOf, recordCheck}
+use Rattle.planning.specs.Record.{Task}
 use Rattle.planning.specs.Runs.{State, look, actions, count, act}
 use Rattle.planning.specs.Painting.{target, orZero}
 use Rattle.planning.specs.Repair.{usableArc, adjacent, pathIn, shortest}
@@ -18,17 +18,11 @@ use Rattle.planning.proofs.Tests.{and-l, and-r}
 use Rattle.planning.proofs.Facts.{look-is}
 use Rattle.planning.proofs.Below.{First?, first-is}
 use Rattle.planning.proofs.Graph.{reach-move}
-use Rattle.planning.proofs.Formed.{Formed, formed-of}
-use Rattle.table.specs.Table.{Tabled}
-use Rattle.state.proofs.Tabled.{tabled-listed, tabled-action}
-use Rattle.state.specs.Sets.{actionOf, Listed}
-use Rattle.paths.specs.Paths.{Asked, leadIn, lead, numberOf, Leads, Put}
+use Rattle.planning.proofs.Formed.{Formed}
+use Rattle.state.specs.Sets.{Asked}
+use Rattle.paths.specs.Paths.{pathsOf, leadIn, lead, numberOf, Leads, Put}
 use Rattle.paths.specs.declared.Written.the-variants.{Upto}
 use Rattle.paths.proofs.Leads.{first-at, range, usableArc-sets, usableArc-adj, effs}
-
--- the path of the definition
-abbrev pub PathTo : Task → State → ℕ → ℕ → ℕ → List ℕ
-PathTo t K v d c = shortest (act t) (actions t) K v (count t v) c d
 
 -- the list while a path is written: what stands before e, and the path from the value x on
 pub record Walking (t : Task) (K : State) (v d c at : ℕ) (row d₀ dd : List ℕ) (x e i : ℕ) : Type 0 where
@@ -37,8 +31,8 @@ pub record Walking (t : Task) (K : State) (v d c at : ℕ) (row d₀ dd : List �
   pub inside : x < count t v
   pub leads : Leads t K v d row
   pub is-lead : i ≡ getD row x 0
-  pub so-far : take at d₀ ++ PathTo t K v d c ≡ take e dd ++ PathTo t K v d x
-  pub counts : at + length (PathTo t K v d c) ≡ e + length (PathTo t K v d x)
+  pub so-far : take at d₀ ++ pathsOf t K v c d ≡ take e dd ++ pathsOf t K v x d
+  pub counts : at + length (pathsOf t K v c d) ≡ e + length (pathsOf t K v x d)
 
 module _ (t : Task) (F : Formed t) (K : State) (v d : ℕ) where
   abbrev n : ℕ
@@ -152,27 +146,3 @@ module _ (t : Task) (F : Formed t) (K : State) (v d : ℕ) where
         let z : Path′ x ≡ [] = walk-stop x (sym (W .leads x (W .inside)) ∙ sym (W .is-lead) ∙ q) in
         let zl : length (Path′ x) ≡ 0 = ap length z in
         (omega (arith, W .counts), W .within, sym (W .so-far ∙ rw (z, append-nil) refl))
-
--- the same over the table of an accepted record
-module _ (s table : List ℕ) (acc : recordCheck s ≡ none) (tab : Tabled (taskOf s) table) (K : State) (v d c at : ℕ) (row d₀ dd : List ℕ) (x e i j : ℕ)
-    (W : Walking (taskOf s) K v d c at row d₀ dd x e i) (ne : i ≡ 65535 → ⊥) (same : j ≡ i) where
-  F : Formed (taskOf s)
-  F = formed-of s acc
-
-  below : i < actions (taskOf s)
-  below = walking-move (taskOf s) F K v d c at row d₀ dd x e i W ne .below
-
-  pub walk-listed : Listed table j
-  walk-listed = rw same (tabled-listed (taskOf s) table F tab i below)
-
-  walk-asked : (y : ℕ) → Asked (look (actionOf table j .eff) v) y → Asked (look (act (taskOf s) i .eff) v) y
-  walk-asked y q = rw (same, tabled-action (taskOf s) table i (tab i below)) at q
-
-  pub walk-inside : (y : ℕ) → Asked (look (actionOf table j .eff) v) y → y < count (taskOf s) v
-  walk-inside y q = target-is (taskOf s) F K v d x i y (walking-move (taskOf s) F K v d c at row d₀ dd x e i W ne) (walk-asked y q) .1
-
-  pub walk-less : (y : ℕ) → Asked (look (actionOf table j .eff) v) y → length (PathTo (taskOf s) K v d y) < length (PathTo (taskOf s) K v d x)
-  walk-less y q = walking-less (taskOf s) F K v d c at row d₀ dd x e i W ne y (walk-asked y q)
-
-  pub walk-turn : e < length d₀ → (y k : ℕ) → Asked (look (actionOf table j .eff) v) y → k ≡ getD row y 0 → Walking (taskOf s) K v d c at row d₀ (set dd e i) y (e + 1) k
-  walk-turn h y k q = walking-turn (taskOf s) F K v d c at row d₀ dd x e i W ne h y k (walk-asked y q)

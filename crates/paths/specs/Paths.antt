@@ -7,22 +7,14 @@ use Prim.Native.Nat.{ℕ, zero, suc, _+_, _*_, _<_, _≤_, min}
 use lib.Dec.{T}
 use lib.ListN.{length, getD, take}
 use Rattle.planning.specs.Basics.{first, reach}
-use Rattle.planning.specs.Record.{Action, Task, taskOf, recordCheck}
-use Rattle.planning.specs.Runs.{State, actions, count, act}
-use Rattle.planning.specs.Painting.{target}
-use Rattle.planning.specs.Repair.{usableArc, adjacent}
-use Rattle.table.specs.Table.{Tabled}
-use Rattle.state.specs.Sets.{singles, inSet}
-use Rattle.state.specs.Chains.{Next, Sets, Chained}
+use Rattle.planning.specs.Record.{Action, Task}
+use Rattle.planning.specs.Runs.{State, look, holds, actions, count, act}
+use Rattle.planning.specs.Painting.{target, fits}
+use Rattle.planning.specs.Repair.{usableArc, adjacent, shortest}
+use Rattle.task.specs.Links.{Next, Sets}
+use Rattle.state.specs.Sets.{inSet}
 use Rattle.paths.specs.declared.Written.{Written}
 use Rattle.paths.specs.declared.Written.the-variants.{Upto, Long}
-
--- what every search stands on: an accepted record, its table and its chains, and the single-value sets
-pub record Ground (s table head chain masks : List ℕ) : Type 0 where
-  pub accepted : recordCheck s ≡ none
-  pub tabled : Tabled (taskOf s) table
-  pub chained : Chained (taskOf s) head chain
-  pub masked : masks ≡ singles
 
 -- r is the least member of the set from a on, 64 if there is none
 pub record Member (set a r : ℕ) : Type 0 where
@@ -31,15 +23,18 @@ pub record Member (set a r : ℕ) : Type 0 where
   pub member : r < 64 → T (inSet set r)
   pub skipped : (x : ℕ) → a ≤ x → x < r → T (inSet set x) → ⊥
 
--- r is the value asked, 64 for none
-abbrev pub Asked : Option ℕ → ℕ → Type 0
-Asked none r = r ≡ 64
-Asked (some d) r = (r ≡ d) × (d < 64)
-
 -- the lesser of two numbers where the test holds
 unfoldable pub lower : Bool → ℕ → ℕ → ℕ
 lower true i x = min i x
 lower false i x = x
+
+-- action i is usable and gives an arc of v from c, or stays at c
+unfoldable pub sourceOf : Task → State → ℕ → ℕ → ℕ → Bool
+sourceOf t K v i c = holds K (act t i .pre) && fits (look (act t i .pre) v) c
+
+-- the shortest paths of v along usable arcs
+abbrev pub pathsOf : Task → State → ℕ → ℕ → ℕ → List ℕ
+pathsOf t K v = shortest (act t) (actions t) K v (count t v)
 
 -- the first action of the shortest path from c to d
 unfoldable pub leadIn : (ℕ → Action) → ℕ → State → ℕ → ℕ → ℕ → ℕ → ℕ → Option ℕ
@@ -54,9 +49,12 @@ unfoldable pub numberOf : Option ℕ → ℕ
 numberOf none = 65535
 numberOf (some i) = i
 
+abbrev pub leadOf : Task → State → ℕ → ℕ → ℕ → ℕ
+leadOf t K v c d = numberOf (lead (act t) (actions t) K v (count t v) c d)
+
 -- the row holds the leads to d
 abbrev pub Leads : Task → State → ℕ → ℕ → List ℕ → Type 0
-Leads t K v d row = (c : ℕ) → c < count t v → getD row c 0 ≡ numberOf (lead (act t) (actions t) K v (count t v) c d)
+Leads t K v d row = (c : ℕ) → c < count t v → getD row c 0 ≡ leadOf t K v c d
 
 -- action j sets v to a member of the set front that is below e
 abbrev pub Found : Task → ℕ → ℕ → ℕ → ℕ → Type 0
@@ -73,6 +71,11 @@ pub record Marks (A rest : ℕ) (D : ℕ → ℕ → Type 0) (row : List ℕ) (g
   pub grown : (c : ℕ) → c < 64 → T (inSet grow c) → getD row c 0 < A
   pub grows : (c : ℕ) → c < 64 → T (inSet rest c) → getD row c 0 < A → T (inSet grow c)
 
+-- the actions into the members of the set front below e are noted
+abbrev pub Marked : Task → State → ℕ → ℕ → ℕ → ℕ → List ℕ → ℕ → Type 0
+Marked t K v front rest e row grow = Marks (actions t) rest (Enters t K v front e) row grow
+
+-- values outside the set rest are left as they were
 abbrev pub Kept : ℕ → List ℕ → List ℕ → Type 0
 Kept rest row₀ row = (c : ℕ) → c < 64 → (T (inSet rest c) → ⊥) → getD row c 0 ≡ getD row₀ c 0
 
@@ -83,7 +86,7 @@ Apart front rest = (c : ℕ) → T (inSet front c) → T (inSet rest c) → ⊥
 -- rows of leads for the values d of v that are marked by 1 behind the rows
 pub record Memo (t : Task) (K : State) (v : ℕ) (memo : List ℕ) : Type 0 where
   pub long : length memo ≡ 4160
-  pub rows : (d c : ℕ) → d < 64 → c < count t v → getD memo (4096 + d) 0 ≡ 1 → getD memo (64 * d + c) 0 ≡ numberOf (lead (act t) (actions t) K v (count t v) c d)
+  pub rows : (d c : ℕ) → d < 64 → c < count t v → getD memo (4096 + d) 0 ≡ 1 → getD memo (64 * d + c) 0 ≡ leadOf t K v c d
 
 -- the list l was written into d₀ from place a on, and d is left; or it does not fit
 abbrev pub Put : List ℕ → List ℕ → ℕ → List ℕ → Written → Type 0

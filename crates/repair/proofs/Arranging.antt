@@ -1,68 +1,97 @@
--- Moves for wanted facts, and an action behind them: the facts are a part of the table, the action's preconditions.
+-- Moves for wanted facts, and an action behind them: the facts are a part of the loaded task, the action's preconditions.
 use mathlib.Core.Path.{_≡_, refl, sym, ap, _∙_, subst}
 use mathlib.Core.Bool.{Bool, true, false}
-use mathlib.Core.List.{List, [], append-nil, map}
+use mathlib.Core.List.{List, [], _++_, append-nil, append-assoc, map}
 use Prim.Native.Nat.{ℕ, _+_, _-_, _<_, _≤_}
 use native.Mathlib.Omega.{arith}
 use lib.ListN.{length, take, drop, length-drop}
-use lib.Seq.{take-length, take-add, drop-at, getD-take, getD-drop, length-take-le}
-use Rattle.planning.specs.Record.{Fact, Action, Task, taskOf}
-use Rattle.planning.specs.Runs.{State, Mode, actions, act, black}
-use Rattle.planning.specs.Repair.{blackMet, order}
-use Rattle.table.specs.Table.{factOf, factsIn, preAt, effAt}
-use Rattle.state.specs.Sets.{Listed, actionOf}
-use Rattle.paths.specs.Paths.{Put, Ground}
+use lib.Seq.{take-length, take-add, take-at, drop-at, getD-take, getD-drop, length-take-le, take-append-le}
+use Rattle.planning.specs.Record.{Fact, Action, Task}
+use Rattle.planning.specs.Runs.{State, variables, actions, count, act, black}
+use Rattle.planning.specs.Repair.{blackMet}
+use Rattle.task.specs.Task.{factOf, factsIn, preAt, effAt, actionIn, taskIn, Loaded}
+use Rattle.task.proofs.Reading.{taskIn-act}
+use Rattle.state.proofs.Listing.{between-inside}
+use Rattle.paths.specs.Paths.{Put}
 use Rattle.paths.specs.declared.Written.{Written}
-use Rattle.paths.specs.declared.Written.the-variants.{Upto}
-use Rattle.paths.proofs.Arriving.{ground-formed, ground-listed, ground-act}
-use Rattle.passes.proofs.Putting.{pre-fitting}
-use Rattle.repair.specs.Repairs.{Wanted, filled, movesFor}
+use Rattle.paths.specs.declared.Written.the-variants.{Upto, Long}
+use Rattle.passes.specs.Passes.{factsOf}
+use Rattle.passes.proofs.Putting.{pre-fitting, put-as}
+use Rattle.repair.specs.Repairs.{Wanted, Lent, filled, moved}
 
-module _ (t : Task) (K s : State) (w : List Fact) (plan plan′ : List ℕ) (a : ℕ) (m : Mode) (colours : m ≡ black t) (b : Bool) (met : b ≡ blackMet m s w) where
-  met-is : blackMet (black t) s w ≡ b
-  met-is = ap (λ (x : Mode). blackMet x s w) (sym colours) ∙ sym met
+module _ (t : Task) (K s : State) (w : List Fact) (plan : List ℕ) (a : ℕ) (b : Bool) (met : b ≡ blackMet (black t) s w) (h : a ≤ length plan) where
+  pub moves-none : b ≡ true → Put plan plan a (moved t K s w) (Upto a)
+  unfolding moved
+  moves-none e = rw (sym met ∙ e, moved) (omega arith, h, sym (append-nil (take a plan)))
 
-  pub moves-none : b ≡ true → a ≤ length plan → Put plan plan a (movesFor t K s w) (Upto a)
-  unfolding movesFor
-  moves-none e h = rw (met-is ∙ e, movesFor) (omega arith, h, sym (append-nil (take a plan)))
+  -- the passes filled the part of the plan from place a on
+  module _ (e : b ≡ false) (k : ℕ) (ek : k ≡ length plan - a) (ys : List ℕ) (long : length ys ≡ length (take k (drop a plan))) (r : Written) (p : Put (take k (drop a plan)) ys 0 (filled t K s w) r) where
+    moved-is : moved t K s w ≡ filled t K s w
+    unfolding moved
+    moved-is = rw (sym met ∙ e, moved) refl
 
-  pub moves-some : b ≡ false → (vs : List ℕ) → vs ≡ order t → (r : Written) → Put plan plan′ a (filled t K s vs [] w) r → Put plan plan′ a (movesFor t K s w) r
-  unfolding movesFor
-  moves-some e vs ev r p =
-      let z : filled t K s vs [] w ≡ movesFor t K s w = rw (met-is ∙ e, movesFor, ev) refl in
-      subst (λ (l : List ℕ). Put plan plan′ a l r) z p
+    part-length : length (take k (drop a plan)) ≡ k
+    part-length = length-take-le k (drop a plan) (omega (arith, length-drop a plan))
+
+    pub moves-long : r ≡ Long → length plan < a + length (moved t K s w)
+    moves-long q =
+        let z = put-as (take k (drop a plan)) ys 0 (filled t K s w) r Long q p in
+        omega (arith, z, part-length, ap length moved-is)
+
+    pub moves-some : (n : ℕ) → r ≡ Upto n → Put plan (take a plan ++ (ys ++ drop k (drop a plan))) a (moved t K s w) (Upto (a + n))
+    moves-some n q =
+        let z = put-as (take k (drop a plan)) ys 0 (filled t K s w) r (Upto n) q p in
+        let f : length (take a plan) ≡ a = length-take-le a plan h in
+        let whole : List ℕ = take a plan ++ (ys ++ drop k (drop a plan)) in
+        let front : take a whole ≡ take a plan = take-at (take a plan) (ys ++ drop k (drop a plan)) a f in
+        let behind : drop a whole ≡ ys ++ drop k (drop a plan) = drop-at (take a plan) (ys ++ drop k (drop a plan)) a f in (
+          omega (arith, z .0, ap length moved-is),
+          omega (arith, z .1, part-length),
+          take-add a n whole ∙ rw (front, behind, take-append-le n ys (drop k (drop a plan)) (omega (arith, z .1, long)), z .2, moved-is) refl,
+        )
+
+    pub moves-fit : (n : ℕ) → r ≡ Upto n → a + n ≤ length plan
+    moves-fit n q = let z = put-as (take k (drop a plan)) ys 0 (filled t K s w) r (Upto n) q p in omega (arith, z .1, part-length)
+
+-- the parts of both lists from place a on
+pub parts-lent : (memo plan work : List ℕ) (a k j : ℕ) → Lent memo plan work a → k ≡ length plan - a → j ≡ length work - a → Lent memo (take k (drop a plan)) (take j (drop a work)) 0
+parts-lent memo plan work a k j L ek ej =
+    let p : length (take k (drop a plan)) ≡ k = length-take-le k (drop a plan) (omega (arith, length-drop a plan)) in
+    let w : length (take j (drop a work)) ≡ j = length-take-le j (drop a work) (omega (arith, length-drop a work)) in
+    record { memo-long = L .memo-long; same = omega (arith, p, w, L .same); within = omega arith }
 
 drop-take : (l : List ℕ) (a b : ℕ) → a ≤ b → b ≤ length l → drop a (take b l) ≡ take (b - a) (drop a l)
 drop-take l a b h n =
     let e : b ≡ a + (b - a) = omega arith in
     ap (λ (k : ℕ). drop a (take k l)) e ∙ ap (drop a) (take-add a (b - a) l) ∙ drop-at (take a l) (take (b - a) (drop a l)) a (length-take-le a l (omega arith))
 
-module _ (s table head chain masks : List ℕ) (G : Ground s table head chain masks) (k from to i : ℕ) (ek : k ≡ i) (b : i < actions (taskOf s)) (ef : from ≡ preAt table k) (et : to ≡ effAt table k) where
-  L : Listed table k
-  L = ground-listed s table head chain masks G k (omega arith)
+module _ (task : List ℕ) (L : Loaded task) (k from to i : ℕ) (ek : k ≡ i) (b : i < actions (taskIn task)) (ef : from ≡ preAt task k) (et : to ≡ effAt task k) where
+  abbrev t : Task
+  t = taskIn task
 
   abbrev part : List ℕ
-  part = take (to - from) (drop from table)
+  part = take (to - from) (drop from task)
 
-  part-facts : factsIn part 0 (length part) ≡ factsIn table from to
+  pub pre-bounds : (from ≤ to) × (to ≤ length task)
+  pre-bounds =
+      let R = L .rows k (omega arith) in
+      (omega (arith, ef, et, R .pre-below), omega (arith, et, R .eff-below, R .end-below))
+
+  task-pre : factsIn task from to ≡ act t i .pre
+  unfolding actionIn
+  task-pre = rw (ef, et, ek) (sym (ap (λ (x : Action). x .pre) (taskIn-act task i b)))
+
+  pub part-pre : factsOf part ≡ act t i .pre
   unfolding factsIn
-  part-facts = ap (map factOf) (take-length part ∙ sym (drop-take table from to (omega (arith, ef, et, L .pre-below)) (omega (arith, et, L .eff-below, L .end-below))))
+  part-pre = ap (map factOf) (take-length part ∙ sym (drop-take task from to (pre-bounds .0) (pre-bounds .1))) ∙ task-pre
 
-  table-pre : factsIn table from to ≡ actionOf table k .pre
-  unfolding actionOf
-  table-pre = rw (ef, et) refl
-
-  pub part-pre : factsIn part 0 (length part) ≡ act (taskOf s) i .pre
-  part-pre =
-      let z : actionOf table k ≡ act (taskOf s) i = ap (actionOf table) ek ∙ ground-act s table head chain masks G i b in
-      part-facts ∙ table-pre ∙ ap (λ (x : Action). x .pre) z
-
-  pub part-wanted : Wanted (taskOf s) part (factsIn part 0 (length part))
+  pub part-wanted : Wanted t part
   part-wanted = record {
-    small = λ j h. let n = length-take-le (to - from) (drop from table) (omega (arith, length-drop from table, ef, et, L .eff-below, L .end-below)) in
-        rw (getD-take (to - from) (drop from table) j 0 (omega arith), getD-drop from table j 0) (L .small (from + j) (omega (arith, ef)) (omega (arith, n, ef, et, L .pre-below, L .eff-below)));
-    fitting = rw part-pre (pre-fitting (taskOf s) (ground-formed s table head chain masks G) i);
+    inside = λ j h. let n = length-take-le (to - from) (drop from task) (omega (arith, length-drop from task, pre-bounds)) in
+        rw (getD-take (to - from) (drop from task) j 0 (omega arith), getD-drop from task j 0)
+        (between-inside (variables t) (count t) task to (pre-bounds .1) from (from + j) (omega arith) (omega (arith, n)) (rw task-pre (L .formed .pre-sorted i)));
+    fitting = rw part-pre (pre-fitting t (L .formed) i);
   }
 
-  pub moves-pre : (K S : State) (plan plan′ : List ℕ) (a : ℕ) (r : Written) → Put plan plan′ a (movesFor (taskOf s) K S (factsIn part 0 (length part))) r → Put plan plan′ a (movesFor (taskOf s) K S (act (taskOf s) i .pre)) r
-  moves-pre K S plan plan′ a r p = subst (λ (w : List Fact). Put plan plan′ a (movesFor (taskOf s) K S w) r) part-pre p
+  pub moves-pre : (K s : State) (plan plan′ : List ℕ) (a : ℕ) (r : Written) → Put plan plan′ a (moved t K s (factsOf part)) r → Put plan plan′ a (moved t K s (act t i .pre)) r
+  moves-pre K s plan plan′ a r p = subst (λ (w : List Fact). Put plan plan′ a (moved t K s w) r) part-pre p

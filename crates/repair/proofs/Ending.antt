@@ -1,70 +1,94 @@
--- The goals as a front part of a list of facts; the capacity; and the answer from the front parts of both lists.
+-- The goals as a front part of a list of facts, and the answer from the front parts of both lists.
 use mathlib.Core.Path.{_≡_, refl, sym, ap, _∙_, subst}
 use mathlib.Core.List.{List, [], _++_, map}
 use Prim.Native.Nat.{ℕ, _<_, _≤_, min}
 use native.Mathlib.Omega.{arith}
+use lib.Dec.{leb, leb→le}
 use lib.ListN.{length, getD, take}
 use lib.Seq.{take-length, getD-take, length-take-le, take-append-le}
-use Rattle.planning.specs.Record.{Task}
-use Rattle.planning.specs.Runs.{variables, count, goals}
-use Rattle.planning.specs.Calls.{capacity, capacityOf}
+use Rattle.planning.specs.Basics.{answer}
+use Rattle.planning.specs.Record.{Fact, Task}
+use Rattle.planning.specs.Runs.{State, variables, count, goals}
+use Rattle.planning.specs.Calls.{capacity, capacityOf, roomCheck}
+use Rattle.planning.proofs.Checks.{check-none}
 use Rattle.planning.proofs.Facts.{look-some}
 use Rattle.planning.proofs.Formed.{Formed, sorted-has, goals-sorted}
-use Rattle.table.specs.Table.{factOf, factsIn}
+use Rattle.answers.specs.Answers.{valueOf}
+use Rattle.answers.specs.declared.Number.{Number}
+use Rattle.answers.specs.declared.Number.the-variants.{Value, Refused}
+use Rattle.answers.proofs.Stages.{answer-done}
+use Rattle.lists.proofs.Laying.{capacity-le, room-fits, room-short}
+use Rattle.task.specs.Task.{factOf, factsIn}
+use Rattle.state.specs.Sets.{GoalsOf}
+use Rattle.state.specs.declared.Goals.{Goals}
+use Rattle.state.proofs.Listing.{between-inside}
 use Rattle.paths.specs.Paths.{Put}
 use Rattle.paths.specs.declared.Written.{Written}
 use Rattle.paths.specs.declared.Written.the-variants.{Upto, Long}
-use Rattle.passes.specs.Passes.{Fitting}
-use Rattle.repair.specs.Repairs.{Wanted}
+use Rattle.passes.specs.Passes.{Fitting, factsOf}
+use Rattle.passes.proofs.Putting.{put-as}
+use Rattle.repair.specs.Repairs.{Wanted, Lent, moved, Held}
 
-pub capacity-is : (p w a b : ℕ) → a ≡ min p w → b ≡ min a 32768 → b ≡ capacityOf p w
-unfolding capacityOf capacity
-capacity-is p w a b e f = rw (f, e) refl
+-- the goals
+module _ (t : Task) (F : Formed t) (g : Goals) (G : GoalsOf t g) (few : g .count ≤ length (g .facts)) where
+  abbrev front : List ℕ
+  front = take (g .count) (g .facts)
 
-front-facts : (l : List ℕ) (n : ℕ) → factsIn (take n l) 0 (length (take n l)) ≡ factsIn l 0 n
-unfolding factsIn
-front-facts l n = ap (map factOf) (take-length (take n l))
-
-module _ (t : Task) (F : Formed t) (facts : List ℕ) (n : ℕ) (few : n ≤ length facts) (small : (k : ℕ) → k < n → getD facts k 0 < 4096) (are : factsIn facts 0 n ≡ goals t) where
-  pub goals-are : factsIn (take n facts) 0 (length (take n facts)) ≡ goals t
-  goals-are = front-facts facts n ∙ are
+  pub goals-are : factsOf front ≡ goals t
+  unfolding factsIn
+  goals-are = ap (map factOf) (take-length front) ∙ G .are
 
   goals-fitting : Fitting t (goals t)
   goals-fitting v d e = sorted-has (variables t) (count t) 0 (goals t) (goals-sorted t F) v d (look-some (goals t) v d e) .val-below
 
-  pub goals-wanted : Wanted t (take n facts) (factsIn (take n facts) 0 (length (take n facts)))
+  pub goals-wanted : Wanted t front
   goals-wanted = record {
-    small = λ k h. let b : k < n = omega (arith, length-take-le n facts few) in rw (getD-take n facts k 0 b) (small k b);
+    inside = λ k h. let b : k < g .count = omega (arith, length-take-le (g .count) (g .facts) few) in
+        rw (getD-take (g .count) (g .facts) k 0 b) (between-inside (variables t) (count t) (g .facts) (g .count) few 0 k (omega arith) b (rw (G .are) (goals-sorted t F)));
     fitting = rw goals-are goals-fitting;
   }
 
+  pub goals-moves : (K s : State) (plan plan′ : List ℕ) (a : ℕ) (r : Written) → Put plan plan′ a (moved t K s (factsOf front)) r → Put plan plan′ a (moved t K s (goals t)) r
+  goals-moves K s plan plan′ a r p = subst (λ (w : List Fact). Put plan plan′ a (moved t K s w) r) goals-are p
+
 -- what the front parts of the two lists say of the whole
-module _ (l plan ys : List ℕ) (p w room : ℕ) (er : room ≡ capacityOf p w) (ep : p ≡ length plan) where
-  pub room-fits : (room ≤ p) × (room ≤ w) × (room ≤ 32768)
-  unfolding capacityOf capacity
-  room-fits = (omega arith, omega arith, omega arith)
+module _ (plan work : List ℕ) (less room : ℕ) (ea : less ≡ min (length plan) (length work)) (eb : room ≡ capacity less) where
+  room-is : room ≡ capacityOf (length plan) (length work)
+  unfolding capacityOf
+  room-is = eb ∙ ap capacity ea
 
-  module _ (r : Written) (q : Put (take room plan) ys 0 l r) (long : length ys ≡ length (take room plan)) where
-    front-length : length (take room plan) ≡ room
-    front-length = length-take-le room plan (omega (arith, room-fits))
+  pub room-bounds : (room ≤ length plan) × (room ≤ length work) × (room ≤ 32768)
+  room-bounds = let c = capacity-le less in (omega (arith, c), omega (arith, c), omega (arith, c))
 
-    pub ends-long : r ≡ Long → capacityOf p w < length l
-    ends-long z =
-        let y : Put (take room plan) ys 0 l Long = subst (λ (x : Written). Put (take room plan) ys 0 l x) z q in
-        rw (← er) (omega (arith, y, front-length))
+  front-length : length (take room plan) ≡ room
+  front-length = length-take-le room plan (room-bounds .0)
+
+  pub fronts-lent : (memo : List ℕ) → length memo ≡ 4160 → Lent memo (take room plan) (take room work) 0
+  fronts-lent memo m = record { memo-long = m; same = length-take-le room work (room-bounds .1) ∙ sym front-length; within = omega arith }
+
+  module _ (l ys : List ℕ) (long : length ys ≡ length (take room plan)) (r : Written) (q : Put (take room plan) ys 0 l r) where
+    pub ends-long : r ≡ Long → (d : List ℕ) (p : ℕ) → p ≡ room → Held l d (capacityOf (length plan) (length work)) (Refused (record { number = 11; place = p }))
+    unfolding answer
+    ends-long z d p e =
+        let y = put-as (take room plan) ys 0 l r Long z q in
+        rw (← room-is) (record { says = rw (room-short (length l) room (omega (arith, y, front-length)), e) refl; fills = λ n w. let x : _≡_ {A = ℕ} 0 1 = cc in absurd (omega arith) })
 
     pub ends-small : (n : ℕ) → r ≡ Upto n → n ≤ 32768
-    ends-small n z =
-        let y : Put (take room plan) ys 0 l (Upto n) = subst (λ (x : Written). Put (take room plan) ys 0 l x) z q in
-        omega (arith, y .1, front-length, room-fits)
+    ends-small n z = let y = put-as (take room plan) ys 0 l r (Upto n) z q in omega (arith, y .1, front-length, room-bounds)
 
-    pub ends-held : (n : ℕ) → r ≡ Upto n → (plan′ rest : List ℕ) → plan′ ≡ ys ++ rest → (n ≡ length l) × (n ≤ capacityOf p w) × (take n plan′ ≡ l)
-    ends-held n z plan′ rest e =
-        let y : Put (take room plan) ys 0 l (Upto n) = subst (λ (x : Written). Put (take room plan) ys 0 l x) z q in
-        (omega (arith, y .0), rw (← er) (omega (arith, y .1, front-length)), rw e (take-append-le n ys rest (omega (arith, y .1, long)) ∙ y .2))
+    pub ends-held : (n : ℕ) → r ≡ Upto n → (rest : List ℕ) (m : ℕ) → m ≡ n → Held l (ys ++ rest) (capacityOf (length plan) (length work)) (Value m)
+    unfolding answer
+    ends-held n z rest m e =
+        let y = put-as (take room plan) ys 0 l r (Upto n) z q in
+        let b : m ≡ length l = omega (arith, y .0) in
+        rw (← room-is) (record {
+          says = rw (room-fits (length l) room (omega (arith, y .0, y .1, front-length)), b) refl;
+          fills = λ k w. let x : k ≡ n = cc in rw x (take-append-le n ys rest (omega (arith, y .1, long)) ∙ y .2);
+        })
 
--- the front parts of both lists have the same length
-pub fronts-same : (plan work : List ℕ) (room : ℕ) → room ≡ capacityOf (length plan) (length work) → length (take room work) ≡ length (take room plan)
-fronts-same plan work room e =
-    let f = room-fits [] plan [] (length plan) (length work) room e refl in
-    length-take-le room work (f .1) ∙ sym (length-take-le room plan (f .0))
+-- what a caller reads off
+pub held-value : (l d : List ℕ) (room n : ℕ) (r : Number) → Held l d room r → r ≡ Value n → (n ≡ length l) × (n ≤ room) × (take n d ≡ l)
+unfolding roomCheck
+held-value l d room n r H e =
+    let p = answer-done (roomCheck (length l) room) (length l) n (sym (H .says) ∙ ap valueOf e) in
+    (sym (p .1), omega (arith, p .1, leb→le (length l) room (check-none (leb (length l) room) 11 room (p .0))), H .fills n e)

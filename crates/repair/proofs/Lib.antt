@@ -1,6 +1,5 @@
 pub mod Values
 pub mod Below
-pub mod Serving
 pub mod Filling
 pub mod Arranging
 pub mod Repairing

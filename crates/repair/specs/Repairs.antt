@@ -2,48 +2,51 @@
 use mathlib.Core.Path.{_≡_}
 use mathlib.Core.Bool.{true, false}
 use mathlib.Core.List.{List, [], _∷_, _++_}
-use Prim.Native.Nat.{ℕ, _<_, _≤_}
+use Prim.Native.Nat.{ℕ, _/_, _<_, _≤_}
 use lib.ListN.{length, getD, take}
-use Rattle.planning.specs.Record.{Fact, Task, taskOf}
-use Rattle.planning.specs.Runs.{State, relaxed, run, count, act, black}
+use Rattle.planning.specs.Basics.{answer}
+use Rattle.planning.specs.Record.{Fact, Task}
+use Rattle.planning.specs.Runs.{State, variables, count, act, black, goals}
 use Rattle.planning.specs.Repair.{order, fill, value, blackMet}
-use Rattle.state.specs.Sets.{setsOf, modeOf}
-use Rattle.paths.specs.Paths.{Ground}
-use Rattle.paths.specs.declared.Written.{Written}
-use Rattle.paths.specs.declared.Written.the-variants.{Upto, Long}
-use Rattle.passes.specs.Passes.{pathsOf, Fitting}
-use Rattle.repair.specs.declared.Repaired.{Repaired}
-use Rattle.repair.specs.declared.Repaired.the-variants.{Steps, TooLong}
-
--- the ground of the searches, the black variables as a set, and their clients-first order
-pub record Setting (s table head chain masks : List ℕ) (paint : ℕ) (ordered : List ℕ) : Type 0 where
-  pub ground : Ground s table head chain masks
-  pub colours : modeOf paint ≡ black (taskOf s)
-  pub clients : ordered ≡ order (taskOf s)
+use Rattle.planning.specs.Calls.{roomCheck}
+use Rattle.answers.specs.Answers.{valueOf}
+use Rattle.answers.specs.declared.Number.{Number}
+use Rattle.answers.specs.declared.Number.the-variants.{Value}
+use Rattle.paths.specs.Paths.{pathsOf}
+use Rattle.passes.specs.Passes.{factsOf, Fitting}
 
 -- facts of the task in a list of numbers
-pub record Wanted (t : Task) (facts : List ℕ) (fs : List Fact) : Type 0 where
-  pub small : (k : ℕ) → k < length facts → getD facts k 0 < 4096
-  pub fitting : Fitting t fs
+pub record Wanted (t : Task) (facts : List ℕ) : Type 0 where
+  pub inside : (k : ℕ) → k < length facts → getD facts k 0 / 64 < variables t
+  pub fitting : Fitting t (factsOf facts)
 
--- the passes of the variables vs
-abbrev pub filled : Task → State → State → List ℕ → List ℕ → List Fact → List ℕ
-filled t K s vs l w = fill (act t) (pathsOf t K) (value (count t) s) vs l w
+-- room for rows of leads, two lists of one length, and a place in them
+pub record Lent (memo plan work : List ℕ) (at : ℕ) : Type 0 where
+  pub memo-long : length memo ≡ 4160
+  pub same : length work ≡ length plan
+  pub within : at ≤ length plan
+
+-- the passes of the variables vs over the list l
+abbrev pub fillFrom : Task → State → State → List ℕ → List ℕ → List Fact → List ℕ
+fillFrom t K s vs l w = fill (act t) (pathsOf t K) (value (count t) s) vs l w
+
+-- the passes of all black variables
+unfoldable pub filled : Task → State → State → List Fact → List ℕ
+filled t K s w = fillFrom t K s (order t) [] w
 
 -- the moves to insert for the wanted facts w
-unfoldable pub movesFor : Task → State → State → List Fact → List ℕ
-movesFor t K s w = elim (blackMet (black t) s w) [ true ↦ [] | false ↦ filled t K s (order t) [] w ]
+unfoldable pub moved : Task → State → State → List Fact → List ℕ
+moved t K s w = elim (blackMet (black t) s w) [ true ↦ [] | false ↦ filled t K s w ]
 
 -- the moves for action i, and the action
 abbrev pub stepsFor : Task → State → State → ℕ → List ℕ
-stepsFor t K s i = movesFor t K s (act t i .pre) ++ (i ∷ [])
+stepsFor t K s i = moved t K s (act t i .pre) ++ (i ∷ [])
 
--- after success the state and the facts held ever are those behind the steps k
-abbrev pub Ran : Task → State → State → List ℕ → List ℕ → List ℕ → Written → Type 0
-Ran t K s k sets ever (Upto e) = (setsOf sets ≡ run (act t) (black t) k s) × (setsOf ever ≡ run (act t) relaxed k K)
-Ran t K s k sets ever Long = Unit {0}
+-- the moves for the goals, at the end
+abbrev pub lastMoves : Task → State → State → List ℕ
+lastMoves t K s = moved t K s (goals t)
 
--- the list l fills the front of d, which has room for it; or it is longer than the room
-abbrev pub Held : List ℕ → List ℕ → ℕ → Repaired → Type 0
-Held l d room (Steps n) = (n ≡ length l) × (n ≤ room) × (take n d ≡ l)
-Held l d room TooLong = room < length l
+-- the number of entries of the list l, if there is room for them, or the refusal; then l fills the front of d
+pub record Held (l d : List ℕ) (room : ℕ) (r : Number) : Type 0 where
+  pub says : valueOf r ≡ answer (roomCheck (length l) room) (length l)
+  pub fills : (n : ℕ) → r ≡ Value n → take n d ≡ l

@@ -20,19 +20,21 @@ sorted-rising n count low [] h S = tt
 sorted-rising n count low (f ∷ fs) h S = (S .0, omega (arith, S .1), sorted-rising n count (f .var + 1) fs h (S .3))
 
 -- each of the facts from place a up to b, if they are sorted
-module _ (n : ℕ) (count : ℕ → ℕ) (h : n ≤ 64) (table : List ℕ) (b : ℕ) (e : b ≤ length table) where
-  sorted-small : (m a low : ℕ) → a + m < b → Sorted n count low (factsIn table a b) → getD table (a + m) 0 < 4096
+module _ (n : ℕ) (count : ℕ → ℕ) (table : List ℕ) (b : ℕ) (e : b ≤ length table) where
+  sorted-inside : (m a low : ℕ) → a + m < b → Sorted n count low (factsIn table a b) → getD table (a + m) 0 / 64 < n
   unfolding factOf
-  sorted-small zero a low l S =
+  sorted-inside zero a low l S =
       let C : Sorted n count low (factOf (getD table a 0) ∷ factsIn table (a + 1) b) = rw (factsIn-cons table a b (omega arith) e) at S in
-      let z : getD table a 0 < 4096 = omega (arith, C .1) in
-      rw add-zero z
-  sorted-small (suc m) a low l S =
+      rw add-zero (C .1)
+  sorted-inside (suc m) a low l S =
       let C : Sorted n count low (factOf (getD table a 0) ∷ factsIn table (a + 1) b) = rw (factsIn-cons table a b (omega arith) e) at S in
-      subst (λ x. getD table x 0 < 4096) (omega arith) (sorted-small m (a + 1) (getD table a 0 / 64 + 1) (omega arith) (C .3))
+      subst (λ x. getD table x 0 / 64 < n) (omega arith) (sorted-inside m (a + 1) (getD table a 0 / 64 + 1) (omega arith) (C .3))
 
-  pub between-small : (a k : ℕ) → a ≤ k → k < b → Sorted n count 0 (factsIn table a b) → getD table k 0 < 4096
-  between-small a k l m S = subst (λ x. getD table x 0 < 4096) (omega arith) (sorted-small (k - a) a 0 (omega arith) S)
+  pub between-inside : (a k : ℕ) → a ≤ k → k < b → Sorted n count 0 (factsIn table a b) → getD table k 0 / 64 < n
+  between-inside a k l m S = subst (λ x. getD table x 0 / 64 < n) (omega arith) (sorted-inside (k - a) a 0 (omega arith) S)
+
+  between-small : n ≤ 64 → (a k : ℕ) → a ≤ k → k < b → Sorted n count 0 (factsIn table a b) → getD table k 0 < 4096
+  between-small h a k l m S = omega (arith, between-inside a k l m S)
 
 pub loaded-listed : (task : List ℕ) → Loaded task → (i : ℕ) → i < actions (taskIn task) → Listed task i
 unfolding actionIn
@@ -55,9 +57,9 @@ loaded-listed task L i b =
   where
     go : (k : ℕ) → cell task (1361 + i) 1 ≤ k → k < cell task (1361 + i) 3 → Sorted (variables (taskIn task)) (count (taskIn task)) 0 (factsIn task (cell task (1361 + i) 1) (cell task (1361 + i) 2))
         → Sorted (variables (taskIn task)) (count (taskIn task)) 0 (factsIn task (cell task (1361 + i) 2) (cell task (1361 + i) 3)) → Dec (k < cell task (1361 + i) 2) → getD task k 0 < 4096
-    go k l m pre eff (yes h) = between-small (variables (taskIn task)) (count (taskIn task)) (L .formed .variables-max) task (cell task (1361 + i) 2) (omega (arith, L .rows i b .eff-below, L .rows i b .end-below)) (cell task (1361 + i) 1) k l h pre
-    go k l m pre eff (no h) = between-small (variables (taskIn task)) (count (taskIn task)) (L .formed .variables-max) task (cell task (1361 + i) 3) (L .rows i b .end-below) (cell task (1361 + i) 2) k (omega arith) m eff
+    go k l m pre eff (yes h) = between-small (variables (taskIn task)) (count (taskIn task)) task (cell task (1361 + i) 2) (omega (arith, L .rows i b .eff-below, L .rows i b .end-below)) (L .formed .variables-max) (cell task (1361 + i) 1) k l h pre
+    go k l m pre eff (no h) = between-small (variables (taskIn task)) (count (taskIn task)) task (cell task (1361 + i) 3) (L .rows i b .end-below) (L .formed .variables-max) (cell task (1361 + i) 2) k (omega arith) m eff
 
 -- a list that states the goals
 pub goals-small : (t : Task) (l : List ℕ) (n : ℕ) → Formed t → n ≤ length l → factsIn l 0 n ≡ goals t → (k : ℕ) → k < n → getD l k 0 < 4096
-goals-small t l n F h e k b = between-small (variables t) (count t) (F .variables-max) l n h 0 k (omega arith) b (rw e (goals-sorted t F))
+goals-small t l n F h e k b = between-small (variables t) (count t) l n h (F .variables-max) 0 k (omega arith) b (rw e (goals-sorted t F))

@@ -5,10 +5,12 @@ use mathlib.Core.Option.{none, some}
 use Prim.Native.Nat.{ℕ, zero, suc, _+_, _-_, _*_, _/_, _%_, _<_, _≤_}
 use native.Mathlib.Omega.{arith}
 use lib.Dec.{eqb}
-use lib.ListN.{length, getD}
+use lib.ListN.{length, getD, take}
+use lib.Seq.{length-slice, getD-take, getD-drop}
 use Rattle.planning.specs.Record.{Variable, goalOf}
 use Rattle.planning.specs.Runs.{noVariable, noAction, variables, actions, variable, act, count, black}
 use Rattle.task.specs.Task.{cell, variableIn, actionIn, each, taskIn, Loaded}
+use Rattle.task.specs.Links.{orderIn, Prepared}
 
 module _ {A : Type 0} (f : ℕ → A) where
   pub each-length : (a n : ℕ) → length (each f a n) ≡ n
@@ -68,3 +70,13 @@ module _ (task : List ℕ) where
     -- its row is there
     pub variable-room : Loaded task → 4 * (1 + v) + 4 ≤ length task
     variable-room L = omega (arith, L .formed .variables-max, L .head)
+
+-- the order, entry by entry
+module _ (task : List ℕ) (P : Prepared task) where
+  pub order-length : length (orderIn task) ≡ cell task 0 2
+  unfolding orderIn
+  order-length = length-slice 260 (260 + cell task 0 2) task (omega (arith, P .few, P .loaded .head)) ∙ omega arith
+
+  pub order-get : (p : ℕ) → p < length (orderIn task) → getD (orderIn task) p 0 ≡ getD task (260 + p) 0
+  unfolding orderIn
+  order-get p h = getD-drop 260 (take (260 + cell task 0 2) task) p 0 ∙ getD-take (260 + cell task 0 2) task (260 + p) 0 (omega (arith, order-length))

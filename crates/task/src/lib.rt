@@ -6,7 +6,7 @@ ghost use lib.ListN.{length, getD, set};
 ghost use Rattle.planning.specs.Record.{taskOf, recordCheck, variablesIn, actionsIn};
 ghost use Rattle.planning.specs.Runs.{variables, actions, variable, count, black};
 ghost use Rattle.task.specs.Task.{cell, taskIn, Loaded, costAt, preAt, effAt, endAt};
-ghost use Rattle.task.specs.Links.{headAt, nextAt, linked, Unlinked};
+ghost use Rattle.task.specs.Links.{headAt, nextAt, orderIn, linked, Unlinked, Prepared};
 ghost use Rattle.task.specs.Size.{taskSize, roomFor};
 ghost use Rattle.task.specs.Loading.{RowWritten, FactsLoaded, Room, ActionLoaded, VariableLoaded, Headed};
 ghost use Rattle.task.specs.Goals.{optionOf};
@@ -116,20 +116,20 @@ pub fn next_setter(task: &[u16], i: usize) -> usize
     lists::wide(task[4420 + i])
 }
 
-// The number of variables in the order.
+// The number of black variables in the clients-first order.
 pub fn ordered(task: &[u16]) -> usize
-    requires { ⌜ Loaded (now task) ⌝ }
-    ensures { λ r. ⌜ r ≡ cell (now (task .entry)) 0 2 ⌝ }
+    requires { ⌜ Prepared (now task) ⌝ }
+    ensures { λ r. ⌜ r ≡ length (orderIn (now (task .entry))) ⌝ }
 {
     lists::wide(task[2])
 }
 
-// The variable at place k of the order.
-pub fn order_at(task: &[u16], k: usize) -> usize
-    requires { ⌜ Loaded (now task) × (k < 64) ⌝ }
-    ensures { λ r. ⌜ r ≡ getD (now (task .entry)) (260 + k) 0 ⌝ }
+// The black variable at place p of that order.
+pub fn order_at(task: &[u16], p: usize) -> usize
+    requires { ⌜ Prepared (now task) × (p < length (orderIn (now task))) ⌝ }
+    ensures { λ r. ⌜ r ≡ getD (orderIn (now (task .entry))) p 0 ⌝ }
 {
-    lists::wide(task[260 + k])
+    lists::wide(task[260 + p])
 }
 
 // No action is linked for the first n facts.

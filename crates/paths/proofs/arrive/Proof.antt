@@ -1,94 +1,74 @@
+-- The actions that set v to e are those of one chain, rising: each is noted for the values from which it leads here, and the chain's
+-- end leaves none out.
+use borrow.Author.Needs.{needs}
 use mathlib.Core.Path.{sym, _∙_}
 use Prim.Native.Nat.{_-_}
 use native.Mathlib.Omega.{arith}
-use Rattle.planning.specs.Record.{taskOf}
+use Rattle.task.specs.Task.{taskIn}
 use Rattle.state.specs.Sets.{setsOf}
-use Rattle.paths.proofs.Arriving.{Arriving, arrive-start, arrive-listed, arrive-above, arrive-turn, arrive-end}
+use Rattle.paths.proofs.Arriving.{Arriving, Chain, chain-place, arriving-start, arriving-here, arriving-above, arriving-turn, arriving-end}
 use Rattle.paths.proofs.arrive.Statement.{statement}
 use Rattle.paths.proofs.arrive.Tie as tie
 
 abbrev Inv-loop : tie.InvT-loop
-Inv-loop bytes table head chain masks ever row₀ v front e rest grow i₀ g₀ row i g = Arriving (taskOf bytes) (setsOf ever) v front e rest row₀ row g i
+Inv-loop task ever row₀ v front e rest grow i₀ g₀ row i g = Arriving (taskIn task) (setsOf ever) v front e rest row₀ row g i
 
 abbrev μ-loop : tie.MeasureT-loop
-μ-loop bytes table head chain masks ever row₀ v front e rest grow i₀ g₀ row i g = 65536 - i
+μ-loop task ever row₀ v front e rest grow i₀ g₀ row i g = 65536 - i
 
-abbrev loop-to-start : tie.After-loop Inv-loop μ-loop → tie.Start Inv-loop μ-loop
-loop-to-start c = c .before .before .before .before .before .before .before
+abbrev start-of : tie.At-loop Inv-loop μ-loop → tie.Start Inv-loop μ-loop
+start-of h = h .before .before .before .before
 
-mul-wide : tie.Need-mul-wide Inv-loop μ-loop
-mul-wide c = omega arith
+chain : (s : tie.Start Inv-loop μ-loop) → Chain (s .args .task .now) (s .args .v) (s .args .front) (s .args .e) (s .args .rest)
+chain s = let p = s .pre in record { prepared = p .0 .0; painted = p .0 .1; near = p .0 .3; member = p .1 .0; apart = p .1 .1 }
 
-add-wide : tie.Need-add-wide Inv-loop μ-loop
-add-wide c = omega arith
+mul-first-setter : tie.Need-mul-first-setter Inv-loop μ-loop
+mul-first-setter c = omega (arith, chain-place _ _ _ _ _ (chain (c .before .before)))
 
-mul-wide-2 : tie.Need-mul-wide-2 Inv-loop μ-loop
-mul-wide-2 c = omega arith
+add-first-setter : tie.Need-add-first-setter Inv-loop μ-loop
+add-first-setter c = omega (arith, chain-place _ _ _ _ _ (chain (c .before .before)))
 
-element-copy-out-wide : tie.Need-element-copy-out-wide Inv-loop μ-loop
-element-copy-out-wide c = omega arith
-
-wide-requires : tie.Need-wide-requires Inv-loop μ-loop
-wide-requires c κs = tt
+first-setter-requires : tie.Need-first-setter-requires Inv-loop μ-loop
+first-setter-requires c κs = let s = c .before .before in (s .pre .0 .0 .loaded, chain-place _ _ _ _ _ (chain s))
 
 loop-holds : tie.Need-loop-holds Inv-loop μ-loop
 loop-holds c =
-    let at-start = c .before .before .before .before .before in
-    let a = at-start .args in
-    let p = at-start .pre in
-    arrive-start (a .bytes .now) (a .table .now) (a .head .now) (a .chain .now) (a .masks .now) (p .0 .0) (setsOf (a .ever .now)) (a .v) (a .front) (a .e) (a .rest) (p .0 .2) (p .0 .3) (p .0 .1) (p .1 .0) (p .1 .1) _ _ _ (p .0 .4) (p .1 .2) (c .wide .ensures)
+    let s = c .before .before .before in
+    arriving-start _ _ _ _ _ (chain s) _ _ _ _ (s .pre .0 .2) (s .pre .1 .2) (c .first-setter .ensures)
 
 usable-sources-requires : tie.Need-usable-sources-requires Inv-loop μ-loop
 usable-sources-requires c κs =
-    let at-start = c .before .before .before .before .before .before .before in
-    let a = at-start .args in
-    let p = at-start .pre in
-    (arrive-listed (a .bytes .now) (a .table .now) (a .head .now) (a .chain .now) (a .masks .now) (p .0 .0) (setsOf (a .ever .now)) (a .v) (a .front) (a .e) (a .rest) (p .0 .2) (p .0 .3) (p .0 .1) (p .1 .0) (p .1 .1) _ _ _ _ (c .before .loop .inv) (omega arith), p .0 .0 .masked)
+    let h = c .before in
+    let s = start-of h in
+    (s .pre .0 .0 .loaded, arriving-here _ _ _ _ _ (chain s) _ _ _ _ _ (h .loop .inv) (omega arith) .0)
 
 cast-mark : tie.Need-cast-mark Inv-loop μ-loop
 cast-mark c = omega arith
 
 mark-requires : tie.Need-mark-requires Inv-loop μ-loop
-mark-requires c κs = let at-head = c .before .before .before in at-head .loop .inv .long
+mark-requires c κs = let h = c .before .before .before in h .loop .inv .long
 
-mul-wide-3 : tie.Need-mul-wide-3 Inv-loop μ-loop
-mul-wide-3 c = omega arith
-
-element-copy-out-wide-2 : tie.Need-element-copy-out-wide-2 Inv-loop μ-loop
-element-copy-out-wide-2 c = omega arith
-
-wide-requires-2 : tie.Need-wide-requires-2 Inv-loop μ-loop
-wide-requires-2 c κs = tt
+next-setter-requires : tie.Need-next-setter-requires Inv-loop μ-loop
+next-setter-requires c κs = let h = c .before .before .before .before .before .before in (start-of h .pre .0 .0 .loaded, omega arith)
 
 loop-less : tie.Need-loop-less Inv-loop μ-loop
 loop-less c =
-    let x = let a = c .before .before .before .before .before .before .before .before .before .before .before .before .before .before .args in let p
-    = c .before .before .before .before .before .before .before .before .before .before .before .before .before .before .pre in arrive-above
-    (a .bytes .now) (a .table .now) (a .head .now) (a .chain .now) (a .masks .now) (p .0 .0) (setsOf (a .ever .now)) (a .v) (a .front) (a .e)
-    (a .rest) (p .0 .2) (p .0 .3) (p .0 .1) (p .1 .0) (p .1 .1) _ _ _ _
-    (c .before .before .before .before .before .before .before .before .loop .inv) (omega arith) _ (c .wide2 .ensures) in omega (arith, c .wide2 .ensures)
+    let h = c .before .before .before .before .before .before .before in
+    omega (arith, arriving-above _ _ _ _ _ (chain (start-of h)) _ _ _ _ _ (h .loop .inv) (omega arith) _ (c .next-setter .ensures))
 
 loop-again : tie.Need-loop-again Inv-loop μ-loop
 loop-again c =
-    let at-row = c .before .before .before in
-    let at-usable-sources = at-row .before .before .before in
-    let at-start = at-usable-sources .before .before .before .before .before .before .before .before in
-    let a = at-start .args in
-    let p = at-start .pre in
-    arrive-turn (a .bytes .now) (a .table .now) (a .head .now) (a .chain .now) (a .masks .now) (p .0 .0) (setsOf (a .ever .now)) (a .v) (a .front)
-    (a .e) (a .rest) (p .0 .2) (p .0 .3) (p .0 .1) (p .1 .0) (p .1 .1) _ _ _ _ (at-usable-sources .before .before .loop .inv) (omega arith) _ _ _
-    (at-row .row .given ∙ at-usable-sources .before .before .loop .inv .long) (at-usable-sources .usable-sources .ensures)
-    (at-row .before .mark .ensures) (c .wide2 .ensures)
+    let marked = c .before .before .before in
+    let found = marked .before .before in
+    let h = found .before .before in
+    arriving-turn _ _ _ _ _ (chain (start-of h)) _ _ _ _ _ (h .loop .inv) (omega arith) _ _ _
+    (c .before .before .row .given ∙ h .loop .inv .long) (found .usable-sources .ensures) (marked .mark .ensures) (c .next-setter .ensures)
 
 same-length : tie.Need-same-length Inv-loop μ-loop
-same-length c = let at-start = loop-to-start c in c .before .loop .inv .long ∙ sym (at-start .pre .0 .4)
+same-length c = let h = c .before in h .loop .inv .long ∙ sym (start-of h .pre .0 .2)
 
 returns : tie.Need-returns Inv-loop μ-loop
-returns c =
-    let at-start = loop-to-start c in
-    let a = at-start .args in
-    let p = at-start .pre in
-    arrive-end (a .bytes .now) (a .table .now) (a .head .now) (a .chain .now) (a .masks .now) (p .0 .0) (setsOf (a .ever .now)) (a .v) (a .front) (a .e) (a .rest) (p .0 .2) (p .0 .3) (p .0 .1) (p .1 .0) (p .1 .1) _ _ _ _ (c .before .loop .inv) (omega arith)
+returns c = let h = c .before in (arriving-end _ _ _ _ _ (chain (start-of h)) _ _ _ _ _ (h .loop .inv) (omega arith), h .loop .inv .kept)
 
 pub arrive-spec : {M : Type 1} → statement M
 arrive-spec =
@@ -96,18 +76,14 @@ arrive-spec =
     (tie.spec
     Inv-loop
     μ-loop
-    mul-wide
-    add-wide
-    mul-wide-2
-    element-copy-out-wide
-    wide-requires
+    mul-first-setter
+    add-first-setter
+    first-setter-requires
     loop-holds
     usable-sources-requires
     cast-mark
     mark-requires
-    mul-wide-3
-    element-copy-out-wide-2
-    wide-requires-2
+    next-setter-requires
     loop-less
     loop-again
     same-length

@@ -1,3 +1,4 @@
+-- The members of the set are taken from the least on; values before c are noted, those from c on stand as they were.
 use borrow.Author.Needs.{needs}
 use Prim.Native.Nat.{_-_}
 use native.Mathlib.Omega.{arith}

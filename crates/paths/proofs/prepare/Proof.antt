@@ -1,38 +1,40 @@
 use borrow.Author.Needs.{needs}
-use Prim.Native.Nat.{_*_}
-use native.Mathlib.Omega.{arith}
+use mathlib.Core.List.{List}
 use mathlib.Core.Path.{_≡_, _∙_}
-use Prim.Native.Nat.{ℕ}
+use Prim.Native.Nat.{ℕ, _+_, _-_, _*_, _<_}
+use native.Mathlib.Omega.{arith}
 use lib.ListN.{length, take, drop}
-use Prim.Native.Nat.{_+_, _-_}
-use Rattle.planning.specs.Record.{taskOf}
-use Rattle.planning.proofs.Formed.{formed-of}
-use Rattle.state.specs.Sets.{setsOf}
-use Rattle.paths.proofs.Memos.{memo-filled}
-use Rattle.paths.proofs.Memos.{part-long}
+use Rattle.paths.proofs.Memos.{memo-filled, part-long}
 use Rattle.paths.proofs.prepare.Statement.{statement}
 use Rattle.paths.proofs.prepare.Tie as tie
 
+small : (s : tie.Start) → s .args .d < 64
+small s = omega (arith, s .pre .0 .2, s .pre .0 .0 .loaded .formed .count-max (s .args .v))
+
+-- the row of d is 64 entries long
+row-long : (s : tie.Start) → length (take ((64 * s .args .d + 64) - 64 * s .args .d) (drop (64 * s .args .d) (s .args .memo .now))) ≡ 64
+row-long s = part-long (s .args .memo .now) (64 * s .args .d) ((64 * s .args .d + 64) - 64 * s .args .d) (omega arith) (omega (arith, s .pre .1 .long, small s))
+
 add-if1 : tie.Need-add-if1
-add-if1 c = omega arith
+add-if1 c = omega (arith, small (c .before .before))
 
 mul-if1 : tie.Need-mul-if1
-mul-if1 c = omega arith
+mul-if1 c = omega (arith, small (c .before .before))
 
 slice-read-if1 : tie.Need-slice-read-if1
-slice-read-if1 c = omega arith
+slice-read-if1 c = let s = c .before .before .before in omega (arith, s .pre .1 .long, small s)
 
 returns : tie.Need-returns
 returns c = search needs
 
 mul-from : tie.Need-mul-from
-mul-from c = omega arith
+mul-from c = omega (arith, small (c .before .before .before .before))
 
 add-to : tie.Need-add-to
-add-to c = omega arith
+add-to c = omega (arith, small (c .before .before .before .before))
 
 mul-towards : tie.Need-mul-towards
-mul-towards c = omega arith
+mul-towards c = omega (arith, small (c .before .before .before .before))
 
 sub-towards : tie.Need-sub-towards
 sub-towards c = omega arith
@@ -41,38 +43,34 @@ part-towards-start : tie.Need-part-towards-start
 part-towards-start c = omega arith
 
 part-towards-end : tie.Need-part-towards-end
-part-towards-end c = omega arith
+part-towards-end c = let s = c .before .before .before .before in omega (arith, s .pre .1 .long, small s)
 
 towards-requires : tie.Need-towards-requires
-towards-requires c κs =
-    let at-start = c .before .before .before .before .before .before in
-    let p = at-start .pre in
-    let a = at-start .args in
-    ((p .0 .0, p .0 .1, p .0 .2, part-long (a .memo .now) (64 * a .d) ((64 * a .d + 64) - 64 * a .d) (omega arith) (omega (arith, p .0 .3 .long, p .1))), p .1)
+towards-requires c κs = let s = c .before .before .before .before .before in (s .pre .0 .0, s .pre .0 .1, row-long s, s .pre .0 .2)
 
 add-memo : tie.Need-add-memo
-add-memo c = omega arith
+add-memo c = omega (arith, small (c .before .before .before .before .before .before .before .before))
 
 mul-memo : tie.Need-mul-memo
-mul-memo c = omega arith
+mul-memo c = omega (arith, small (c .before .before .before .before .before .before .before .before))
 
 slice-write-memo : tie.Need-slice-write-memo
-slice-write-memo c = omega arith
+slice-write-memo c =
+    let s = c .before .before .before .before .before .before .before .before in
+    omega (arith, c .before .memo .given .1, s .pre .1 .long, small s)
 
 same-length : tie.Need-same-length
 same-length c = search needs
 
 returns-2 : tie.Need-returns-2
 returns-2 c =
-    let at-start = c .before .before .before .before .before .before .before .before .before in
-    let p = at-start .pre in
-    let a = at-start .args in
-    memo-filled (taskOf (a .bytes .now)) (setsOf (a .ever .now)) (a .v) (a .d) (omega (arith, p .1))
-    (omega (arith, formed-of (a .bytes .now) (p .0 .0 .accepted) .count-max (a .v))) (a .memo .now)
-    (c .before .before .towards .last .1 .1 .1 .1 .1 .1 .0) (p .0 .3)
-    (let z : length {A = ℕ} (c .before .before .towards .last .1 .1 .1 .1 .1 .1 .0) ≡ length
-    (take ((64 * a .d + 64) - 64 * a .d) (drop (64 * a .d) (a .memo .now))) = c .before .memo .given .0 in z ∙ part-long (a .memo .now) (64 * a .d)
-    ((64 * a .d + 64) - 64 * a .d) (omega arith) (omega (arith, p .0 .3 .long, p .1))) (c .before .before .towards .ensures) ((64 * a .d + 64) - 64 * a .d) (omega arith)
+    let found = c .before .before in
+    let s = found .before .before .before .before .before .before in
+    let a = s .args in
+    let row = found .towards .last .1 .1 .0 in
+    let z : length {A = ℕ} row ≡ length (take ((64 * a .d + 64) - 64 * a .d) (drop (64 * a .d) (a .memo .now))) = c .before .memo .given .0 in
+    memo-filled _ _ (a .v) (a .d) (small s) (s .pre .0 .0 .loaded .formed .count-max (a .v)) (a .memo .now) row (s .pre .1) (z ∙ row-long s)
+    (found .towards .ensures) ((64 * a .d + 64) - 64 * a .d) (omega arith)
 
 pub prepare-spec : {M : Type 1} → statement M
 prepare-spec =

@@ -1,72 +1,76 @@
-use mathlib.Core.Path.{refl, sym, _∙_}
+-- After k turns front is the layer of values that need k moves and no fewer, rest those that need more. A variable of n values has
+-- no path of n moves that is shortest; and if a layer is empty, so are all behind it.
+use mathlib.Core.Path.{sym, _∙_, refl}
 use Prim.Native.Nat.{_-_}
 use native.Mathlib.Omega.{arith}
-use Rattle.planning.specs.Record.{taskOf}
+use Rattle.planning.proofs.Formed.{Formed}
+use Rattle.planning.proofs.Painting.{black-inside}
+use Rattle.task.specs.Task.{taskIn}
 use Rattle.state.specs.Sets.{setsOf}
 use Rattle.paths.proofs.Leads.{Layered, layered-apart, layered-marks, layered-end}
-use Rattle.paths.proofs.Arriving.{ground-formed, searching-start, searching-turn, searching-stop}
+use Rattle.paths.proofs.Arriving.{searching-start, searching-turn, searching-stop}
 use Rattle.paths.proofs.towards.Statement.{statement}
 use Rattle.paths.proofs.towards.Tie as tie
 
 abbrev Inv-loop : tie.InvT-loop
-Inv-loop bytes table head chain masks ever row₀ v n d front₀ rest₀ k₀ row front rest k = Layered (taskOf bytes) (setsOf ever) v d k front rest row
+Inv-loop task ever row₀ v d n front₀ rest₀ k₀ row front rest k = Layered (taskIn task) (setsOf ever) v d k front rest row
 
 abbrev μ-loop : tie.MeasureT-loop
-μ-loop bytes table head chain masks ever row₀ v n d front₀ rest₀ k₀ row front rest k = n - k
+μ-loop task ever row₀ v d n front₀ rest₀ k₀ row front rest k = n - k
 
-abbrev head-to-start : tie.At-loop Inv-loop μ-loop → tie.Start Inv-loop μ-loop
-head-to-start c = c .before .before .before .before .before .before .before .before
+abbrev count-at : tie.At-loop Inv-loop μ-loop → tie.After-count Inv-loop μ-loop
+count-at h = h .before .before
 
-abbrev loop-to-start : tie.After-loop Inv-loop μ-loop → tie.Start Inv-loop μ-loop
-loop-to-start c = c .before .before .before .before .before .before .before .before .before
+abbrev start-of : tie.After-count Inv-loop μ-loop → tie.Start Inv-loop μ-loop
+start-of c = c .before .before .before .before .before .before .before
+
+formed : (s : tie.Start Inv-loop μ-loop) → Formed (taskIn (s .args .task .now))
+formed s = s .pre .0 .loaded .formed
 
 blank-requires : tie.Need-blank-requires Inv-loop μ-loop
 blank-requires c κs = tt
 
-shl-front : tie.Need-shl-front Inv-loop μ-loop
-shl-front c = omega arith
+count-requires : tie.Need-count-requires Inv-loop μ-loop
+count-requires c κs = let p = c .before .before .before .before .before .before .pre in (p .0 .loaded, black-inside _ _ (p .1))
+
+single-requires : tie.Need-single-requires Inv-loop μ-loop
+single-requires c κs = let s = start-of c in omega (arith, s .pre .3, formed s .count-max (s .args .v))
 
 sub-rest : tie.Need-sub-rest Inv-loop μ-loop
-sub-rest c = omega arith
+sub-rest c = let s = start-of (c .before) in omega (arith, c .before .count .ensures, formed s .count-max (s .args .v))
 
 shr-rest : tie.Need-shr-rest Inv-loop μ-loop
-shr-rest c = omega arith
+shr-rest c = let s = start-of (c .before) in omega (arith, c .before .count .ensures, formed s .count-min (s .args .v))
 
 loop-holds : tie.Need-loop-holds Inv-loop μ-loop
 loop-holds c =
-    let at-start = c .before .before .before .before .before .before .before in
-    let p = at-start .pre in
-    searching-start _ (let a = at-start .args in ground-formed (a .bytes .now) (a .table .now) (a .head .now) (a .chain .now) (a .masks .now) (at-start .pre .0 .0)) _ _ _ _ _ _ (at-start .args .row .now) _ (p .1 .0) (p .1 .1) (p .1 .2) (p .0 .3) (c .before .before .blank .ensures) refl refl
+    let counted = c .before in
+    let s = start-of counted in
+    let e = counted .count .ensures in
+    searching-start _ (formed s) _ _ _ _ _ _ (s .args .row .now) _ e (omega (arith, e, formed s .count-max (s .args .v))) (omega (arith, e, s .pre .3)) (s .pre .2)
+    (counted .before .before .before .blank .ensures) (c .single .ensures) refl
 
 add-loop : tie.Need-add-loop Inv-loop μ-loop
-add-loop c = omega arith
+add-loop c = let s = start-of (count-at c) in omega (arith, c .loop .inv .within, formed s .count-max (s .args .v))
 
 layer-requires : tie.Need-layer-requires Inv-loop μ-loop
 layer-requires c κs =
-    let at-start = c .before .before .before .before .before .before .before .before .before .before in
-    let p = at-start .pre in
-    let i = c .before .before .loop .inv in (
-      (p .0 .0, p .0 .1, p .0 .2, i .long),
-      (
-        layered-apart _ (let a = at-start .args in ground-formed (a .bytes .now) (a .table .now) (a .head .now) (a .chain .now) (a .masks .now) (at-start .pre .0 .0)) _ _ _ _ _ _ _ i,
-        layered-marks _ (let a = at-start .args in ground-formed (a .bytes .now) (a .table .now) (a .head .now) (a .chain .now) (a .masks .now) (at-start .pre .0 .0)) _ _ _ _ _ _ _ i,
-      ),
-    )
+    let h = c .before .before in
+    let s = start-of (count-at h) in
+    let i = h .loop .inv in
+    ((s .pre .0, s .pre .1, i .long), (layered-apart _ (formed s) _ _ _ _ _ _ _ i, layered-marks _ (formed s) _ _ _ _ _ _ _ i))
 
 same-length : tie.Need-same-length Inv-loop μ-loop
 same-length c =
-    let at-head = c .before .before .before .before .before .before in
-    let at-start = head-to-start at-head in
-    c .before .before .row2 .given ∙ at-head .loop .inv .long ∙ sym (at-start .pre .0 .3)
+    let h = c .before .before .before .before .before .before in
+    c .before .before .row2 .given ∙ h .loop .inv .long ∙ sym (start-of (count-at h) .pre .2)
 
 returns : tie.Need-returns Inv-loop μ-loop
 returns c =
-    let at-layer = c .before .before .before in
-    let at-head = at-layer .before .before .before in
-    let at-start = head-to-start at-head in
-    searching-stop _ (let a = at-start .args in ground-formed (a .bytes .now) (a .table .now) (a .head .now) (a .chain .now) (a .masks .now)
-    (at-start .pre .0 .0)) _ _ _ _ _ _ _ _ _ (at-head .loop .inv) (c .before .before .row2 .given) (at-layer .layer .ensures)
-    (omega (arith, at-start .pre .1)) (c .if1 .taken)
+    let laid = c .before .before .before in
+    let h = laid .before .before .before in
+    let s = start-of (count-at h) in
+    searching-stop _ (formed s) _ _ _ _ _ _ _ _ _ (h .loop .inv) (c .before .before .row2 .given) (laid .layer .ensures) (s .pre .3) (c .if1 .taken)
 
 add-k : tie.Need-add-k Inv-loop μ-loop
 add-k c = omega arith
@@ -76,18 +80,19 @@ loop-less c = omega arith
 
 loop-again : tie.Need-loop-again Inv-loop μ-loop
 loop-again c =
-    let at-layer = c .before .before .before in
-    let at-head = at-layer .before .before .before in
-    let at-start = head-to-start at-head in
-    searching-turn _ (let a = at-start .args in ground-formed (a .bytes .now) (a .table .now) (a .head .now) (a .chain .now) (a .masks .now) (at-start .pre .0 .0)) _ _ _ _ _ _ _ _ _ (at-head .loop .inv) (c .before .before .row2 .given) (at-layer .layer .ensures) (omega (arith, at-start .pre .1))
+    let laid = c .before .before .before in
+    let h = laid .before .before .before in
+    let counted = count-at h in
+    searching-turn _ (formed (start-of counted)) _ _ _ _ _ _ _ _ _ (h .loop .inv) (c .before .before .row2 .given) (laid .layer .ensures) (omega (arith, counted .count .ensures))
 
 same-length-2 : tie.Need-same-length-2 Inv-loop μ-loop
-same-length-2 c = let at-start = loop-to-start c in c .before .loop .inv .long ∙ sym (at-start .pre .0 .3)
+same-length-2 c = let h = c .before in h .loop .inv .long ∙ sym (start-of (count-at h) .pre .2)
 
 returns-2 : tie.Need-returns-2 Inv-loop μ-loop
 returns-2 c =
-    let at-start = loop-to-start c in
-    layered-end _ (let a = at-start .args in ground-formed (a .bytes .now) (a .table .now) (a .head .now) (a .chain .now) (a .masks .now) (at-start .pre .0 .0)) _ _ _ _ _ _ _ (c .before .loop .inv) (omega (arith, at-start .pre .1))
+    let h = c .before in
+    let counted = count-at h in
+    layered-end _ (formed (start-of counted)) _ _ _ _ _ _ _ (h .loop .inv) (omega (arith, counted .count .ensures))
 
 pub towards-spec : {M : Type 1} → statement M
 towards-spec =
@@ -96,7 +101,8 @@ towards-spec =
     Inv-loop
     μ-loop
     blank-requires
-    shl-front
+    count-requires
+    single-requires
     sub-rest
     shr-rest
     loop-holds

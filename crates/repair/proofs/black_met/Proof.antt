@@ -1,64 +1,64 @@
+-- Facts before k are red or held, so that the test of the whole list is that of the facts from k on.
+use borrow.Author.Needs.{needs}
 use mathlib.Core.Path.{_≡_, refl, sym, _∙_}
 use Prim.Native.Nat.{_-_, _≤_}
 use native.Mathlib.Omega.{arith}
 use lib.ListN.{length}
+use Rattle.planning.specs.Runs.{black}
 use Rattle.planning.specs.Repair.{blackMet}
-use Rattle.table.specs.Table.{factsIn}
-use Rattle.state.specs.Sets.{modeOf, setsOf}
+use Rattle.task.specs.Task.{factsIn, taskIn}
+use Rattle.state.specs.Sets.{setsOf}
 use Rattle.repair.proofs.Values.{met-fails, met-passes, met-end}
 use Rattle.repair.proofs.black_met.Statement.{statement}
 use Rattle.repair.proofs.black_met.Tie as tie
 
 abbrev Inv-loop : tie.InvT-loop
-Inv-loop masks sets facts paint k₀ k = (k ≤ length facts) × (blackMet (modeOf paint) (setsOf sets) (factsIn facts 0 (length facts)) ≡ blackMet (modeOf paint) (setsOf sets) (factsIn facts k (length facts)))
+Inv-loop task sets facts k₀ k = (k ≤ length facts) × (blackMet (black (taskIn task)) (setsOf sets) (factsIn facts 0 (length facts)) ≡ blackMet (black (taskIn task)) (setsOf sets) (factsIn facts k (length facts)))
 
 abbrev μ-loop : tie.MeasureT-loop
-μ-loop masks sets facts paint k₀ k = length facts - k
+μ-loop task sets facts k₀ k = length facts - k
+
+abbrev start-of : tie.At-loop Inv-loop μ-loop → tie.Start Inv-loop μ-loop
+start-of h = h .before .before .before
 
 loop-holds : tie.Need-loop-holds Inv-loop μ-loop
 loop-holds c = (omega arith, refl)
 
 mul-wide : tie.Need-mul-wide Inv-loop μ-loop
-mul-wide c = omega arith
+mul-wide c = search needs
 
 shared-slice-read-wide : tie.Need-shared-slice-read-wide Inv-loop μ-loop
-shared-slice-read-wide c = omega arith
+shared-slice-read-wide c = search needs
 
 wide-requires : tie.Need-wide-requires Inv-loop μ-loop
-wide-requires c κs = tt
+wide-requires c κs = search needs
 
 unmet-requires : tie.Need-unmet-requires Inv-loop μ-loop
 unmet-requires c κs =
-    let at-head = c .before .before .before in
-    let p = at-head .before .before .pre in
-    (p .0, omega (arith, c .wide .ensures, p .1 (at-head .loop .k) (omega arith)))
+    let h = c .before .before .before in
+    let p = start-of h .pre in
+    (p .0, rw (c .wide .ensures) (p .1 .inside (h .loop .k) (omega arith)))
 
 returns : tie.Need-returns Inv-loop μ-loop
 returns c =
-    let at-head = c .before .before .before .before .before in
-    sym (at-head .loop .inv .1 ∙ met-fails (at-head .before .before .args .facts .now) (at-head .loop .k) (omega arith)
-    (modeOf (at-head .before .before .args .paint)) (setsOf (at-head .before .before .args .sets .now)) _ (c .before .before .wide .ensures)
-    (sym (c .before .unmet .ensures) ∙ c .if1 .taken))
+    let h = c .before .before .before .before .before in
+    sym (h .loop .inv .1 ∙ met-fails _ _ (omega arith) _ _ _ (c .before .before .wide .ensures) (sym (c .before .unmet .ensures) ∙ c .if1 .taken))
 
 add-k : tie.Need-add-k Inv-loop μ-loop
-add-k c = omega arith
+add-k c = search needs
 
 loop-less : tie.Need-loop-less Inv-loop μ-loop
-loop-less c = omega arith
+loop-less c = search needs
 
 loop-again : tie.Need-loop-again Inv-loop μ-loop
 loop-again c =
-    let at-head = c .before .before .before .before .before in (
-      omega arith,
-      at-head .loop .inv .1 ∙ met-passes (at-head .before .before .args .facts .now) (at-head .loop .k) (omega arith)
-          (modeOf (at-head .before .before .args .paint)) (setsOf (at-head .before .before .args .sets .now)) _ (c .before .before .wide .ensures)
-          (sym (c .before .unmet .ensures) ∙ c .if1 .left),
-    )
+    let h = c .before .before .before .before .before in
+    (omega arith, h .loop .inv .1 ∙ met-passes _ _ (omega arith) _ _ _ (c .before .before .wide .ensures) (sym (c .before .unmet .ensures) ∙ c .if1 .left))
 
 returns-2 : tie.Need-returns-2 Inv-loop μ-loop
 returns-2 c =
-    let at-start = c .before .before .before in
-    sym (c .before .loop .inv .1 ∙ met-end (at-start .args .facts .now) (c .before .loop .k) (modeOf (at-start .args .paint)) (setsOf (at-start .args .sets .now)) (omega (arith, c .before .loop .inv .0)))
+    let i = c .before .loop .inv in
+    sym (i .1 ∙ met-end _ _ _ _ (omega (arith, i .0)))
 
 pub black-met-spec : {M : Type 1} → statement M
 black-met-spec =

@@ -1,134 +1,163 @@
+-- The moves so far and the passes of the variables left in the order are all the passes. A pass that does not fit is no longer than
+-- the whole, as passes only insert.
+use borrow.Author.Needs.{needs}
+use mathlib.Core.List.{List}
 use mathlib.Core.Path.{sym, _∙_}
-use Prim.Native.Nat.{_-_}
+use Prim.Native.Nat.{ℕ, _-_, _<_}
 use native.Mathlib.Omega.{arith}
+use lib.Dec.{T}
 use lib.ListN.{length}
-use Rattle.planning.specs.Record.{taskOf}
-use Rattle.table.specs.Table.{factsIn}
+use lib.Seq.{length-take-le}
+use Rattle.planning.specs.Runs.{variables, black}
+use Rattle.task.specs.Task.{taskIn}
+use Rattle.task.specs.Links.{orderIn}
+use Rattle.task.proofs.Reading.{order-length}
 use Rattle.state.specs.Sets.{setsOf}
-use Rattle.repair.proofs.Filling.{Filling, filling-start, filling-long, filling-turn, filling-end, order-black}
+use Rattle.passes.specs.Passes.{factsOf}
+use Rattle.passes.proofs.Putting.{blank-memo}
+use Rattle.repair.proofs.Filling.{Filling, filling-start, filling-long, filling-fits, filling-turn, filling-end, order-black}
 use Rattle.repair.proofs.fill.Statement.{statement}
 use Rattle.repair.proofs.fill.Tie as tie
 
 abbrev Inv-loop : tie.InvT-loop
-Inv-loop bytes table head chain masks paint order sets ever memo₀ wanted plan₀ at work₀ e₀ p₀ memo plan work e p = Filling (taskOf bytes) (setsOf ever) (setsOf sets) order (factsIn wanted 0 (length wanted)) plan₀ plan memo work at e p
+Inv-loop task sets ever memo₀ wanted plan₀ work₀ n e₀ p₀ memo plan work e p = Filling (taskIn task) (setsOf ever) (setsOf sets) (orderIn task) (factsOf wanted) plan₀ plan memo work e p
 
 abbrev μ-loop : tie.MeasureT-loop
-μ-loop bytes table head chain masks paint order sets ever memo₀ wanted plan₀ at work₀ e₀ p₀ memo plan work e p = length order - p
+μ-loop task sets ever memo₀ wanted plan₀ work₀ n e₀ p₀ memo plan work e p = n - p
 
-abbrev head-to-start : tie.At-loop Inv-loop μ-loop → tie.Start Inv-loop μ-loop
-head-to-start c = c .before .before .before .before .before .before .before .before
+-- the points of a turn, from the last to the first
+abbrev value-of : tie.After-pass Inv-loop μ-loop → tie.After-value Inv-loop μ-loop
+value-of c = c .before .before .before .before .before .before .before .before
 
-abbrev wide-to-head : tie.After-wide Inv-loop μ-loop → tie.At-loop Inv-loop μ-loop
-wide-to-head c = c .before .before .before .before
+abbrev head-of : tie.After-value Inv-loop μ-loop → tie.At-loop Inv-loop μ-loop
+head-of c = c .before .before .before
 
-abbrev known-told-to-turn : tie.After-known-told Inv-loop μ-loop → tie.In-loop Inv-loop μ-loop
-known-told-to-turn c = c .before .before .before .before .before .before .before .before .before .before .before .before .before .before .before
+abbrev start-of : tie.At-loop Inv-loop μ-loop → tie.Start Inv-loop μ-loop
+start-of h = h .before .before .before .before .before .before .before
 
-abbrev loop-to-start : tie.After-loop Inv-loop μ-loop → tie.Start Inv-loop μ-loop
-loop-to-start c = c .before .before .before .before .before .before .before .before .before
+abbrev left-by : tie.After-pass Inv-loop μ-loop → List ℕ
+left-by c = c .pass .last .1 .1 .1 .1 .1 .1 .1 .0
+
+within : (c : tie.In-loop Inv-loop μ-loop) → c .before .loop .p < length (orderIn (start-of (c .before) .args .task .now))
+within c = omega (arith, c .before .before .ordered .ensures, c .loop-test .taken)
+
+painted : (c : tie.After-order-at Inv-loop μ-loop) → let t = taskIn (start-of (c .before .before) .args .task .now) in (c .order-at .result < variables t) × T (black t (c .order-at .result))
+painted c = order-black _ _ (start-of (c .before .before) .pre .0 .ordered) _ (within (c .before)) _ (c .order-at .ensures)
+
+ordered-requires : tie.Need-ordered-requires Inv-loop μ-loop
+ordered-requires c κs = c .before .before .before .before .before .pre .0
 
 loop-holds : tie.Need-loop-holds Inv-loop μ-loop
-loop-holds c =
-    let at-start = c .before .before .before .before .before .before .before in
-    let a = at-start .args in
-    let p = at-start .pre in
-    filling-start (taskOf (a .bytes .now)) (setsOf (a .ever .now)) (setsOf (a .sets .now)) (a .order .now) (factsIn (a .wanted .now) 0 (length (a .wanted .now))) (a .plan .now) _ _ _ (p .4) (p .2) (p .3)
+loop-holds c = let L = c .before .before .before .before .before .before .pre .2 in filling-start _ _ _ _ _ _ _ _ (L .memo-long) (L .same)
 
-mul-wide : tie.Need-mul-wide Inv-loop μ-loop
-mul-wide c = omega arith
+order-at-requires : tie.Need-order-at-requires Inv-loop μ-loop
+order-at-requires c κs = (start-of (c .before) .pre .0, within c)
 
-shared-slice-read-wide : tie.Need-shared-slice-read-wide Inv-loop μ-loop
-shared-slice-read-wide c = omega arith
+value-requires : tie.Need-value-requires Inv-loop μ-loop
+value-requires c κs = (start-of (c .before .before) .pre .0 .loaded, painted c .0)
 
-wide-requires : tie.Need-wide-requires Inv-loop μ-loop
-wide-requires c κs = tt
+forget-requires : tie.Need-forget-requires Inv-loop μ-loop
+forget-requires c κs = let h = head-of (c .before) in h .loop .inv .memo-long
 
-serve-requires : tie.Need-serve-requires Inv-loop μ-loop
-serve-requires c κs =
-    let at-head = c .before .before .before .before .before .before in
-    let at-start = head-to-start at-head in
-    let a = at-start .args in
-    let p = at-start .pre in
-    let i = at-head .loop .inv in
-    let b = order-black (taskOf (a .bytes .now)) (a .order .now) (p .0 .clients) (at-head .loop .p) (omega arith) _ (c .before .before .wide .ensures) in
-    ((p .0, p .1, i .memo-long, i .work-long ∙ sym (i .long)), (b .0, b .1, i .from, omega (arith, i .within, i .long), i .entries))
+slice-reshare-prefix-pass : tie.Need-slice-reshare-prefix-pass Inv-loop μ-loop
+slice-reshare-prefix-pass c =
+    let i = head-of (c .before .before .before .before .before) .loop .inv in
+    omega (arith, i .within, i .long)
+
+slice-aggregate-pass : tie.Need-slice-aggregate-pass Inv-loop μ-loop
+slice-aggregate-pass c =
+    let i = head-of (c .before .before .before .before .before .before) .loop .inv in
+    sym (length-take-le _ _ (omega (arith, i .within, i .long)))
+
+pass-requires : tie.Need-pass-requires Inv-loop μ-loop
+pass-requires c κs =
+    let f = c .before .before .before .before .before in
+    let v = f .before .before in
+    let h = head-of v in
+    let s = start-of h in
+    ((s .pre .0, painted (v .before) .1, blank-memo _ _ _ _ (f .forget .ensures)), (v .value .ensures .1, h .loop .inv .entries, s .pre .1 .fitting))
 
 enum-known-w : tie.Need-enum-known-w Inv-loop μ-loop
-enum-known-w c = omega arith
+enum-known-w c = search needs
 
 enum-told : tie.Need-enum-told Inv-loop μ-loop
-enum-told c = omega arith
+enum-told c = search needs
 
 same-length : tie.Need-same-length Inv-loop μ-loop
 same-length c =
-    let at-memo = c .before .before .before .before .before .before .before in
-    let at-head = at-memo .before .before .before .before .before .before .before .before in
-    let at-start = head-to-start at-head in
-    at-memo .memo .given ∙ at-head .loop .inv .memo-long ∙ sym (at-start .pre .2)
+    let d = c .before .before .before .before .before .before in
+    d .pass .ensures .1 .long ∙ sym (start-of (head-of (value-of d)) .pre .2 .memo-long)
 
 same-length-2 : tie.Need-same-length-2 Inv-loop μ-loop
-same-length-2 c =
-    let at-plan = c .before .before .before .before .before in
-    let at-head = at-plan .before .before .before .before .before .before .before .before .before .before in
-    at-plan .plan .given ∙ at-head .loop .inv .long
+same-length-2 c = let d = c .before .before .before .before .before .before in head-of (value-of d) .loop .inv .long
 
 same-length-3 : tie.Need-same-length-3 Inv-loop μ-loop
 same-length-3 c =
-    let at-work = c .before .before .before in
-    let at-head = at-work .before .before .before .before .before .before .before .before .before .before .before .before in
-    let at-start = head-to-start at-head in
-    at-work .work .given ∙ at-head .loop .inv .work-long ∙ sym (at-start .pre .3)
+    let h = head-of (value-of (c .before .before .before .before .before .before)) in
+    c .before .before .before .work .given ∙ h .loop .inv .work-long ∙ sym (start-of h .pre .2 .same)
 
 returns : tie.Need-returns Inv-loop μ-loop
 returns c =
-    let at-serve = c .before .before .before .before .before .before .before .before in
-    let at-wide = at-serve .before .before .before in
-    let at-head = wide-to-head at-wide in
-    let at-start = head-to-start at-head in
-    let a = at-start .args in
-    let p = at-start .pre in
-    filling-long (taskOf (a .bytes .now)) (setsOf (a .ever .now)) (setsOf (a .sets .now)) (a .order .now)
-    (factsIn (a .wanted .now) 0 (length (a .wanted .now))) (a .plan .now) _ _ _ _ _ _ (at-head .loop .inv) (omega arith) _ (at-wide .wide .ensures)
-    (at-serve .serve .last .1 .1 .1 .1 .1 .1 .1 .1 .1 .1 .1 .1 .0) (at-serve .serve .result) (at-serve .serve .ensures) (c .enum-told .given .1)
+    let d = c .before .before .before .before .before .before in
+    let v = value-of d in
+    let h = head-of v in
+    filling-long (h .loop .inv) (within (v .before .before)) _ _ (v .before .order-at .ensures) (v .value .ensures .0) (left-by d) (d .pass .result) (d .pass .ensures .0) (c .enum-told .given .1)
+    (start-of h .pre .0 .ordered)
+
+slice-reshare-prefix-copy : tie.Need-slice-reshare-prefix-copy Inv-loop μ-loop
+slice-reshare-prefix-copy c =
+    let d = c .before .before .before .before .before .before .before in
+    let v = value-of d in
+    filling-fits (head-of v .loop .inv) (within (v .before .before)) _ _ (v .before .order-at .ensures) (v .value .ensures .0) (left-by d) (d .pass .result) (d .pass .ensures .0)
+    _ (c .before .w .given .1) (c .before .before .before .before .work .given) .0
+
+slice-aggregate-copy : tie.Need-slice-aggregate-copy Inv-loop μ-loop
+slice-aggregate-copy c =
+    let t = c .before in
+    let d = t .before .before .before .before .before .before .before in
+    let v = value-of d in
+    let fits = filling-fits (head-of v .loop .inv) (within (v .before .before)) _ _ (v .before .order-at .ensures) (v .value .ensures .0) (left-by d) (d .pass .result) (d .pass .ensures .0)
+    _ (t .before .w .given .1) (t .before .before .before .before .work .given) in
+    sym (length-take-le _ (left-by d) (fits .0))
+
+copy-requires : tie.Need-copy-requires Inv-loop μ-loop
+copy-requires c κs =
+    let t = c .before .before in
+    let d = t .before .before .before .before .before .before .before in
+    let v = value-of d in
+    filling-fits (head-of v .loop .inv) (within (v .before .before)) _ _ (v .before .order-at .ensures) (v .value .ensures .0) (left-by d) (d .pass .result) (d .pass .ensures .0)
+    _ (t .before .w .given .1) (t .before .before .before .before .work .given) .1
 
 add-p : tie.Need-add-p Inv-loop μ-loop
 add-p c =
-    let at-turn = known-told-to-turn c in
-    let at-start = at-turn .before .before .before .before .before .before .before .before .before in
-    omega (arith, at-turn .loop-test .taken, at-start .good)
+    let v = value-of (c .before .before .before .before .before .before .before .before .before .before .before .before) in
+    let P = start-of (head-of v) .pre .0 in
+    omega (arith, within (v .before .before), order-length _ P, P .few)
 
 loop-less : tie.Need-loop-less Inv-loop μ-loop
-loop-less c = let at-turn = known-told-to-turn c in omega (arith, at-turn .loop-test .taken)
+loop-less c =
+    let v = value-of (c .before .before .before .before .before .before .before .before .before .before .before .before) in
+    omega (arith, v .before .before .loop-test .taken)
 
 loop-again : tie.Need-loop-again Inv-loop μ-loop
 loop-again c =
-    let at-work = c .before .before .before .before in
-    let at-memo = at-work .before .before .before .before in
-    let at-wide = at-memo .before .before .before .before in
-    let at-head = wide-to-head at-wide in
-    let at-start = head-to-start at-head in
-    let a = at-start .args in
-    let p = at-start .pre in
-    filling-turn (taskOf (a .bytes .now)) (setsOf (a .ever .now)) (setsOf (a .sets .now)) (a .order .now)
-    (factsIn (a .wanted .now) 0 (length (a .wanted .now))) (a .plan .now) _ _ _ _ _ _ (at-head .loop .inv) (omega arith) _ (at-wide .wide .ensures)
-    (at-memo .before .serve .last .1 .1 .1 .1 .1 .1 .1 .1 .1 .1 .1 .1 .0) (at-memo .before .serve .result) (at-memo .before .serve .ensures) _ _ _
-    (c .before .w .given .1) (at-work .before .before .plan .given) (at-memo .memo .given) (at-work .work .given)
+    let t = c .before .before .before .before .before in
+    let d = t .before .before .before .before .before .before .before in
+    let v = value-of d in
+    filling-turn (head-of v .loop .inv) (within (v .before .before)) _ _ (v .before .order-at .ensures) (v .value .ensures .0) (left-by d) (d .pass .result) (d .pass .ensures .0)
+    _ (t .before .w .given .1) (t .before .before .before .before .work .given) _ _ (c .before .before .copy .ensures) (c .before .plan .given) (d .pass .ensures .1 .long)
 
 same-length-4 : tie.Need-same-length-4 Inv-loop μ-loop
-same-length-4 c = let at-start = loop-to-start c in c .before .loop .inv .memo-long ∙ sym (at-start .pre .2)
+same-length-4 c = let h = c .before in h .loop .inv .memo-long ∙ sym (start-of h .pre .2 .memo-long)
 
 same-length-5 : tie.Need-same-length-5 Inv-loop μ-loop
 same-length-5 c = c .before .loop .inv .long
 
 same-length-6 : tie.Need-same-length-6 Inv-loop μ-loop
-same-length-6 c = let at-start = loop-to-start c in c .before .loop .inv .work-long ∙ sym (at-start .pre .3)
+same-length-6 c = let h = c .before in h .loop .inv .work-long ∙ sym (start-of h .pre .2 .same)
 
 returns-2 : tie.Need-returns-2 Inv-loop μ-loop
-returns-2 c =
-    let at-start = loop-to-start c in
-    let a = at-start .args in
-    let p = at-start .pre in
-    filling-end (taskOf (a .bytes .now)) (setsOf (a .ever .now)) (setsOf (a .sets .now)) (a .order .now) (factsIn (a .wanted .now) 0 (length (a .wanted .now))) (a .plan .now) _ _ _ _ _ _ (c .before .loop .inv) (omega arith)
+returns-2 c = let h = c .before in filling-end (h .loop .inv) (omega (arith, h .before .ordered .ensures)) (start-of h .pre .0 .ordered)
 
 pub fill-spec : {M : Type 1} → statement M
 fill-spec =
@@ -136,17 +165,23 @@ fill-spec =
     (tie.spec
     Inv-loop
     μ-loop
+    ordered-requires
     loop-holds
-    mul-wide
-    shared-slice-read-wide
-    wide-requires
-    serve-requires
+    order-at-requires
+    value-requires
+    forget-requires
+    slice-reshare-prefix-pass
+    slice-aggregate-pass
+    pass-requires
     enum-known-w
     enum-told
     same-length
     same-length-2
     same-length-3
     returns
+    slice-reshare-prefix-copy
+    slice-aggregate-copy
+    copy-requires
     add-p
     loop-less
     loop-again

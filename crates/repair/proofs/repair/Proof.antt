@@ -1,136 +1,115 @@
+use borrow.Author.Needs.{needs}
+use mathlib.Core.List.{List}
 use mathlib.Core.Path.{refl, sym}
+use Prim.Native.Nat.{ℕ, _≤_}
 use native.Mathlib.Omega.{arith}
-use lib.ListN.{length, drop}
-use mathlib.Core.List.{[]}
+use lib.ListN.{length}
 use lib.Seq.{length-take-le}
-use Rattle.planning.specs.Record.{taskOf}
 use Rattle.planning.specs.Repair.{repaired}
-use Rattle.repair.proofs.Ending.{room-fits, fronts-same, ends-long, ends-small, ends-held}
+use Rattle.task.specs.Task.{taskIn}
+use Rattle.repair.proofs.Ending.{room-bounds, fronts-lent, ends-long, ends-small, ends-held}
 use Rattle.repair.proofs.repair.Statement.{statement}
 use Rattle.repair.proofs.repair.Tie as tie
 
-abbrev capacity-to-start : tie.After-capacity → tie.Start
-capacity-to-start c = c .before .before .before .before .before .before .before
+abbrev room-of : tie.After-repair-from → tie.After-capacity
+room-of c = c .before .before .before .before
 
-abbrev repair-with-arg-to-start : tie.After-repair-with-arg → tie.Start
-repair-with-arg-to-start c = c .before .before .before .before .before .before .before .before
+abbrev start-of : tie.After-capacity → tie.Start
+start-of c = c .before .before .before .before .before .before
 
-abbrev repair-with-arg2-to-start : tie.After-repair-with-arg2 → tie.Start
-repair-with-arg2-to-start c = c .before .before .before .before .before .before .before .before .before
+abbrev left-by : tie.After-repair-from → List ℕ
+left-by c = c .repair-from .last .1 .1 .1 .0
 
-abbrev enum-told-to-plan : tie.After-enum-told → tie.After-plan
-enum-told-to-plan c = c .before .before .before .before .before
+abbrev wanted : tie.After-repair-from → List ℕ
+wanted c = let a = start-of (room-of c) .args in repaired (taskIn (a .task .now)) (a .relaxed .now)
 
-abbrev plan-to-capacity : tie.After-plan → tie.After-capacity
-plan-to-capacity c = c .before .before .before .before
+bounds : (c : tie.After-capacity) → let a = start-of c .args in (c .capacity .result ≤ length (a .plan .now)) × (c .capacity .result ≤ length (a .work .now)) × (c .capacity .result ≤ 32768)
+bounds c = let a = start-of c .args in room-bounds (a .plan .now) (a .work .now) _ _ (c .before .lesser .ensures) (c .capacity .ensures)
 
-abbrev known-told-to-plan : tie.After-known-told → tie.After-plan
-known-told-to-plan c = c .before .before .before .before .before .before
+lesser-requires : tie.Need-lesser-requires
+lesser-requires c κs = search needs
 
 capacity-requires : tie.Need-capacity-requires
-capacity-requires c κs = tt
+capacity-requires c κs = search needs
 
-slice-relend-prefix-repair-with : tie.Need-slice-relend-prefix-repair-with
-slice-relend-prefix-repair-with c =
-    let at-start = capacity-to-start c in
-    let a = at-start .args in
-    let f = room-fits [] (a .plan .now) [] (length (a .plan .now)) (length (a .work .now)) (c .capacity .result) (c .capacity .ensures) refl in
-    omega (arith, f)
+slice-aggregate-repair-from : tie.Need-slice-aggregate-repair-from
+slice-aggregate-repair-from c = refl
 
-slice-aggregate-repair-with : tie.Need-slice-aggregate-repair-with
-slice-aggregate-repair-with c =
-    let at-start = repair-with-arg-to-start c in
-    let a = at-start .args in
-    let f = room-fits [] (a .plan .now) [] (length (a .plan .now)) (length (a .work .now)) (c .before .capacity .result) (c .before .capacity .ensures) refl in
-    sym (length-take-le _ _ (f .0))
+slice-relend-prefix-repair-from : tie.Need-slice-relend-prefix-repair-from
+slice-relend-prefix-repair-from c = bounds (c .before) .0
 
-slice-relend-prefix-repair-with-2 : tie.Need-slice-relend-prefix-repair-with-2
-slice-relend-prefix-repair-with-2 c =
-    let at-start = repair-with-arg-to-start c in
-    let a = at-start .args in
-    let f = room-fits [] (a .plan .now) [] (length (a .plan .now)) (length (a .work .now)) (c .before .capacity .result) (c .before .capacity .ensures) refl in
-    omega (arith, f)
+slice-aggregate-repair-from-2 : tie.Need-slice-aggregate-repair-from-2
+slice-aggregate-repair-from-2 c = sym (length-take-le _ _ (bounds (c .before .before) .0))
 
-slice-aggregate-repair-with-2 : tie.Need-slice-aggregate-repair-with-2
-slice-aggregate-repair-with-2 c =
-    let at-start = repair-with-arg2-to-start c in
-    let a = at-start .args in
-    let f = room-fits [] (a .plan .now) [] (length (a .plan .now)) (length (a .work .now)) (c .before .before .capacity .result) (c .before .before .capacity .ensures) refl in
-    sym (length-take-le _ _ (f .1))
+slice-relend-prefix-repair-from-2 : tie.Need-slice-relend-prefix-repair-from-2
+slice-relend-prefix-repair-from-2 c = bounds (c .before .before) .1
 
-repair-with-requires : tie.Need-repair-with-requires
-repair-with-requires c κs =
-    let at-start = repair-with-arg2-to-start c in
-    let a = at-start .args in
-    let p = at-start .pre in
-    (p .0, p .1, fronts-same (a .plan .now) (a .work .now) (c .before .before .capacity .result) (c .before .before .capacity .ensures))
+slice-aggregate-repair-from-3 : tie.Need-slice-aggregate-repair-from-3
+slice-aggregate-repair-from-3 c = sym (length-take-le _ _ (bounds (c .before .before .before) .1))
+
+repair-from-requires : tie.Need-repair-from-requires
+repair-from-requires c κs =
+    let r = c .before .before .before in
+    let p = start-of r .pre in
+    (p .0, p .1, fronts-lent _ _ _ _ (r .before .lesser .ensures) (r .capacity .ensures) _ refl)
 
 enum-known-w : tie.Need-enum-known-w
-enum-known-w c = omega arith
+enum-known-w c = search needs
 
 enum-told : tie.Need-enum-told
-enum-told c = omega arith
+enum-told c = search needs
+
+cast-t18 : tie.Need-cast-t18
+cast-t18 c = let r = room-of (c .before .before .before .before .before .before .before) in omega (arith, bounds r)
 
 same-length : tie.Need-same-length
-same-length c = let at-plan = enum-told-to-plan c in at-plan .plan .given .1
+same-length c = search needs
 
 same-length-2 : tie.Need-same-length-2
-same-length-2 c = let at-work = c .before .before .before in at-work .work .given .1
+same-length-2 c = search needs
 
 returns : tie.Need-returns
 returns c =
-    let at-plan = enum-told-to-plan c in
-    let at-capacity = plan-to-capacity at-plan in
-    let at-start = capacity-to-start at-capacity in
-    let a = at-start .args in
-    let p = at-start .pre in
-    ends-long (repaired (taskOf (a .bytes .now)) (a .relaxed .now)) (a .plan .now) (at-plan .before .repair-with .last .1 .1 .1 .1 .1 .1 .1 .1 .0)
-    (length (a .plan .now)) (length (a .work .now)) (at-capacity .capacity .result) (at-capacity .capacity .ensures) refl
-    (at-plan .before .repair-with .result) (at-plan .before .repair-with .ensures) (at-plan .plan .given .0) (c .enum-told .given .1)
+    let f = c .before .before .before .before .before .before .before in
+    let r = room-of f in
+    let a = start-of r .args in
+    ends-long (a .plan .now) (a .work .now) _ _ (r .before .lesser .ensures) (r .capacity .ensures) (wanted f) (left-by f) (c .before .before .before .before .before .plan .given .0) (f .repair-from .result) (f .repair-from .ensures) (c .enum-told .given .1) _ _ refl
 
 cast-t20 : tie.Need-cast-t20
 cast-t20 c =
-    let at-plan = known-told-to-plan c in
-    let at-capacity = plan-to-capacity at-plan in
-    let at-start = capacity-to-start at-capacity in
-    let a = at-start .args in
-    let p = at-start .pre in
-    let z = ends-small (repaired (taskOf (a .bytes .now)) (a .relaxed .now)) (a .plan .now)
-    (at-plan .before .repair-with .last .1 .1 .1 .1 .1 .1 .1 .1 .0) (length (a .plan .now)) (length (a .work .now)) (at-capacity .capacity .result)
-    (at-capacity .capacity .ensures) refl (at-plan .before .repair-with .result) (at-plan .before .repair-with .ensures) (at-plan .plan .given .0) _
-    (c .before .w .given .1) in
-    omega (arith, z)
+    let f = c .before .before .before .before .before .before .before .before in
+    let r = room-of f in
+    let a = start-of r .args in
+    omega (arith, ends-small (a .plan .now) (a .work .now) _ _ (r .before .lesser .ensures) (r .capacity .ensures) (wanted f) (left-by f) (c .before .before .before .before .before .before .plan .given .0) (f .repair-from .result) (f .repair-from .ensures) _ (c .before .w .given .1))
 
 same-length-3 : tie.Need-same-length-3
-same-length-3 c = let at-plan = known-told-to-plan c in at-plan .plan .given .1
+same-length-3 c = search needs
 
 same-length-4 : tie.Need-same-length-4
-same-length-4 c = let at-work = c .before .before .before .before in at-work .work .given .1
+same-length-4 c = search needs
 
 returns-2 : tie.Need-returns-2
 returns-2 c =
-    let at-plan = known-told-to-plan c in
-    let at-capacity = plan-to-capacity at-plan in
-    let at-start = capacity-to-start at-capacity in
-    let a = at-start .args in
-    let p = at-start .pre in
-    ends-held (repaired (taskOf (a .bytes .now)) (a .relaxed .now)) (a .plan .now) (at-plan .before .repair-with .last .1 .1 .1 .1 .1 .1 .1 .1 .0)
-    (length (a .plan .now)) (length (a .work .now)) (at-capacity .capacity .result) (at-capacity .capacity .ensures) refl
-    (at-plan .before .repair-with .result) (at-plan .before .repair-with .ensures) (at-plan .plan .given .0) _ (c .before .w .given .1) _
-    (drop (at-capacity .capacity .result) (a .plan .now)) refl
+    let f = c .before .before .before .before .before .before .before .before in
+    let r = room-of f in
+    let a = start-of r .args in
+    ends-held (a .plan .now) (a .work .now) _ _ (r .before .lesser .ensures) (r .capacity .ensures) (wanted f) (left-by f) (c .before .before .before .before .before .before .plan .given .0) (f .repair-from .result) (f .repair-from .ensures) _ (c .before .w .given .1) _ _ refl
 
 pub repair-spec : {M : Type 1} → statement M
 repair-spec =
     tie.close
     (tie.spec
+    lesser-requires
     capacity-requires
-    slice-relend-prefix-repair-with
-    slice-aggregate-repair-with
-    slice-relend-prefix-repair-with-2
-    slice-aggregate-repair-with-2
-    repair-with-requires
+    slice-aggregate-repair-from
+    slice-relend-prefix-repair-from
+    slice-aggregate-repair-from-2
+    slice-relend-prefix-repair-from-2
+    slice-aggregate-repair-from-3
+    repair-from-requires
     enum-known-w
     enum-told
+    cast-t18
     same-length
     same-length-2
     returns

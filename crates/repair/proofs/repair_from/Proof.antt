@@ -1,149 +1,145 @@
-use mathlib.Core.Path.{refl, sym, _∙_}
-use Prim.Native.Nat.{_-_}
+-- The steps in front, and the repair of the rest of the relaxed plan from the state behind them, are the whole repair. The facts held
+-- ever are the relaxed run of the same steps.
+use borrow.Author.Needs.{needs}
+use mathlib.Core.List.{List}
+use mathlib.Core.Path.{sym, _∙_}
+use Prim.Native.Nat.{ℕ, _-_, _<_, _≤_}
 use native.Mathlib.Omega.{arith}
-use lib.ListN.{length}
-use Rattle.planning.specs.Record.{taskOf}
-use Rattle.repair.proofs.Repairing.{Repairing, repairing-start, repairing-long, repairing-turn, repairing-goals}
+use lib.ListN.{length, getD}
+use Rattle.planning.specs.Runs.{actions}
+use Rattle.task.specs.Task.{taskIn}
+use Rattle.repair.proofs.Repairing.{Repairing, repairing-start, repairing-lent, repairing-long, repairing-bounds, repairing-entries, repairing-turn, repairing-end}
 use Rattle.repair.proofs.repair_from.Statement.{statement}
 use Rattle.repair.proofs.repair_from.Tie as tie
 
 abbrev Inv-loop : tie.InvT-loop
-Inv-loop bytes table head chain masks paint order sets₀ ever₀ memo₀ wanted relaxed plan₀ work₀ at₀ j₀ sets ever memo plan work at j = Repairing (taskOf bytes) relaxed plan₀ plan memo work sets ever at j
+Inv-loop task memo₀ relaxed plan₀ work₀ paint s₀ ever₀ at₀ j₀ memo plan work s ever at j = Repairing (taskIn task) relaxed plan₀ plan memo work (s .sets) (ever .sets) at j
 
 abbrev μ-loop : tie.MeasureT-loop
-μ-loop bytes table head chain masks paint order sets₀ ever₀ memo₀ wanted relaxed plan₀ work₀ at₀ j₀ sets ever memo plan work at j = length relaxed - j
+μ-loop task memo₀ relaxed plan₀ work₀ paint s₀ ever₀ at₀ j₀ memo plan work s ever at j = length relaxed - j
 
-abbrev head-to-start : tie.At-loop Inv-loop μ-loop → tie.Start Inv-loop μ-loop
-head-to-start c = c .before .before .before .before .before .before .before .before .before
+-- the points of a turn, from the last to the first
+abbrev arrange-of : tie.After-known-told Inv-loop μ-loop → tie.After-arrange Inv-loop μ-loop
+arrange-of c = c .before .before .before .before .before .before .before .before .before
 
-abbrev memo-to-head : tie.After-memo Inv-loop μ-loop → tie.At-loop Inv-loop μ-loop
-memo-to-head c = c .before .before .before .before .before .before .before .before .before
+abbrev test-of : tie.After-arrange Inv-loop μ-loop → tie.In-loop Inv-loop μ-loop
+test-of c = c .before .before .before .before .before .before .before .before .before
 
-abbrev known-told-to-turn : tie.After-known-told Inv-loop μ-loop → tie.In-loop Inv-loop μ-loop
-known-told-to-turn c = c .before .before .before .before .before .before .before .before .before .before .before .before .before .before .before .before
+abbrev start-of : tie.At-loop Inv-loop μ-loop → tie.Start Inv-loop μ-loop
+start-of h = h .before .before .before .before .before .before .before .before
+
+abbrev left-by : tie.After-arrange Inv-loop μ-loop → List ℕ
+left-by c = c .arrange .last .1 .1 .1 .1 .1 .0
+
+bounds : (c : tie.After-known-told Inv-loop μ-loop) → let d = arrange-of c in (test-of d .before .loop .at ≤ c .before .w .given .0 .0) × (c .before .w .given .0 .0 ≤ length (left-by d))
+bounds c =
+    let d = arrange-of c in
+    let t = test-of d in
+    repairing-bounds (t .before .loop .inv) (t .loop-test .taken) (left-by d) (d .arrange .result) (c .before .before .before .before .before .before .plan .given) (d .arrange .ensures) _ (c .before .w .given .1)
+
+painted-requires : tie.Need-painted-requires Inv-loop μ-loop
+painted-requires c κs = c .before .before .before .before .before .pre .0 .loaded
+
+initial-requires : tie.Need-initial-requires Inv-loop μ-loop
+initial-requires c κs = c .before .before .before .before .before .before .pre .0 .loaded
 
 loop-holds : tie.Need-loop-holds Inv-loop μ-loop
-loop-holds c =
-    let at-start = c .before .before .before .before .before .before .before .before in
-    let a = at-start .args in
-    let p = at-start .pre in
-    repairing-start (taskOf (a .bytes .now)) (a .relaxed .now) _ _ _ _ _ (p .0 .4) (p .0 .5) (p .1 .0) (p .1 .1) (p .1 .2) (p .1 .3)
+loop-holds c = let s = c .before .before .before .before .before .before .before in repairing-start _ _ _ _ _ _ _ (s .pre .2) (c .initial .ensures) (c .initial .ensures)
 
-mul-advance : tie.Need-mul-advance Inv-loop μ-loop
-mul-advance c = omega arith
+mul-arrange : tie.Need-mul-arrange Inv-loop μ-loop
+mul-arrange c = let t = c .before .before .before .before .before in omega (arith, t .loop-test .taken, start-of (t .before) .good)
 
-shared-slice-read-advance : tie.Need-shared-slice-read-advance Inv-loop μ-loop
-shared-slice-read-advance c = omega arith
+shared-slice-read-arrange : tie.Need-shared-slice-read-arrange Inv-loop μ-loop
+shared-slice-read-arrange c = c .before .before .before .before .before .before .loop-test .taken
 
-advance-requires : tie.Need-advance-requires Inv-loop μ-loop
-advance-requires c κs =
-    let at-head = c .before .before .before .before .before .before .before in
-    let at-start = head-to-start at-head in
-    let a = at-start .args in
-    let p = at-start .pre in
-    let i = at-head .loop .inv in
-    (p .0 .0, p .0 .3 (at-head .loop .j) (omega arith), i .memo-long, i .work-long ∙ sym (i .long), omega (arith, i .within, i .long), i .sets-long, i .ever-long)
+arrange-requires : tie.Need-arrange-requires Inv-loop μ-loop
+arrange-requires c κs =
+    let t = c .before .before .before .before .before .before .before .before in
+    let h = t .before in
+    let p = start-of h .pre in
+    (p .0, p .1 (h .loop .j) (t .loop-test .taken), repairing-lent (h .loop .inv))
 
 enum-known-w : tie.Need-enum-known-w Inv-loop μ-loop
-enum-known-w c = omega arith
+enum-known-w c = search needs
 
 enum-told : tie.Need-enum-told Inv-loop μ-loop
-enum-told c = omega arith
+enum-told c = search needs
 
 same-length : tie.Need-same-length Inv-loop μ-loop
 same-length c =
-    let at-memo = c .before .before .before .before .before .before .before in
-    let at-head = memo-to-head at-memo in
-    let at-start = head-to-start at-head in
-    at-memo .memo .given ∙ at-head .loop .inv .memo-long ∙ sym (at-start .pre .0 .4)
+    let h = test-of (c .before .before .before .before .before .before .before .before) .before in
+    c .before .before .before .before .before .before .before .memo .given ∙ h .loop .inv .memo-long ∙ sym (start-of h .pre .2 .memo-long)
 
 same-length-2 : tie.Need-same-length-2 Inv-loop μ-loop
 same-length-2 c =
-    let at-plan = c .before .before .before .before .before in
-    let at-head = at-plan .before .before .before .before .before .before .before .before .before .before .before in
-    at-plan .plan .given ∙ at-head .loop .inv .long
+    let h = test-of (c .before .before .before .before .before .before .before .before) .before in
+    c .before .before .before .before .before .plan .given ∙ h .loop .inv .long
 
 same-length-3 : tie.Need-same-length-3 Inv-loop μ-loop
 same-length-3 c =
-    let at-work = c .before .before .before in
-    let at-head = at-work .before .before .before .before .before .before .before .before .before .before .before .before .before in
-    let at-start = head-to-start at-head in
-    at-work .work .given ∙ at-head .loop .inv .work-long ∙ sym (at-start .pre .0 .5)
+    let h = test-of (c .before .before .before .before .before .before .before .before) .before in
+    c .before .before .before .work .given ∙ h .loop .inv .work-long ∙ sym (start-of h .pre .2 .same)
 
 returns : tie.Need-returns Inv-loop μ-loop
 returns c =
-    let at-advance = c .before .before .before .before .before .before .before .before in
-    let at-turn = at-advance .before .before .before .before .before .before .before in
-    let at-head = at-turn .before in
-    let at-start = head-to-start at-head in
-    let a = at-start .args in
-    repairing-long (taskOf (a .bytes .now)) (a .relaxed .now) (a .plan .now) (at-head .loop .plan) (at-head .loop .memo) (at-head .loop .work)
-    (at-head .loop .sets) (at-head .loop .ever) (at-head .loop .at) (at-head .loop .j) (at-head .loop .inv) (omega (arith, at-turn .loop-test .taken)) _ refl
-    (at-advance .advance .last .1 .1 .1 .1 .1 .1 .1 .1 .1 .1 .1 .0) (at-advance .advance .result) (at-advance .advance .ensures .0) (c .enum-told .given .1)
+    let d = c .before .before .before .before .before .before .before .before in
+    let t = test-of d in
+    repairing-long (t .before .loop .inv) (t .loop-test .taken) (left-by d) (d .arrange .result) (c .before .before .before .before .before .plan .given) (d .arrange .ensures) (c .enum-told .given .1)
+
+run-list-requires : tie.Need-run-list-requires Inv-loop μ-loop
+run-list-requires c κs =
+    let k = c .before in
+    let d = arrange-of k in
+    let t = test-of d in
+    let p = start-of (t .before) .pre in
+    let b = bounds k in
+    (p .0 .loaded, b .0, b .1, repairing-entries (t .before .loop .inv) (t .loop-test .taken) (left-by d) (d .arrange .result) (k .before .before .before .before .before .before .plan .given) (d .arrange .ensures) _ (k .before .w .given .1) (p .1))
+
+run-list-requires-2 : tie.Need-run-list-requires-2 Inv-loop μ-loop
+run-list-requires-2 c κs =
+    let k = c .before .before .before in
+    let d = arrange-of k in
+    let t = test-of d in
+    let p = start-of (t .before) .pre in
+    let b = bounds k in
+    (p .0 .loaded, b .0, b .1, repairing-entries (t .before .loop .inv) (t .loop-test .taken) (left-by d) (d .arrange .result) (k .before .before .before .before .before .before .plan .given) (d .arrange .ensures) _ (k .before .w .given .1) (p .1))
 
 add-j : tie.Need-add-j Inv-loop μ-loop
-add-j c =
-    let at-turn = known-told-to-turn c in
-    let at-start = at-turn .before .before .before .before .before .before .before .before .before .before in
-    omega (arith, at-turn .loop-test .taken, at-start .good)
+add-j c = let t = test-of (arrange-of (c .before .before .before .before)) in omega (arith, t .loop-test .taken, start-of (t .before) .good)
 
 loop-less : tie.Need-loop-less Inv-loop μ-loop
-loop-less c = let at-turn = known-told-to-turn c in omega (arith, at-turn .loop-test .taken)
+loop-less c = let t = test-of (arrange-of (c .before .before .before .before)) in omega (arith, t .loop-test .taken)
 
 loop-again : tie.Need-loop-again Inv-loop μ-loop
 loop-again c =
-    let at-work = c .before .before .before .before in
-    let at-memo = at-work .before .before .before .before in
-    let at-turn = at-memo .before .before .before .before .before .before .before .before in
-    let at-head = at-turn .before in
-    let at-start = head-to-start at-head in
-    let a = at-start .args in
-    repairing-turn (taskOf (a .bytes .now)) (a .relaxed .now) (a .plan .now) (at-head .loop .plan) (at-head .loop .memo) (at-head .loop .work)
-    (at-head .loop .sets) (at-head .loop .ever) (at-head .loop .at) (at-head .loop .j) (at-head .loop .inv) (omega (arith, at-turn .loop-test .taken)) _ refl
-    (at-memo .before .advance .last .1 .1 .1 .1 .1 .1 .1 .1 .1 .1 .1 .0) _ _ (at-memo .before .advance .last .1 .1 .1 .1 .1 .1 .1 .0)
-    (at-memo .before .advance .last .1 .1 .1 .1 .1 .1 .1 .1 .0) (at-memo .before .advance .result) _ (at-memo .before .advance .ensures .0)
-    (at-memo .before .advance .ensures .1) (c .before .w .given .1) (at-work .before .before .plan .given) (at-memo .memo .given)
-    (at-work .work .given) (at-memo .before .advance .ensures .2) (at-memo .before .advance .ensures .3)
+    let k = c .before .before .before .before in
+    let d = arrange-of k in
+    let t = test-of d in
+    let h = t .before in
+    repairing-turn (h .loop .inv) (t .loop-test .taken) (left-by d) (d .arrange .result) (k .before .before .before .before .before .before .plan .given) (d .arrange .ensures) _ (k .before .w .given .1)
+    _ _ _ _ _ (h .before .before .painted .ensures) (k .before .before .before .before .before .before .before .before .memo .given) (k .before .before .before .before .work .given) (c .before .before .run-list .ensures) (c .run-list2 .ensures)
 
-moves-requires : tie.Need-moves-requires Inv-loop μ-loop
-moves-requires c κs =
-    let at-head = c .before .before .before .before .before .before in
-    let at-start = head-to-start at-head in
-    let a = at-start .args in
-    let p = at-start .pre in
-    let i = at-head .loop .inv in
-    (p .0 .0, p .0 .1, i .memo-long, i .work-long ∙ sym (i .long), omega (arith, i .within, i .long))
+finish-requires : tie.Need-finish-requires Inv-loop μ-loop
+finish-requires c κs = let h = c .before .before .before .before .before .before .before .before in (start-of h .pre .0, repairing-lent (h .loop .inv))
 
 same-length-4 : tie.Need-same-length-4 Inv-loop μ-loop
 same-length-4 c =
-    let at-memo2 = c .before .before .before .before .before in
-    let at-head = at-memo2 .before .before .before .before .before .before .before .before in
-    let at-start = head-to-start at-head in
-    at-memo2 .memo2 .given ∙ at-head .loop .inv .memo-long ∙ sym (at-start .pre .0 .4)
+    let h = c .before .before .before .before .before .before .before .before .before .before .before .before .before .before .before in
+    c .before .before .before .before .before .memo2 .given ∙ h .loop .inv .memo-long ∙ sym (start-of h .pre .2 .memo-long)
 
 same-length-5 : tie.Need-same-length-5 Inv-loop μ-loop
-same-length-5 c =
-    let at-plan2 = c .before .before .before in
-    let at-head = at-plan2 .before .before .before .before .before .before .before .before .before .before in
-    at-plan2 .plan2 .given ∙ at-head .loop .inv .long
+same-length-5 c = let h = c .before .before .before .before .before .before .before .before .before .before .before .before .before .before .before in c .before .before .before .plan2 .given ∙ h .loop .inv .long
 
 same-length-6 : tie.Need-same-length-6 Inv-loop μ-loop
 same-length-6 c =
-    let at-head = c .before .before .before .before .before .before .before .before .before .before .before .before .before in
-    let at-start = head-to-start at-head in
-    c .before .work2 .given ∙ at-head .loop .inv .work-long ∙ sym (at-start .pre .0 .5)
+    let h = c .before .before .before .before .before .before .before .before .before .before .before .before .before .before .before in
+    c .before .work2 .given ∙ h .loop .inv .work-long ∙ sym (start-of h .pre .2 .same)
 
 returns-2 : tie.Need-returns-2 Inv-loop μ-loop
 returns-2 c =
-    let at-moves = c .before .before .before .before .before .before in
-    let at-left = at-moves .before .before .before .before .before .before in
-    let at-head = at-left .before in
-    let at-start = head-to-start at-head in
-    let a = at-start .args in
-    let p = at-start .pre in
-    repairing-goals (taskOf (a .bytes .now)) (a .relaxed .now) (a .plan .now) (at-head .loop .plan) (at-head .loop .memo) (at-head .loop .work)
-    (at-head .loop .sets) (at-head .loop .ever) (at-head .loop .at) (at-head .loop .j) (at-head .loop .inv) (omega (arith, at-left .loop-test .left))
-    (at-moves .moves .last .1 .1 .1 .1 .1 .1 .1 .1 .1 .1 .1 .0) (at-moves .moves .result) _ (p .0 .2) (at-moves .moves .ensures)
+    let f = c .before .before .before .before .before .before in
+    let t = f .before .before .before .before .before .before .before .before in
+    repairing-end (t .before .loop .inv) (omega (arith, t .loop-test .left)) _ (f .finish .result) (f .finish .ensures)
 
 pub repair-from-spec : {M : Type 1} → statement M
 repair-from-spec =
@@ -151,20 +147,24 @@ repair-from-spec =
     (tie.spec
     Inv-loop
     μ-loop
+    painted-requires
+    initial-requires
     loop-holds
-    mul-advance
-    shared-slice-read-advance
-    advance-requires
+    mul-arrange
+    shared-slice-read-arrange
+    arrange-requires
     enum-known-w
     enum-told
     same-length
     same-length-2
     same-length-3
     returns
+    run-list-requires
+    run-list-requires-2
     add-j
     loop-less
     loop-again
-    moves-requires
+    finish-requires
     same-length-4
     same-length-5
     same-length-6
