@@ -160,18 +160,23 @@ pub list-apart : (t : Task) (l : List ℕ) (c : Check) → inOrder (inOrder (len
 unfolding inOrder
 list-apart t l c = sym (inOrder-++ (lengthCheck l ∷ relaxedCheck t l ∷ []) (c ∷ []))
 
+-- a call as it ends before the lists are filled: its answer, and the plan in front
+pub record Ended (a : Answer Result) (l plan : List ℕ) (r : Planned) : Type 0 where
+  pub answer : answerOf r ≡ a
+  pub front : InFront l plan r
+
 -- the two calls
 module _ (s l : List ℕ) (n w : ℕ) (plan : List ℕ) (r : Planned) where
   pub plan-called : Drafted (taskOf s) (recordCheck s ∷ paintingCheck (taskOf s) ∷ sourceCheck false (taskOf s) l ∷ []) (source false (taskOf s) l) (capacityOf n w) plan r
-      → (answerOf r ≡ planCall s n w) × InFront (planOf (taskOf s)) plan r
+      → Ended (planCall s n w) (planOf (taskOf s)) plan r
   unfolding planCall planOf source sourceCheck
   plan-called D =
       let t = taskOf s in
       let room = roomCheck (length (repaired t (relaxedPlan t))) (capacityOf n w) in
-      (D .answer′ ∙ ap (λ (c : Check). answer c (planned t (repaired t (relaxedPlan t)))) (painting-apart s (goalsCheck t ∷ room ∷ [])), D .front)
+      record { answer = D .answer′ ∙ ap (λ (c : Check). answer c (planned t (repaired t (relaxedPlan t)))) (painting-apart s (goalsCheck t ∷ room ∷ [])); front = D .front }
 
   pub repair-called : Drafted (taskOf s) (recordCheck s ∷ paintingCheck (taskOf s) ∷ sourceCheck true (taskOf s) l ∷ []) (source true (taskOf s) l) (capacityOf n w) plan r
-      → (answerOf r ≡ repairCall s l n w) × InFront (repaired (taskOf s) l) plan r
+      → Ended (repairCall s l n w) (repaired (taskOf s) l) plan r
   unfolding repairCall source sourceCheck inOrder
   repair-called D =
       let t = taskOf s in
@@ -179,4 +184,4 @@ module _ (s l : List ℕ) (n w : ℕ) (plan : List ℕ) (r : Planned) where
       let two = inOrder (lengthCheck l ∷ relaxedCheck t l ∷ []) in
       let apart : inOrder (recordCheck s ∷ acyclicCheck t ∷ returnCheck t ∷ two ∷ room ∷ []) ≡ inOrder (recordCheck s ∷ acyclicCheck t ∷ returnCheck t ∷ lengthCheck l ∷ relaxedCheck t l ∷ room ∷ []) =
       ap (λ (x : Check). andThen (recordCheck s) (andThen (acyclicCheck t) (andThen (returnCheck t) x))) (list-apart t l room) in
-      (D .answer′ ∙ ap (λ (c : Check). answer c (planned t (repaired t l))) (painting-apart s (two ∷ room ∷ []) ∙ apart), D .front)
+      record { answer = D .answer′ ∙ ap (λ (c : Check). answer c (planned t (repaired t l))) (painting-apart s (two ∷ room ∷ []) ∙ apart); front = D .front }

@@ -16,7 +16,7 @@ use Rattle.planning.proofs.Demand3.{demand3}
 use Rattle.planner.specs.declared.Planned.{Planned}
 use Rattle.planner.specs.declared.Planned.the-variants.{Plan, Refused}
 use Rattle.planner.specs.Answers.{answerOf, stepsOf}
-use Rattle.planner.specs.Drafts.{InFront}
+use Rattle.planner.proofs.Drafts.{Ended}
 
 pub finished : (a : Planned) (n : ℕ) (l l′ : List ℕ) → n ≡ stepsOf a → l′ ≡ take n l ++ replicate (length l - n) 65535 → l′ ≡ lent (answerOf a) (length l) (planIn (answerOf a) l)
 unfolding lent planIn
@@ -31,11 +31,6 @@ finished a n l l′ e h = h ∙ ap (λ (x : ℕ). take x l ++ replicate (length 
 pub blanked : (w : ℕ) (l : List ℕ) → l ≡ replicate w 65535 → l ≡ workList w
 unfolding workList
 blanked w l e = e
-
--- a call as it ends before the lists are filled: its answer, and the plan in front
-pub record Ended (a : Answer Result) (l plan : List ℕ) (r : Planned) : Type 0 where
-  pub answer : answerOf r ≡ a
-  pub front : InFront l plan r
 
 -- its lists once they are filled
 module _ (a : Answer Result) (l plan : List ℕ) (n : ℕ) (en : length plan ≡ n) where

@@ -5,7 +5,7 @@ ghost use Prim.Native.Nat.{_+_, _*_, _<_, _≤_};
 ghost use lib.ListN.{length, getD, set};
 ghost use Rattle.planning.specs.Record.{taskOf, recordCheck, variablesIn, actionsIn};
 ghost use Rattle.planning.specs.Runs.{variables, actions, variable, count, black};
-ghost use Rattle.task.specs.Task.{cell, taskIn, Loaded, costAt, preAt, effAt, endAt};
+ghost use Rattle.task.specs.Task.{taskIn, Loaded, costAt, preAt, effAt, endAt};
 ghost use Rattle.task.specs.Links.{headAt, nextAt, orderIn, linked, Unlinked, Prepared};
 ghost use Rattle.task.specs.Size.{taskSize, roomFor};
 ghost use Rattle.task.specs.Loading.{RowWritten, FactsLoaded, Room, ActionLoaded, VariableLoaded, Headed};

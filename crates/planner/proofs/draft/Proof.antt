@@ -19,7 +19,7 @@ use Rattle.planner.proofs.draft.Statement.{statement}
 use Rattle.planner.proofs.draft.Tie as tie
 
 repair-requires : tie.Need-repair-requires
-repair-requires c κs = (c .before .before .before .before .before .before .pre .0, plan-entries (taskIn (c .before .before .before .before .before .before .args .task .now)) relaxed (c .before .before .before .before .before .before .args .list .now) (c .before .before .before .before .before .before .pre .1), ?)
+repair-requires c κs = (c .before .before .before .before .before .before .pre .0, plan-entries (taskIn (c .before .before .before .before .before .before .args .task .now)) relaxed (c .before .before .before .before .before .before .args .list .now) (c .before .before .before .before .before .before .pre .1))
 
 enum-known-r : tie.Need-enum-known-r
 enum-known-r c = search needs

@@ -8,6 +8,9 @@ use borrow.Author.Needs.{needs}
 use Rattle.planner.proofs.plan.Statement.{statement}
 use Rattle.planner.proofs.plan.Tie as tie
 
+slice-aggregate-plan-checked : tie.Need-slice-aggregate-plan-checked
+slice-aggregate-plan-checked c = search needs
+
 plan-checked-requires : tie.Need-plan-checked-requires
 plan-checked-requires c κs = tt
 
@@ -27,9 +30,9 @@ returns c =
     let w = length (a .work .now) in
     let D = plan-called (a .bytes .now) [] n w _ _ (c .before .before .before .before .before .before .before .before .before .before .before .plan-checked .ensures) in
     let E = c .before .before .before .before .finish .ensures in
-    let S = plan-settled (a .bytes .now) n w _ (c .before .before .before .before .before .before .before .before .before .before .plan .given) _ (record { answer = D .0; front = D .1 }) _ (E .0) in
-    (D .0, (S .0, (E .1 ∙ ap workList (c .before .before .before .before .before .before .before .before .work .given), (S .1, S .2))))
+    let S = plan-settled (a .bytes .now) n w _ (c .before .before .before .before .before .before .before .before .before .before .plan .given) _ D _ (E .0) in
+    (D .answer, (S .0, (E .1 ∙ ap workList (c .before .before .before .before .before .before .before .before .work .given), (S .1, S .2))))
 
 pub plan-spec : {M : Type 1} → statement M
 plan-spec =
-    tie.close (tie.spec plan-checked-requires finish-requires same-length same-length-2 returns)
+    tie.close (tie.spec slice-aggregate-plan-checked plan-checked-requires finish-requires same-length same-length-2 returns)

@@ -26,8 +26,8 @@ returns c =
     let w = length (a .work .now) in
     let D = repair-called (a .bytes .now) (a .list .now) n w _ _ (c .before .before .before .before .before .before .before .before .before .before .before .plan-checked .ensures) in
     let E = c .before .before .before .before .finish .ensures in
-    let S = repair-settled (a .bytes .now) (a .list .now) n w _ (c .before .before .before .before .before .before .before .before .before .before .plan .given) _ (record { answer = D .0; front = D .1 }) _ (E .0) in
-    (D .0, (S .0, (E .1 ∙ ap workList (c .before .before .before .before .before .before .before .before .work .given), S .1)))
+    let S = repair-settled (a .bytes .now) (a .list .now) n w _ (c .before .before .before .before .before .before .before .before .before .before .plan .given) _ D _ (E .0) in
+    (D .answer, (S .0, (E .1 ∙ ap workList (c .before .before .before .before .before .before .before .before .work .given), S .1)))
 
 pub repair-spec : {M : Type 1} → statement M
 repair-spec =
