@@ -22,7 +22,7 @@ const MAX_ACTIONS: usize = 1024;
 const MAX_FACTS: usize = 15;
 
 /// Effects and preconditions on one variable each, put together before the action is numbered.
-type Draft = (Vec<Fact>, Vec<Fact>);
+pub(crate) type Draft = (Vec<Fact>, Vec<Fact>);
 
 struct Drawing<'a> {
     random: &'a mut Random,
@@ -245,7 +245,11 @@ impl<'a> Drawing<'a> {
 }
 
 /// Numbers the drafts in random order, as many as a record holds.
-fn number(random: &mut Random, variables: Vec<Variable>, mut drafts: Vec<Draft>) -> Task {
+pub(crate) fn number(
+    random: &mut Random,
+    variables: Vec<Variable>,
+    mut drafts: Vec<Draft>,
+) -> Task {
     random.shuffle(&mut drafts);
     drafts.retain(|(preconditions, _)| preconditions.len() <= MAX_FACTS);
     drafts.truncate(MAX_ACTIONS);

@@ -19,8 +19,14 @@ pub fn check(bytes: &[u8]) -> Result<(), Refusal> {
 
 pub fn read(bytes: &[u8]) -> Result<Task, Refusal> {
     let mut task = Task::default();
-    scan(bytes, &mut task)?;
+    load(bytes, &mut task)?;
     Ok(task)
+}
+
+/// Reads a record into a task that may hold another one.
+pub fn load(bytes: &[u8], task: &mut Task) -> Result<(), Refusal> {
+    task.clear();
+    scan(bytes, task)
 }
 
 /// Packs a task; what does not fit its field is cut, so that faulty records can be written too.

@@ -1,187 +1,215 @@
 //! Relaxed plan repair.
 
-use crate::index::{Groups, Waiting};
-use crate::painting::{Move, Painting};
+use crate::index::{Numbers, Waiting, ACTIONS};
+use crate::painting::{Move, Painting, ANYWHERE};
 use crate::paths::Paths;
 use crate::refusal::Refusal;
+use crate::room::{table, Table};
 use crate::set::contains;
 use crate::state::State;
-use crate::task::{variables_of, Fact, Task, Variable};
+use crate::task::{Fact, Task};
 
-/// Repairs a relaxed plan, or 11 as soon as the plan cannot fit the capacity any more: steps are
-/// only added, never taken away.
-pub fn repaired(
-    task: &Task,
-    needing: &Groups,
-    painting: &Painting,
-    relaxed: &[u16],
-    capacity: usize,
-) -> Result<Vec<u16>, Refusal> {
-    let mut repair = Repair::new(task, needing, painting, capacity);
-    for &number in relaxed {
-        repair.restore(task.action(number as usize).preconditions)?;
-        repair.apply(number)?;
-    }
-    let goals: Vec<Fact> = task.goals().collect();
-    repair.restore(&goals)?;
-    Ok(repair.plan)
+/// Room for repairs.
+pub struct Repair {
+    waiting: Waiting,
+    paths: Paths,
+    supports: Supports,
+    /// Actions of the plan applied for the first time, whose effects are not held yet.
+    fresh: Vec<u16>,
 }
 
-struct Repair<'a> {
+impl Repair {
+    pub fn new() -> Self {
+        Repair {
+            waiting: Waiting::new(),
+            paths: Paths::new(),
+            supports: Supports::new(),
+            fresh: Vec::new(),
+        }
+    }
+
+    /// Repairs a relaxed plan into the list, whose length is the capacity; answers the steps, or 11
+    /// as soon as they do not fit: steps are only added, never taken away.
+    pub fn run(
+        &mut self,
+        task: &Task,
+        painting: &Painting,
+        relaxed: &[u16],
+        plan: &mut [u16],
+    ) -> Result<usize, Refusal> {
+        if painting.black == 0 {
+            return copy(relaxed, plan);
+        }
+        let mut course = Course::start(self, task, painting, plan);
+        for &number in relaxed {
+            course.take(number)?;
+        }
+        course.finish()
+    }
+}
+
+fn copy(relaxed: &[u16], plan: &mut [u16]) -> Result<usize, Refusal> {
+    let capacity = plan.len();
+    let room = plan.get_mut(..relaxed.len()).ok_or(Refusal::new(11, capacity))?;
+    room.copy_from_slice(relaxed);
+    Ok(relaxed.len())
+}
+
+/// For each action its black preconditions on other variables than the moved one, in the order of
+/// the repair.
+struct Supports {
+    first: Table<u16, { ACTIONS + 1 }>,
+    facts: Vec<Fact>,
+}
+
+impl Supports {
+    fn new() -> Self {
+        Supports { first: table(0), facts: Vec::new() }
+    }
+
+    fn fill(&mut self, task: &Task, painting: &Painting) {
+        let mut rank = [0; 64];
+        painting.order.iter().enumerate().for_each(|(i, &v)| rank[v] = i);
+        self.facts.clear();
+        for (number, action) in task.actions().enumerate() {
+            let start = self.facts.len();
+            let own = painting.moves[number % ACTIONS].map_or(64, |moved| moved.variable as usize);
+            let black = painting.black & !(1u64.checked_shl(own as u32).unwrap_or(0));
+            let supports = action.preconditions.iter().filter(|f| contains(black, f.variable()));
+            self.facts.extend(supports);
+            let added = &mut self.facts[start..];
+            if added.len() > 1 {
+                added.sort_unstable_by_key(|fact| rank[fact.variable()]);
+            }
+            self.first[number + 1] = self.facts.len() as u16;
+        }
+    }
+
+    #[inline(always)]
+    fn places(&self, number: u16) -> std::ops::Range<usize> {
+        let number = number as usize % ACTIONS;
+        self.first[number] as usize..self.first[number + 1] as usize
+    }
+}
+
+/// A repair while it goes on.
+struct Course<'a> {
     task: &'a Task,
     painting: &'a Painting,
-    capacity: usize,
-    plan: Vec<u16>,
+    room: &'a mut Repair,
+    plan: &'a mut [u16],
+    steps: usize,
+    /// The value of each black variable.
+    current: [u8; 64],
     /// Red facts held now, and black facts held at any time so far.
     held: State,
-    waiting: Waiting<'a>,
-    moves: &'a [Option<Move>],
-    /// For each action the variables of its preconditions.
-    needs: Vec<u64>,
-    /// The value of each black variable.
-    current: [usize; 64],
-    /// Usable arcs of each black variable.
-    paths: Vec<Paths>,
-    /// The moves to insert, and room for them to be rewritten.
-    list: Vec<u16>,
-    spare: Vec<u16>,
-    /// The variables that entries of the list need.
-    needed: u64,
+    /// Actions of the plan so far. One that was applied before adds nothing to what is held.
+    applied: Numbers,
 }
 
-impl<'a> Repair<'a> {
-    fn new(task: &'a Task, needing: &'a Groups, painting: &'a Painting, capacity: usize) -> Self {
-        let variables = || task.variables.iter();
-        let paths = |v: &Variable| Paths::new(if v.black { v.values as usize } else { 0 });
-        let mut repair = Repair {
-            task,
-            painting,
-            capacity,
-            plan: Vec::new(),
-            held: State::empty(),
-            waiting: Waiting::new(task, needing),
-            moves: &painting.moves,
-            needs: task.actions().map(|action| variables_of(action.preconditions)).collect(),
-            current: [0; 64],
-            paths: variables().map(paths).collect(),
-            list: Vec::new(),
-            spare: Vec::new(),
-            needed: 0,
-        };
-        for number in repair.waiting.free() {
-            add_usable(&mut repair.paths, repair.moves, number);
+impl<'a> Course<'a> {
+    fn start(
+        room: &'a mut Repair,
+        task: &'a Task,
+        painting: &'a Painting,
+        plan: &'a mut [u16],
+    ) -> Self {
+        room.waiting.clear(task);
+        room.paths.clear(task, painting.black);
+        room.supports.fill(task, painting);
+        room.fresh.clear();
+        let held = State::initial(task);
+        for (number, moved) in painting.moves[..task.action_count()].iter().enumerate() {
+            if let Some(moved) = *moved {
+                if room.waiting.start(task, &held, number) {
+                    room.paths.add(moved, number);
+                }
+            }
         }
-        for (v, variable) in variables().enumerate() {
-            repair.hold(Fact::new(v, variable.initial as usize));
-        }
-        repair
+        let mut current = [0; 64];
+        task.variables.iter().zip(&mut current).for_each(|(v, now)| *now = v.initial);
+        Course { task, painting, room, plan, steps: 0, current, held, applied: Numbers::default() }
     }
 
+    /// Inserts the moves before an action of the relaxed plan, and applies both.
     #[inline(always)]
-    fn hold(&mut self, fact: Fact) {
-        self.current[fact.variable()] = fact.value();
-        if !self.held.holds(fact) {
-            self.held.add(fact);
-            let (paths, moves) = (&mut self.paths, self.moves);
-            self.waiting.meet(fact, |number| add_usable(paths, moves, number));
+    fn take(&mut self, number: u16) -> Result<(), Refusal> {
+        let moved = self.painting.moves[number as usize % ACTIONS];
+        if let Some(Move { variable, from, .. }) = moved.filter(|moved| moved.from != ANYWHERE) {
+            self.reach(Fact::new(variable as usize, from as usize))?;
         }
-    }
-
-    fn apply(&mut self, number: u16) -> Result<(), Refusal> {
-        self.fits(1)?;
-        self.plan.push(number);
-        for &fact in self.task.action(number as usize).effects {
-            self.hold(fact);
+        self.support(number)?;
+        self.push(number)?;
+        if let Some(moved) = moved {
+            self.current[moved.variable as usize % 64] = moved.to;
+        }
+        while let Some(number) = self.room.fresh.pop() {
+            self.hold_effects(number as usize);
         }
         Ok(())
     }
 
-    fn fits(&self, more: usize) -> Result<(), Refusal> {
-        if self.plan.len() + more > self.capacity {
-            return Err(Refusal::new(11, self.capacity));
+    /// Moves to the black goals; answers the steps.
+    fn finish(mut self) -> Result<usize, Refusal> {
+        for &v in &self.painting.order {
+            if let Some(goal) = self.task.variables[v].goal {
+                self.reach(Fact::new(v, goal as usize))?;
+            }
         }
-        Ok(())
+        Ok(self.steps)
     }
 
-    /// Inserts moves if a black one of these facts is unmet.
-    fn restore(&mut self, facts: &[Fact]) -> Result<(), Refusal> {
-        let black = self.painting.black;
-        let unmet =
-            |f: &Fact| contains(black, f.variable()) && self.current[f.variable()] != f.value();
-        if !facts.iter().any(unmet) {
+    /// Appends the path of a black variable to a value, before each move the paths of what it needs.
+    /// Variables come clients first and no path needs what a client moves, so the list is the one
+    /// that going through it variable by variable gives.
+    fn reach(&mut self, to: Fact) -> Result<(), Refusal> {
+        let v = to.variable();
+        if self.current[v] as usize == to.value() {
             return Ok(());
         }
-        self.list_moves(facts)?;
-        let list = std::mem::take(&mut self.list);
-        list.iter().try_for_each(|&number| self.apply(number))?;
-        self.list = list;
+        let row = self.room.paths.row(&self.painting.moves, to);
+        while self.current[v] as usize != to.value() {
+            let (number, value) = self.room.paths.next(row, self.current[v] as usize);
+            self.support(number)?;
+            self.push(number)?;
+            self.current[v] = value as u8;
+        }
         Ok(())
     }
 
-    /// Lists the moves to the wanted values, black variables clients first.
-    fn list_moves(&mut self, wanted: &[Fact]) -> Result<(), Refusal> {
-        let mut values = [None; 64];
-        wanted.iter().for_each(|fact| values[fact.variable()] = Some(fact.value()));
-        self.list.clear();
-        self.needed = 0;
-        let painting = self.painting;
-        painting.order.iter().try_for_each(|&v| self.insert_moves(v, values[v]))
-    }
-
-    /// Inserts the moves of one black variable into the list.
-    fn insert_moves(&mut self, v: usize, wanted: Option<usize>) -> Result<(), Refusal> {
-        let mut at = self.current[v];
-        if contains(self.needed, v) {
-            at = self.insert_before_entries(v)?;
-        }
-        if let Some(value) = wanted {
-            self.append_path(v, at, value);
-        }
-        self.fits(self.list.len())
-    }
-
-    /// Rewrites the list with a path before each entry that needs the variable; answers its value
-    /// at the end.
-    fn insert_before_entries(&mut self, v: usize) -> Result<usize, Refusal> {
-        let mut at = self.current[v];
-        let entries = std::mem::take(&mut self.list);
-        self.list = std::mem::take(&mut self.spare);
-        self.list.clear();
-        for (i, &entry) in entries.iter().enumerate() {
-            if contains(self.needs[entry as usize], v) {
-                let value = self.needed_value(entry, v);
-                self.append_path(v, at, value);
-                self.fits(self.list.len() + entries.len() - i)?;
-                at = value;
+    #[inline(always)]
+    fn support(&mut self, number: u16) -> Result<(), Refusal> {
+        for place in self.room.supports.places(number) {
+            let fact = self.room.supports.facts[place];
+            if self.current[fact.variable()] as usize != fact.value() {
+                self.reach(fact)?;
             }
-            self.list.push(entry);
         }
-        self.spare = entries;
-        Ok(at)
-    }
-
-    /// Preconditions rise by variable, so the place is the count of lower variables.
-    #[inline(always)]
-    fn needed_value(&self, number: u16, v: usize) -> usize {
-        let lower = self.needs[number as usize] & ((1 << v) - 1);
-        self.task.action(number as usize).preconditions[lower.count_ones() as usize].value()
+        Ok(())
     }
 
     #[inline(always)]
-    fn append_path(&mut self, v: usize, from: usize, to: usize) {
-        let mut at = from;
-        while at != to {
-            let number = self.paths[v].first(at, to);
-            self.list.push(number);
-            self.needed |= self.needs[number as usize];
-            at = self.moves[number as usize].unwrap().to as usize;
+    fn push(&mut self, number: u16) -> Result<(), Refusal> {
+        let capacity = self.plan.len();
+        let place = self.plan.get_mut(self.steps).ok_or(Refusal::new(11, capacity))?;
+        *place = number;
+        self.steps += 1;
+        if self.applied.insert(number as usize) {
+            self.room.fresh.push(number);
         }
+        Ok(())
     }
-}
 
-fn add_usable(paths: &mut [Paths], moves: &[Option<Move>], number: usize) {
-    if let Some(moved) = moves[number] {
-        let from = moved.from.map(usize::from);
-        paths[moved.variable as usize].add(number, from, moved.to as usize);
+    fn hold_effects(&mut self, number: usize) {
+        let (task, moves) = (self.task, &self.painting.moves);
+        let Repair { waiting, paths, .. } = &mut *self.room;
+        for &fact in task.effects(number) {
+            if !self.held.holds(fact) {
+                self.held.add(fact);
+                waiting.wake(task, &self.held, fact, |number| {
+                    moves[number % ACTIONS].into_iter().for_each(|moved| paths.add(moved, number));
+                });
+            }
+        }
     }
 }

@@ -60,16 +60,16 @@ impl State {
         self.sets[fact.variable()] |= 1 << fact.value();
     }
 
-    /// Adds every value of a variable.
+    /// The values of a variable.
     #[inline(always)]
-    pub fn fill(&mut self, variable: usize) {
-        self.sets[variable % 64] = !0;
+    pub fn of(&self, variable: usize) -> u64 {
+        self.sets[variable % 64]
     }
 
-    /// Takes away every value of a variable.
+    /// Takes away every value of a fact's variable.
     #[inline(always)]
-    pub fn clear(&mut self, variable: usize) {
-        self.sets[variable % 64] = 0;
+    pub fn clear(&mut self, fact: Fact) {
+        self.sets[fact.variable()] = 0;
     }
 
     #[inline(always)]
@@ -90,16 +90,4 @@ impl State {
 pub struct Run {
     pub steps: u32,
     pub plan: bool,
-}
-
-pub fn run(task: &Task, list: &[u16], semantics: &Semantics) -> Run {
-    let mut state = State::initial(task);
-    for (step, &number) in list.iter().enumerate() {
-        let action = task.action(number as usize);
-        if !state.holds_all(action.preconditions) {
-            return Run { steps: step as u32, plan: false };
-        }
-        state.apply(action, semantics);
-    }
-    Run { steps: list.len() as u32, plan: state.meets_goals(task) }
 }

@@ -1,5 +1,5 @@
 /// A variable and a value in one number: variable × 64 + value.
-#[derive(Clone, Copy, Debug, PartialEq, Eq, PartialOrd, Ord)]
+#[derive(Clone, Copy, Debug, Default, PartialEq, Eq, PartialOrd, Ord)]
 pub struct Fact(u16);
 
 /// The number of possible facts.
@@ -79,10 +79,6 @@ impl Task {
         self.push_facts(effects);
     }
 
-    pub fn fact_count(&self) -> usize {
-        self.facts.len()
-    }
-
     pub fn action_count(&self) -> usize {
         self.spans.len()
     }
@@ -93,6 +89,29 @@ impl Task {
         let facts = &self.facts[span.first as usize..];
         let (preconditions, rest) = facts.split_at(span.preconditions as usize);
         Action { cost: span.cost, preconditions, effects: &rest[..span.effects as usize] }
+    }
+
+    #[inline(always)]
+    pub fn preconditions(&self, number: usize) -> &[Fact] {
+        let Span { first, preconditions, .. } = self.spans[number];
+        &self.facts[first as usize..][..preconditions as usize]
+    }
+
+    #[inline(always)]
+    pub fn effects(&self, number: usize) -> &[Fact] {
+        let Span { first, preconditions, effects, .. } = self.spans[number];
+        &self.facts[first as usize + preconditions as usize..][..effects as usize]
+    }
+
+    #[inline(always)]
+    pub fn cost(&self, number: usize) -> u32 {
+        self.spans[number].cost.into()
+    }
+
+    /// The black variables as a set.
+    pub fn black(&self) -> u64 {
+        let numbered = self.variables.iter().enumerate();
+        numbered.fold(0, |set, (v, variable)| set | u64::from(variable.black) << v)
     }
 
     pub fn actions(&self) -> impl ExactSizeIterator<Item = Action<'_>> + DoubleEndedIterator {
@@ -118,6 +137,12 @@ impl Task {
     pub fn goals(&self) -> impl Iterator<Item = Fact> + '_ {
         let numbered = self.variables.iter().enumerate();
         numbered.filter_map(|(v, variable)| Some(Fact::new(v, variable.goal? as usize)))
+    }
+
+    pub(crate) fn clear(&mut self) {
+        self.variables.clear();
+        self.spans.clear();
+        self.facts.clear();
     }
 
     pub(crate) fn reserve_actions(&mut self, actions: usize, facts: usize) {

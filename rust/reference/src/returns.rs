@@ -1,0 +1,149 @@
+//! Whether each arc of the black variables has its return.
+
+use crate::index::{Chains, ACTIONS, NONE};
+use crate::painting::Move;
+use crate::refusal::Refusal;
+use crate::room::{table, Table};
+use crate::rows::Rows;
+use crate::set::members;
+use crate::state::State;
+use crate::task::{Fact, Task, FACTS};
+
+type Moves = [Option<Move>; ACTIONS];
+
+pub struct Returns {
+    /// Moves by the fact that they set.
+    setting: Chains,
+    /// Moves by their variable, rising; a variable stands as its value 0.
+    own: Chains,
+    /// The move that served last as a return to each fact.
+    served: Table<u16, FACTS>,
+    rows: Rows,
+}
+
+impl Returns {
+    pub fn new() -> Self {
+        Returns {
+            setting: Chains::new(),
+            own: Chains::new(),
+            served: table(NONE),
+            rows: Rows::new(),
+        }
+    }
+
+    /// 8 at the lowest action with an arc that lacks its return.
+    pub fn check(&mut self, task: &Task, black: u64, moves: &Moves) -> Result<(), Refusal> {
+        self.group(task, black, moves);
+        let all = task.action_count();
+        let lowest = members(black).fold(all, |lowest, v| self.lowest(task, moves, v, lowest));
+        if lowest < all {
+            return Err(Refusal::new(8, lowest));
+        }
+        Ok(())
+    }
+
+    fn group(&mut self, task: &Task, black: u64, moves: &Moves) {
+        for v in members(black) {
+            let values = task.variables[v].values as usize;
+            let first = Fact::new(v, 0).index();
+            self.setting.clear(v, values);
+            self.own.clear(v, 1);
+            self.served[first..first + values].fill(NONE);
+        }
+        for (number, moved) in moves[..task.action_count()].iter().enumerate().rev() {
+            if let Some(moved) = moved {
+                self.setting.insert(moved.target(), number);
+                self.own.insert(Fact::new(moved.variable as usize, 0), number);
+            }
+        }
+    }
+
+    /// The lower of `lowest` and the first move of the variable that lacks a return.
+    fn lowest(&mut self, task: &Task, moves: &Moves, v: usize, lowest: usize) -> usize {
+        let mut search = Search::new(task, &self.setting, &mut self.served, &mut self.rows);
+        let mut union = State::empty();
+        for number in self.own.of(Fact::new(v, 0)).take_while(|&number| number < lowest) {
+            let Some(moved) = moves[number % ACTIONS] else { continue };
+            let action = task.action(number);
+            let facts = || action.preconditions.iter().chain(action.effects);
+            facts().for_each(|&fact| union.add(fact));
+            union.clear(moved.target());
+            union.add(moved.target());
+            if !search.returns(moved, &union) {
+                return number;
+            }
+            facts().for_each(|&fact| union.clear(fact));
+        }
+        lowest
+    }
+}
+
+/// The search for returns of one variable's moves: one by one, the last that served first; in rows
+/// once that has cost more than the rows would have.
+struct Search<'a> {
+    task: &'a Task,
+    setting: &'a Chains,
+    served: &'a mut [u16; FACTS],
+    rows: &'a mut Rows,
+    in_rows: bool,
+    moves: usize,
+    /// Preconditions looked at so far, and how many call for a thought about rows.
+    spent: usize,
+    limit: usize,
+}
+
+impl<'a> Search<'a> {
+    fn new(
+        task: &'a Task,
+        setting: &'a Chains,
+        served: &'a mut [u16; FACTS],
+        rows: &'a mut Rows,
+    ) -> Self {
+        let limit = Rows::LEAST;
+        Search { task, setting, served, rows, in_rows: false, moves: 0, spent: 0, limit }
+    }
+
+    /// Whether each arc of a move has its return; `union` holds the value that the move sets, and
+    /// its outside condition and effect.
+    #[inline(always)]
+    fn returns(&mut self, moved: Move, union: &State) -> bool {
+        let v = moved.variable as usize;
+        let sources = moved.sources(self.task.variables[v].values);
+        if self.spent > self.limit && !self.in_rows {
+            self.weigh(v);
+        }
+        if self.in_rows {
+            return sources & !self.rows.returned(union) == 0;
+        }
+        self.moves += 1;
+        members(sources).all(|value| self.one_by_one(Fact::new(v, value), union))
+    }
+
+    /// Changes to rows if they are cheaper, else gives the search one by one more time.
+    #[cold]
+    fn weigh(&mut self, v: usize) {
+        self.rows.build(self.task, self.setting, v);
+        self.in_rows = self.rows.price() * self.moves < self.spent;
+        self.limit = 4 * self.spent;
+    }
+
+    #[inline(always)]
+    fn one_by_one(&mut self, fact: Fact, union: &State) -> bool {
+        let served = self.served[fact.index()];
+        if served != NONE && self.serves(served as usize, union) {
+            return true;
+        }
+        let setting = self.setting;
+        let found = setting.of(fact).find(|&number| self.serves(number, union));
+        self.served[fact.index()] = found.map_or(NONE, |number| number as u16);
+        found.is_some()
+    }
+
+    #[inline(always)]
+    fn serves(&mut self, number: usize, union: &State) -> bool {
+        let preconditions = self.task.preconditions(number);
+        let met = preconditions.iter().take_while(|&&fact| union.holds(fact)).count();
+        self.spent += met + 1;
+        met == preconditions.len()
+    }
+}
