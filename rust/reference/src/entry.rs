@@ -134,11 +134,11 @@ fn check_length(list: &[u16]) -> Result<(), Refusal> {
 
 fn check_entries(task: &Task, list: &[u16]) -> Result<(), Refusal> {
     let outside = |number: u16| usize::from(number) >= task.action_count();
-    if list.iter().fold(false, |any, &number| any | outside(number)) {
-        let entry = list.iter().position(|&number| outside(number)).unwrap();
-        return Err(Refusal::new(9, entry));
+    if list.is_empty() || !outside(list.iter().fold(0, |most, &number| number.max(most))) {
+        return Ok(());
     }
-    Ok(())
+    let entry = list.iter().position(|&number| outside(number)).unwrap();
+    Err(Refusal::new(9, entry))
 }
 
 /// 9 at the lowest entry that is not below A or does not apply, or at the end for a goal missed.

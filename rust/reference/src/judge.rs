@@ -4,12 +4,12 @@
 //! is run for real until that stops, from there red-black, and from there relaxed. One state serves
 //! all three: the newest value of each variable, and every value that it had.
 
-use crate::image::Image;
+use crate::image::{Image, Values};
 use crate::index::{Numbers, ACTIONS};
 use crate::room::{table, Table};
 use crate::set::contains;
 use crate::state::{Run, State};
-use crate::task::{variables_of, Task};
+use crate::task::{variables_of, Fact, Task};
 
 #[derive(Clone, Copy, Debug, Default, PartialEq, Eq)]
 pub struct Judgement {
@@ -49,83 +49,91 @@ impl Judge {
     }
 }
 
+/// How an action is taken when it comes again.
+const FIRST: u8 = 0;
+const AGAIN: u8 = 1;
+const IMAGED: u8 = 2;
+
 struct Course<'a> {
     task: &'a Task,
     /// The newest value of each variable.
-    now: [u8; 64],
+    now: Values,
     /// Every value that a variable had.
     held: State,
-    /// Actions applied so far: what they need and set was held, and what was held stays.
-    applied: Numbers,
+    /// Actions applied before: what they need and set was held, and what was held stays.
+    kind: [u8; ACTIONS],
     images: &'a mut [Image; ACTIONS],
-    imaged: Numbers,
 }
 
 impl<'a> Course<'a> {
     fn new(task: &'a Task, images: &'a mut [Image; ACTIONS]) -> Self {
-        let (applied, imaged) = (Numbers::default(), Numbers::default());
-        Course { task, now: initial(task), held: State::initial(task), applied, images, imaged }
+        let held = State::initial(task);
+        Course { task, now: Values::initial(task), held, kind: [FIRST; ACTIONS], images }
     }
 
     /// Runs from a step on, the variables in `single` holding their newest value only; answers the
     /// first step that does not apply.
     fn run(&mut self, list: &[u16], from: usize, single: u64) -> usize {
-        let free = Image::free(single);
-        for (step, &number) in list.iter().enumerate().skip(from) {
+        self.kind.iter_mut().for_each(|kind| *kind = (*kind).min(AGAIN));
+        for (step, &number) in list[from..].iter().enumerate() {
             let number = number as usize;
-            let applies = match self.applied.contains(number) {
-                true if single == 0 => true,
-                true if self.imaged.contains(number) => {
-                    self.images[number % ACTIONS].apply(&mut self.now, &free)
-                }
-                again => self.apply(number, single, again),
+            let applies = match self.kind[number % ACTIONS] {
+                IMAGED => self.images[number % ACTIONS].apply(&mut self.now),
+                AGAIN => single == 0 || self.again(number, single),
+                _ => self.first(number, single),
             };
             if !applies {
-                return step;
+                return from + step;
             }
         }
         list.len()
     }
 
     #[inline(always)]
-    fn apply(&mut self, number: usize, single: u64, again: bool) -> bool {
+    fn meets(&self, single: u64, facts: &[Fact]) -> bool {
+        let other = |fact: &Fact| self.now.of(fact.variable()) != fact.value();
+        !facts.iter().any(|fact| other(fact) && contains(single, fact.variable()))
+    }
+
+    #[inline(always)]
+    fn again(&mut self, number: usize, single: u64) -> bool {
         let action = self.task.action(number);
-        for &fact in action.preconditions {
-            let v = fact.variable();
-            let newest = self.now[v] as usize == fact.value();
-            if !newest && (contains(single, v) || !(again || self.held.holds(fact))) {
-                return false;
-            }
+        if !self.meets(single, action.preconditions) {
+            return false;
         }
-        action.effects.iter().for_each(|fact| self.now[fact.variable()] = fact.value() as u8);
-        if !again {
-            self.applied.insert(number);
-            action.effects.iter().for_each(|&fact| self.held.add(fact));
-        } else if action.preconditions.len() + action.effects.len() >= MANY_FACTS {
-            self.imaged.insert(number);
-            self.images[number % ACTIONS] = Image::of(action);
+        action.effects.iter().for_each(|&fact| self.now.set(fact));
+        if action.preconditions.len() + action.effects.len() >= MANY_FACTS {
+            self.kind[number % ACTIONS] = IMAGED;
+            self.images[number % ACTIONS] = Image::of(action, single);
         }
+        true
+    }
+
+    fn first(&mut self, number: usize, single: u64) -> bool {
+        let action = self.task.action(number);
+        if !self.held.holds_all(action.preconditions) || !self.meets(single, action.preconditions) {
+            return false;
+        }
+        for &fact in action.effects {
+            self.now.set(fact);
+            self.held.add(fact);
+        }
+        self.kind[number % ACTIONS] = AGAIN;
         true
     }
 
     fn meets_goals(&self, single: u64) -> bool {
         self.task.goals().all(|goal| {
             let v = goal.variable();
-            self.now[v] as usize == goal.value() || !contains(single, v) && self.held.holds(goal)
+            self.now.of(v) == goal.value() || !contains(single, v) && self.held.holds(goal)
         })
     }
-}
-
-fn initial(task: &Task) -> [u8; 64] {
-    let mut values = [0; 64];
-    task.variables.iter().zip(&mut values).for_each(|(v, value)| *value = v.initial);
-    values
 }
 
 /// The real run of a red-black plan. Black variables hold one value in either, so that their part
 /// of it is known: red facts alone are looked at.
 pub fn real_run(task: &Task, plan: &[u16], black: u64) -> Run {
-    let mut now = initial(task);
+    let mut now = Values::initial(task);
     let (mut met, mut plain) = (Numbers::default(), Numbers::default());
     for (step, &number) in plan.iter().enumerate() {
         let number = number as usize;
@@ -140,13 +148,13 @@ pub fn real_run(task: &Task, plan: &[u16], black: u64) -> Run {
                 continue;
             }
         }
-        let unmet = |v: usize, value: usize| !contains(black, v) && now[v] as usize != value;
+        let unmet = |v: usize, value: usize| !contains(black, v) && now.of(v) != value;
         if action.preconditions.iter().any(|fact| unmet(fact.variable(), fact.value())) {
             return Run { steps: step as u32, plan: false };
         }
-        action.effects.iter().for_each(|fact| now[fact.variable()] = fact.value() as u8);
+        action.effects.iter().for_each(|&fact| now.set(fact));
     }
-    let met = |v: usize, value: usize| contains(black, v) || now[v] as usize == value;
+    let met = |v: usize, value: usize| contains(black, v) || now.of(v) == value;
     let plan_holds = task.goals().all(|goal| met(goal.variable(), goal.value()));
     Run { steps: plan.len() as u32, plan: plan_holds }
 }

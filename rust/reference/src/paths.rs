@@ -28,10 +28,11 @@ pub struct Paths {
     usable: Chains,
     rows: Vec<Row>,
     used: usize,
-    /// The row to each fact, for those in `placed`; it is valid for those in `known`.
+    /// The row to each fact, for those in `known`.
     place: Table<u16, FACTS>,
-    placed: [u64; 64],
     known: [u64; 64],
+    /// The values of each black variable.
+    values: [u64; 64],
 }
 
 impl Paths {
@@ -41,20 +42,23 @@ impl Paths {
             rows: Vec::new(),
             used: 0,
             place: table(0),
-            placed: [0; 64],
             known: [0; 64],
+            values: [0; 64],
         }
     }
 
     pub fn clear(&mut self, task: &Task, black: u64) {
-        members(black).for_each(|v| self.usable.clear(v, task.variables[v].values as usize));
+        for v in members(black) {
+            let values = task.variables[v].values;
+            self.usable.clear(v, values as usize);
+            self.values[v] = !0 >> (64 - values);
+            self.known[v] = 0;
+        }
         self.used = 0;
-        self.placed = [0; 64];
-        self.known = [0; 64];
     }
 
-    /// Adds a move that became usable; rows that it shortens are forgotten.
-    pub fn add(&mut self, moved: Move, number: usize) {
+    /// Adds a move that became usable, and mends the rows that it shortens.
+    pub fn add(&mut self, moves: &Moves, moved: Move, number: usize) {
         if moved.from == moved.to {
             return;
         }
@@ -62,9 +66,8 @@ impl Paths {
         let v = moved.variable as usize % 64;
         for to in members(self.known[v]) {
             let row = &mut self.rows[self.place[Fact::new(v, to).index()] as usize];
-            if moved.from == ANYWHERE || !keeps(row, moved, number) {
-                self.known[v] &= !(1 << to);
-            }
+            let nearer = shorten(row, moved, number, self.values[v]);
+            spread(row, nearer, &self.usable, moves, v, self.values[v]);
         }
     }
 
@@ -87,60 +90,47 @@ impl Paths {
 
     fn find(&mut self, moves: &Moves, to: Fact) {
         let (v, bit) = (to.variable(), 1 << to.value());
-        if self.placed[v] & bit == 0 {
-            self.placed[v] |= bit;
-            self.place[to.index()] = self.used as u16;
-            self.used += 1;
-            if self.rows.len() < self.used {
-                self.rows.push(NO_ROW);
-            }
-        }
         self.known[v] |= bit;
-        let row = &mut self.rows[self.place[to.index()] as usize];
-        fill(row, &self.usable, moves, to);
+        self.place[to.index()] = self.used as u16;
+        if self.rows.len() == self.used {
+            self.rows.push(NO_ROW);
+        }
+        let row = &mut self.rows[self.used];
+        self.used += 1;
+        *row = NO_ROW;
+        row[to.value()] = 0;
+        spread(row, bit, &self.usable, moves, v, self.values[v]);
     }
 }
 
-/// Whether a row stays right with one more arc; equal distances take the lower action.
-fn keeps(row: &mut Row, moved: Move, number: usize) -> bool {
-    let (from, to) = (moved.from as usize, moved.to as usize);
+/// Takes a move into a row where it is better than what is there; answers the values that are
+/// nearer by it.
+#[inline(always)]
+fn shorten(row: &mut Row, moved: Move, number: usize, values: u64) -> u64 {
+    let to = moved.to as usize % 64;
     if row[to] == UNREACHED {
-        return true;
+        return 0;
     }
     let through = entry(distance(row[to]) + 1, number, to);
-    if distance(row[from]) == distance(through) {
+    let mut nearer = 0;
+    for from in members(if moved.from == ANYWHERE { values } else { 1 << moved.from }) {
+        nearer |= u64::from(distance(through) < distance(row[from])) << from;
         row[from] = row[from].min(through);
     }
-    distance(row[from]) <= distance(through)
+    nearer
 }
 
-/// Breadth first backwards from the target, one layer of equal distance after another.
-fn fill(row: &mut Row, usable: &Chains, moves: &Moves, to: Fact) {
-    *row = NO_ROW;
-    row[to.value()] = 0;
-    let mut layer = 1u64 << to.value();
-    let mut unseen = !layer;
-    let mut steps = 0;
+/// Breadth first backwards from values of equal distance, one layer after another.
+fn spread(row: &mut Row, mut layer: u64, usable: &Chains, moves: &Moves, v: usize, values: u64) {
     while layer != 0 {
-        steps += 1;
-        let (mut next, mut anywhere) = (0, UNREACHED);
+        let mut next = 0;
         for value in members(layer) {
-            for number in usable.of(Fact::new(to.variable(), value)) {
-                let from = moves[number % ACTIONS].map_or(ANYWHERE, |moved| moved.from);
-                let through = entry(steps, number, value);
-                if from == ANYWHERE {
-                    anywhere = anywhere.min(through);
-                } else if unseen >> from & 1 == 1 {
-                    row[from as usize % 64] = row[from as usize % 64].min(through);
-                    next |= 1 << from;
+            for number in usable.of(Fact::new(v, value)) {
+                if let Some(moved) = moves[number % ACTIONS] {
+                    next |= shorten(row, moved, number, values);
                 }
             }
         }
-        if anywhere != UNREACHED {
-            members(unseen).for_each(|from| row[from] = row[from].min(anywhere));
-            next = unseen;
-        }
-        unseen &= !next;
         layer = next;
     }
 }
@@ -166,7 +156,8 @@ mod tests {
         fn add(&mut self, number: usize, from: u8, to: u8) {
             let moved = Move { variable: 0, from, to };
             self.moves[number] = Some(moved);
-            self.paths.add(moved, number);
+            let moves: &Moves = self.moves[..].try_into().unwrap();
+            self.paths.add(moves, moved, number);
         }
 
         fn path(&mut self, from: usize, to: usize) -> Vec<u16> {

@@ -2,7 +2,7 @@
 
 use crate::bits::{BitWriter, Bits};
 use crate::refusal::Refusal;
-use crate::task::{Action, Fact, Task, Variable, FACTS};
+use crate::task::{Action, Fact, Loader, Task, Variable, FACTS};
 
 pub const MAX_VARIABLES: usize = 64;
 pub const MAX_ACTIONS: usize = 1024;
@@ -23,10 +23,13 @@ pub fn read(bytes: &[u8]) -> Result<Task, Refusal> {
     Ok(task)
 }
 
-/// Reads a record into a task that may hold another one.
+/// Reads a record into a task that may hold another one, in one pass with the check. After a
+/// refusal the task means nothing.
 pub fn load(bytes: &[u8], task: &mut Task) -> Result<(), Refusal> {
-    task.clear();
-    scan(bytes, task)
+    let mut loader = Loader::new(task);
+    scan(bytes, &mut loader)?;
+    loader.finish();
+    Ok(())
 }
 
 /// Packs a task; what does not fit its field is cut, so that faulty records can be written too.
@@ -64,37 +67,43 @@ fn write_action(out: &mut BitWriter, action: Action) {
 
 /// Takes the fields of a record as they are read.
 trait Sink {
-    fn header(&mut self, variables: usize, actions: usize, most_facts: usize);
+    fn reserve(&mut self, actions: usize, most_facts: usize);
     fn variable(&mut self, variable: Variable);
     fn action(&mut self, cost: u16, preconditions: usize, effects: usize);
-    fn facts(&mut self, facts: &[Fact]);
+    fn fact(&mut self, fact: Fact);
+    fn facts(&mut self, four: [Fact; 4]);
 }
 
 impl Sink for () {
-    fn header(&mut self, _: usize, _: usize, _: usize) {}
+    fn reserve(&mut self, _: usize, _: usize) {}
     fn variable(&mut self, _: Variable) {}
     fn action(&mut self, _: u16, _: usize, _: usize) {}
-    fn facts(&mut self, _: &[Fact]) {}
+    fn fact(&mut self, _: Fact) {}
+    fn facts(&mut self, _: [Fact; 4]) {}
 }
 
-impl Sink for Task {
-    fn header(&mut self, variables: usize, actions: usize, most_facts: usize) {
-        self.variables.reserve(variables);
-        self.reserve_actions(actions, most_facts);
+impl Sink for Loader<'_> {
+    fn reserve(&mut self, actions: usize, most_facts: usize) {
+        Loader::reserve(self, actions, most_facts);
     }
 
     fn variable(&mut self, variable: Variable) {
-        self.variables.push(variable);
+        Loader::variable(self, variable);
     }
 
     #[inline(always)]
     fn action(&mut self, cost: u16, preconditions: usize, effects: usize) {
-        self.open_action(cost, preconditions, effects);
+        Loader::action(self, cost, preconditions, effects);
     }
 
     #[inline(always)]
-    fn facts(&mut self, facts: &[Fact]) {
-        self.push_facts(facts);
+    fn fact(&mut self, fact: Fact) {
+        Loader::fact(self, fact);
+    }
+
+    #[inline(always)]
+    fn facts(&mut self, four: [Fact; 4]) {
+        Loader::facts(self, four);
     }
 }
 
@@ -149,7 +158,7 @@ impl<'a, S: Sink> Scanner<'a, S> {
         refuse_unless(actions <= MAX_ACTIONS, 3, 11)?;
         debug_assert_eq!(self.at, HEADER_BITS);
         let most_facts = (self.end / FACT_BITS).min(30 * actions);
-        self.sink.header(variables, actions, most_facts);
+        self.sink.reserve(actions, most_facts);
         Ok((variables, actions))
     }
 
@@ -205,13 +214,17 @@ impl<'a, S: Sink> Scanner<'a, S> {
             lowest = next;
             at += 4 * FACT_BITS;
         }
-        while at < last {
-            let fact = Fact::from_index(self.bits.field(at, FACT_BITS));
+        let window = self.bits.window(at);
+        for shift in [52, 40, 28, 16] {
+            if at == last {
+                break;
+            }
+            let fact = Fact::from_index((window >> shift) as usize % FACTS);
             if at + FACT_BITS > self.end || !self.sound(fact, lowest) {
                 self.at = at;
                 return Err(self.faulty_fact(lowest, variables));
             }
-            self.sink.facts(&[fact]);
+            self.sink.fact(fact);
             lowest = fact.variable() + 1;
             at += FACT_BITS;
         }
@@ -231,7 +244,7 @@ impl<'a, S: Sink> Scanner<'a, S> {
         if !sound {
             return None;
         }
-        self.sink.facts(&facts);
+        self.sink.facts(facts);
         Some(facts[3].variable() + 1)
     }
 

@@ -122,7 +122,7 @@ impl<'a> Course<'a> {
         for (number, moved) in painting.moves[..task.action_count()].iter().enumerate() {
             if let Some(moved) = *moved {
                 if room.waiting.start(task, &held, number) {
-                    room.paths.add(moved, number);
+                    room.paths.add(&painting.moves, moved, number);
                 }
             }
         }
@@ -207,7 +207,8 @@ impl<'a> Course<'a> {
             if !self.held.holds(fact) {
                 self.held.add(fact);
                 waiting.wake(task, &self.held, fact, |number| {
-                    moves[number % ACTIONS].into_iter().for_each(|moved| paths.add(moved, number));
+                    let moved = moves[number % ACTIONS];
+                    moved.into_iter().for_each(|moved| paths.add(moves, moved, number));
                 });
             }
         }
