@@ -100,12 +100,13 @@ pub fn lamp_wheel(random: &mut Random) -> Task {
     task
 }
 
-/// One black variable whose moves all start anywhere, each value set by as many. The last move to
-/// a value needs nothing, so that it is everyone's return; the others need a fact of their own.
+/// One black variable whose moves all start anywhere, each value set by as many. All need one fact;
+/// the last move to a value needs no more, so that it is everyone's return. The others need a fact
+/// of their own.
 pub fn anywhere(random: &mut Random, actions: usize) -> Task {
     from_anywhere(random, actions, |k| {
-        let own = (k + VALUES < actions).then(|| Fact::new(1 + k % 63, k / 63 % 63 + 1));
-        own.into_iter().collect()
+        let own = (k + VALUES < actions).then(|| Fact::new(2 + k % 62, k / 62 + 1));
+        [Fact::new(1, 0)].into_iter().chain(own).collect()
     })
 }
 

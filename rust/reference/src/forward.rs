@@ -21,7 +21,8 @@ struct Course<'a> {
     held: State,
     /// Applicable actions not looked at yet. One that adds nothing now never will.
     ready: Ready,
-    goals: State,
+    /// The goal of each variable; 64 for none.
+    goals: [u8; 64],
     goals_left: u32,
 }
 
@@ -48,8 +49,8 @@ impl Forward {
         self.waiting.clear(task);
         self.reached = task.variables.len() as u32;
         let held = State::initial(task);
-        let mut goals = State::empty();
-        task.goals().for_each(|goal| goals.add(goal));
+        let mut goals = [64; 64];
+        task.goals().for_each(|goal| goals[goal.variable()] = goal.value() as u8);
         let goals_left = task.goals().filter(|&goal| !held.holds(goal)).count() as u32;
         let mut ready = Ready::default();
         if goals_left > 0 {
@@ -81,7 +82,7 @@ impl Forward {
         self.reached += count as u32;
         let Course { task, held, ready, goals, goals_left } = course;
         for &fact in &reached[..count] {
-            *goals_left -= u32::from(goals.holds(fact));
+            *goals_left -= u32::from(goals[fact.variable()] as usize == fact.value());
             self.waiting.wake(task, held, fact, |number| ready.insert(number));
         }
     }

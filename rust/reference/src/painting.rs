@@ -117,6 +117,11 @@ impl Move {
         Fact::new(self.variable as usize, self.to as usize)
     }
 
+    #[inline(always)]
+    pub fn leaves(self, value: u8) -> bool {
+        self.from == value || self.from == ANYWHERE
+    }
+
     /// The values it leaves for another one, of so many, as a set.
     #[inline(always)]
     pub fn sources(self, values: u8) -> u64 {

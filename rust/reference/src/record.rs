@@ -164,23 +164,40 @@ impl<'a, S: Sink> Scanner<'a, S> {
 
     fn variable(&mut self, number: usize) -> Result<(), Refusal> {
         let first = self.at;
-        let values = self.field(6)? + 1;
-        let black = self.field(1)? == 1;
-        let initial = self.field(6)?;
+        if first + VARIABLE_BITS > self.end {
+            return Err(self.cut_variable());
+        }
+        let field = self.bits.field(first, VARIABLE_BITS);
+        let (values, black, initial) = ((field >> 14) + 1, field >> 13 & 1, field >> 7 & 63);
+        let (present, goal) = (field >> 6 & 1 == 1, field & 63);
         refuse_unless(initial < values, 4, first + 7)?;
-        let present = self.field(1)? == 1;
-        let goal = self.field(6)?;
         let limit = if present { values } else { 1 };
         refuse_unless(goal < limit, 4, first + 14)?;
-        debug_assert_eq!(self.at, first + VARIABLE_BITS);
+        self.at += VARIABLE_BITS;
         self.values[number] = values as u8;
         self.sink.variable(Variable {
             values: values as u8,
-            black,
+            black: black == 1,
             initial: initial as u8,
             goal: present.then_some(goal as u8),
         });
         Ok(())
+    }
+
+    /// The refusal for a variable that is cut short, unless its initial value is wrong.
+    #[cold]
+    fn cut_variable(&mut self) -> Refusal {
+        let first = self.at;
+        let mut fields = || {
+            let values = self.field(6)? + 1;
+            self.field(1)?;
+            let initial = self.field(6)?;
+            refuse_unless(initial < values, 4, first + 7)?;
+            self.field(1)?;
+            self.field(6)
+        };
+        let answer: Result<usize, Refusal> = fields();
+        answer.unwrap_err()
     }
 
     #[inline(always)]

@@ -37,21 +37,20 @@ impl Repair {
         relaxed: &[u16],
         plan: &mut [u16],
     ) -> Result<usize, Refusal> {
+        let capacity = plan.len();
+        let full = |_: Full| Refusal::new(11, capacity);
         if painting.black == 0 {
-            return copy(relaxed, plan);
+            return copy(relaxed, plan).map_err(full);
         }
         let mut course = Course::start(self, task, painting, plan);
-        for &number in relaxed {
-            course.take(number)?;
-        }
-        course.finish()
+        relaxed.iter().try_for_each(|&number| course.take(number)).map_err(full)?;
+        course.finish().map_err(full)?;
+        Ok(course.steps)
     }
 }
 
-fn copy(relaxed: &[u16], plan: &mut [u16]) -> Result<usize, Refusal> {
-    let capacity = plan.len();
-    let room = plan.get_mut(..relaxed.len()).ok_or(Refusal::new(11, capacity))?;
-    room.copy_from_slice(relaxed);
+fn copy(relaxed: &[u16], plan: &mut [u16]) -> Result<usize, Full> {
+    plan.get_mut(..relaxed.len()).ok_or(Full)?.copy_from_slice(relaxed);
     Ok(relaxed.len())
 }
 
@@ -105,7 +104,12 @@ struct Course<'a> {
     held: State,
     /// Actions of the plan so far. One that was applied before adds nothing to what is held.
     applied: Numbers,
+    /// Whether something was inserted, so that usable moves are known.
+    prepared: bool,
 }
+
+/// There is no room for a step.
+struct Full;
 
 impl<'a> Course<'a> {
     fn start(
@@ -114,29 +118,43 @@ impl<'a> Course<'a> {
         painting: &'a Painting,
         plan: &'a mut [u16],
     ) -> Self {
-        room.waiting.clear(task);
-        room.paths.clear(task, painting.black);
-        room.supports.fill(task, painting);
         room.fresh.clear();
-        let held = State::initial(task);
+        room.supports.fill(task, painting);
+        let mut current = [0; 64];
+        task.variables.iter().zip(&mut current).for_each(|(v, now)| *now = v.initial);
+        let (held, applied) = (State::initial(task), Numbers::default());
+        Course { task, painting, room, plan, steps: 0, current, held, applied, prepared: false }
+    }
+
+    #[cold]
+    fn prepare(&mut self) {
+        let (task, painting) = (self.task, self.painting);
+        self.prepared = true;
+        self.room.waiting.clear(task);
+        self.room.paths.clear(task, painting.black);
         for (number, moved) in painting.moves[..task.action_count()].iter().enumerate() {
             if let Some(moved) = *moved {
-                if room.waiting.start(task, &held, number) {
-                    room.paths.add(&painting.moves, moved, number);
+                if self.room.waiting.start(task, &self.held, number) {
+                    self.room.paths.add(&painting.moves, moved, number);
                 }
             }
         }
-        let mut current = [0; 64];
-        task.variables.iter().zip(&mut current).for_each(|(v, now)| *now = v.initial);
-        Course { task, painting, room, plan, steps: 0, current, held, applied: Numbers::default() }
+    }
+
+    #[inline(always)]
+    fn is_at(&self, fact: Fact) -> bool {
+        self.current[fact.variable()] as usize == fact.value()
     }
 
     /// Inserts the moves before an action of the relaxed plan, and applies both.
     #[inline(always)]
-    fn take(&mut self, number: u16) -> Result<(), Refusal> {
+    fn take(&mut self, number: u16) -> Result<(), Full> {
         let moved = self.painting.moves[number as usize % ACTIONS];
-        if let Some(Move { variable, from, .. }) = moved.filter(|moved| moved.from != ANYWHERE) {
-            self.reach(Fact::new(variable as usize, from as usize))?;
+        if let Some(Move { variable, from, .. }) = moved {
+            let source = Fact::new(variable as usize, from as usize);
+            if from != ANYWHERE && !self.is_at(source) {
+                self.reach(source)?;
+            }
         }
         self.support(number)?;
         self.push(number)?;
@@ -149,26 +167,28 @@ impl<'a> Course<'a> {
         Ok(())
     }
 
-    /// Moves to the black goals; answers the steps.
-    fn finish(mut self) -> Result<usize, Refusal> {
+    /// Moves to the black goals.
+    fn finish(&mut self) -> Result<(), Full> {
         for &v in &self.painting.order {
-            if let Some(goal) = self.task.variables[v].goal {
-                self.reach(Fact::new(v, goal as usize))?;
+            let Some(goal) = self.task.variables[v].goal else { continue };
+            let goal = Fact::new(v, goal as usize);
+            if !self.is_at(goal) {
+                self.reach(goal)?;
             }
         }
-        Ok(self.steps)
+        Ok(())
     }
 
     /// Appends the path of a black variable to a value, before each move the paths of what it needs.
     /// Variables come clients first and no path needs what a client moves, so the list is the one
     /// that going through it variable by variable gives.
-    fn reach(&mut self, to: Fact) -> Result<(), Refusal> {
-        let v = to.variable();
-        if self.current[v] as usize == to.value() {
-            return Ok(());
+    fn reach(&mut self, to: Fact) -> Result<(), Full> {
+        if !self.prepared {
+            self.prepare();
         }
+        let v = to.variable();
         let row = self.room.paths.row(&self.painting.moves, to);
-        while self.current[v] as usize != to.value() {
+        while !self.is_at(to) {
             let (number, value) = self.room.paths.next(row, self.current[v] as usize);
             self.support(number)?;
             self.push(number)?;
@@ -178,10 +198,10 @@ impl<'a> Course<'a> {
     }
 
     #[inline(always)]
-    fn support(&mut self, number: u16) -> Result<(), Refusal> {
+    fn support(&mut self, number: u16) -> Result<(), Full> {
         for place in self.room.supports.places(number) {
             let fact = self.room.supports.facts[place];
-            if self.current[fact.variable()] as usize != fact.value() {
+            if !self.is_at(fact) {
                 self.reach(fact)?;
             }
         }
@@ -189,10 +209,8 @@ impl<'a> Course<'a> {
     }
 
     #[inline(always)]
-    fn push(&mut self, number: u16) -> Result<(), Refusal> {
-        let capacity = self.plan.len();
-        let place = self.plan.get_mut(self.steps).ok_or(Refusal::new(11, capacity))?;
-        *place = number;
+    fn push(&mut self, number: u16) -> Result<(), Full> {
+        *self.plan.get_mut(self.steps).ok_or(Full)? = number;
         self.steps += 1;
         if self.applied.insert(number as usize) {
             self.room.fresh.push(number);
@@ -204,8 +222,9 @@ impl<'a> Course<'a> {
         let (task, moves) = (self.task, &self.painting.moves);
         let Repair { waiting, paths, .. } = &mut *self.room;
         for &fact in task.effects(number) {
-            if !self.held.holds(fact) {
-                self.held.add(fact);
+            let new = !self.held.holds(fact);
+            self.held.add(fact);
+            if new && self.prepared {
                 waiting.wake(task, &self.held, fact, |number| {
                     let moved = moves[number % ACTIONS];
                     moved.into_iter().for_each(|moved| paths.add(moves, moved, number));

@@ -35,7 +35,9 @@ impl Returns {
     pub fn check(&mut self, task: &Task, black: u64, moves: &Moves) -> Result<(), Refusal> {
         self.group(task, black, moves);
         let all = task.action_count();
-        let lowest = members(black).fold(all, |lowest, v| self.lowest(task, moves, v, lowest));
+        let mut union = State::empty();
+        let lowest =
+            members(black).fold(all, |lowest, v| self.lowest(task, moves, v, lowest, &mut union));
         if lowest < all {
             return Err(Refusal::new(8, lowest));
         }
@@ -58,10 +60,18 @@ impl Returns {
         }
     }
 
-    /// The lower of `lowest` and the first move of the variable that lacks a return.
-    fn lowest(&mut self, task: &Task, moves: &Moves, v: usize, lowest: usize) -> usize {
-        let mut search = Search::new(task, &self.setting, &mut self.served, &mut self.rows);
-        let mut union = State::empty();
+    /// The lower of `lowest` and the first move of the variable that lacks a return. The union is
+    /// empty before and after.
+    fn lowest(
+        &mut self,
+        task: &Task,
+        moves: &Moves,
+        v: usize,
+        lowest: usize,
+        union: &mut State,
+    ) -> usize {
+        let Returns { setting, served, rows, .. } = self;
+        let mut search = Search::new(task, moves, setting, served, rows);
         for number in self.own.of(Fact::new(v, 0)).take_while(|&number| number < lowest) {
             let Some(moved) = moves[number % ACTIONS] else { continue };
             let action = task.action(number);
@@ -69,10 +79,11 @@ impl Returns {
             facts().for_each(|&fact| union.add(fact));
             union.clear(moved.target());
             union.add(moved.target());
-            if !search.returns(moved, &union) {
+            let returns = search.returns(moved, union);
+            facts().for_each(|&fact| union.clear(fact));
+            if !returns {
                 return number;
             }
-            facts().for_each(|&fact| union.clear(fact));
         }
         lowest
     }
@@ -82,25 +93,30 @@ impl Returns {
 /// once that has cost more than the rows would have.
 struct Search<'a> {
     task: &'a Task,
+    moves: &'a Moves,
     setting: &'a Chains,
     served: &'a mut [u16; FACTS],
     rows: &'a mut Rows,
     in_rows: bool,
-    moves: usize,
-    /// Preconditions looked at so far, and how many call for a thought about rows.
+    /// Moves and preconditions looked at since rows were last thought of, and how many of the
+    /// latter call for the next thought.
+    looked: usize,
     spent: usize,
     limit: usize,
+    /// What rows would take for a move, once known.
+    price: Option<usize>,
 }
 
 impl<'a> Search<'a> {
     fn new(
         task: &'a Task,
+        moves: &'a Moves,
         setting: &'a Chains,
         served: &'a mut [u16; FACTS],
         rows: &'a mut Rows,
     ) -> Self {
-        let limit = Rows::LEAST;
-        Search { task, setting, served, rows, in_rows: false, moves: 0, spent: 0, limit }
+        let (in_rows, price, limit) = (false, None, Rows::LEAST);
+        Search { task, moves, setting, served, rows, in_rows, looked: 0, spent: 0, limit, price }
     }
 
     /// Whether each arc of a move has its return; `union` holds the value that the move sets, and
@@ -109,32 +125,39 @@ impl<'a> Search<'a> {
     fn returns(&mut self, moved: Move, union: &State) -> bool {
         let v = moved.variable as usize;
         let sources = moved.sources(self.task.variables[v].values);
-        if self.spent > self.limit && !self.in_rows {
+        if self.spent > self.limit && self.looked >= Rows::LEAST_MOVES && !self.in_rows {
             self.weigh(v);
         }
         if self.in_rows {
             return sources & !self.rows.returned(union) == 0;
         }
-        self.moves += 1;
-        members(sources).all(|value| self.one_by_one(Fact::new(v, value), union))
+        self.looked += 1;
+        members(sources).all(|value| self.one_by_one(Fact::new(v, value), moved.to, union))
     }
 
     /// Changes to rows if they are cheaper, else gives the search one by one more time.
     #[cold]
     fn weigh(&mut self, v: usize) {
-        self.rows.build(self.task, self.setting, v);
-        self.in_rows = self.rows.price() * self.moves < self.spent;
-        self.limit = 4 * self.spent;
+        let Search { task, setting, rows, .. } = self;
+        let price = *self.price.get_or_insert_with(|| rows.survey(task, setting, v));
+        self.in_rows = price * self.looked < self.spent;
+        if self.in_rows {
+            rows.build(task, setting, v);
+        }
+        self.limit = 2 * self.spent;
+        (self.looked, self.spent) = (0, 0);
     }
 
     #[inline(always)]
-    fn one_by_one(&mut self, fact: Fact, union: &State) -> bool {
+    fn one_by_one(&mut self, fact: Fact, from: u8, union: &State) -> bool {
         let served = self.served[fact.index()];
         if served != NONE && self.serves(served as usize, union) {
             return true;
         }
-        let setting = self.setting;
-        let found = setting.of(fact).find(|&number| self.serves(number, union));
+        let (setting, moves) = (self.setting, self.moves);
+        let leaves = |n: usize| moves[n % ACTIONS].is_some_and(|moved| moved.leaves(from));
+        let mut candidates = setting.of(fact).filter(|&number| leaves(number));
+        let found = candidates.find(|&number| self.serves(number, union));
         self.served[fact.index()] = found.map_or(NONE, |number| number as u16);
         found.is_some()
     }
