@@ -1,4 +1,4 @@
-//! Every class: its name, and what it is at full, half and quarter size.
+//! Every class: its name, and what it is at each size.
 
 use crate::calls::{check, forward, judge, plan, read_sheet, relax, repair, write_sheet};
 use bench::table::Class;
@@ -6,8 +6,12 @@ use generate::{extremes, records, ring, stores, Random};
 use reference::entry::MAX_STEPS;
 use reference::{examples, Task};
 
-/// `n` is 4 at full size, 2 at half and 1 at a quarter. Each class draws from a seed of its own.
+/// `n` is 4 at full size, 2 at half and 1 at a quarter.
 pub fn all() -> Vec<Class> {
+    [runs(), paintings(), plans(), sheets()].into_iter().flatten().collect()
+}
+
+fn runs() -> Vec<Class> {
     vec![
         // The longest record: 256n actions with 15 preconditions and 15 effects.
         Class::new("record check, longest", |r, n| {
@@ -23,6 +27,11 @@ pub fn all() -> Vec<Class> {
         Class::new("judging, 15+15 facts", |r, n| judge(&extremes::wheel(r), 8_192 * n)),
         Class::new("judging, 1+1 facts", |r, n| judge(&extremes::turning(r, 64, 1), 8_192 * n)),
         Class::new("judging, stops at 1", |r, n| judge(&extremes::lamp_wheel(r), 8_192 * n)),
+    ]
+}
+
+fn paintings() -> Vec<Class> {
+    vec![
         // 256n moves of 16 black variables, each with one return among those of its variable.
         Class::new("painting, 16 black", |r, n| plan(&[extremes::returns(r, 256 * n)], 16)),
         // 256n moves of one black variable from anywhere: one return for all, then each its own, which
@@ -31,6 +40,11 @@ pub fn all() -> Vec<Class> {
         Class::new("painting, returns apart", |r, n| {
             plan(&[extremes::anywhere_apart(r, 256 * n)], 16)
         }),
+    ]
+}
+
+fn plans() -> Vec<Class> {
+    vec![
         // Five movers that serve one another and 8n + 1 boxes: about 4,000n steps.
         Class::new("repair, 16,000 steps", |r, n| plan(&[tower(r, n)], MAX_STEPS)),
         // A carriage on a ring of 64 rooms, gates, an arm, 15n boxes with 14 errands each.
@@ -52,6 +66,11 @@ pub fn all() -> Vec<Class> {
         }),
         // The first store example 25n times.
         Class::new("two shelves, 100 times", |_, n| plan(&many(25 * n, examples::two_shelves), 16)),
+    ]
+}
+
+fn sheets() -> Vec<Class> {
+    vec![
         // 8,192n drawn steps.
         Class::new("sheet written, 32,768 steps", |r, n| write_sheet(r, 8_192 * n)),
         Class::new("sheet read, 32,768 steps", |r, n| read_sheet(r, 8_192 * n)),

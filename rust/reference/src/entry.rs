@@ -173,8 +173,7 @@ fn fit(list: &[u16], plan: &mut [u16]) -> Result<u32, Refusal> {
 }
 
 fn verdict(task: &Task, black: u64, plan: &[u16]) -> PlanResult {
-    let real = real_run(task, plan, black);
-    let cost = plan.iter().map(|&number| task.cost(number as usize)).sum();
+    let (real, cost) = real_run(task, plan, black);
     PlanResult { steps: plan.len() as u32, cost, runs: real.steps, real: real.plan }
 }
 

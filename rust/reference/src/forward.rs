@@ -13,12 +13,13 @@ pub struct Forward {
     /// For each action of the run the effects that it reached first, by their places.
     first: Vec<u16>,
     waiting: Waiting,
+    held: State,
+    needed: State,
 }
 
 /// What a forward run knows while it goes on.
 struct Course<'a> {
     task: &'a Task,
-    held: State,
     /// Applicable actions not looked at yet. One that adds nothing now never will.
     ready: Ready,
     /// The goal of each variable; 64 for none.
@@ -28,7 +29,14 @@ struct Course<'a> {
 
 impl Forward {
     pub fn new() -> Self {
-        Forward { actions: Vec::new(), reached: 0, first: Vec::new(), waiting: Waiting::new() }
+        Forward {
+            actions: Vec::new(),
+            reached: 0,
+            first: Vec::new(),
+            waiting: Waiting::new(),
+            held: State::empty(),
+            needed: State::empty(),
+        }
     }
 
     /// Runs until every goal is reached, or 10 with the facts reached.
@@ -48,19 +56,19 @@ impl Forward {
         self.first.clear();
         self.waiting.clear(task);
         self.reached = task.variables.len() as u32;
-        let held = State::initial(task);
+        self.held.start(task);
         let mut goals = [64; 64];
         task.goals().for_each(|goal| goals[goal.variable()] = goal.value() as u8);
-        let goals_left = task.goals().filter(|&goal| !held.holds(goal)).count() as u32;
+        let goals_left = task.goals().filter(|&goal| !self.held.holds(goal)).count() as u32;
         let mut ready = Ready::default();
         if goals_left > 0 {
             for number in 0..task.action_count() {
-                if self.waiting.start(task, &held, number) {
+                if self.waiting.start(task, &self.held, number) {
                     ready.insert(number);
                 }
             }
         }
-        Course { task, held, ready, goals, goals_left }
+        Course { task, ready, goals, goals_left }
     }
 
     #[inline(always)]
@@ -68,8 +76,8 @@ impl Forward {
         let mut reached = [Fact::default(); 16];
         let (mut count, mut first) = (0, 0);
         for (place, &fact) in course.task.effects(number).iter().enumerate() {
-            let new = !course.held.holds(fact);
-            course.held.add(fact);
+            let new = !self.held.holds(fact);
+            self.held.add(fact);
             reached[count % 16] = fact;
             count += usize::from(new);
             first |= u16::from(new) << place;
@@ -80,16 +88,17 @@ impl Forward {
         self.actions.push(number as u16);
         self.first.push(first);
         self.reached += count as u32;
-        let Course { task, held, ready, goals, goals_left } = course;
+        let Course { task, ready, goals, goals_left } = course;
         for &fact in &reached[..count] {
             *goals_left -= u32::from(goals[fact.variable()] as usize == fact.value());
-            self.waiting.wake(task, held, fact, |number| ready.insert(number));
+            self.waiting.wake(task, &self.held, fact, |number| ready.insert(number));
         }
     }
 
     /// Leaves the actions of the run that first reached a needed fact, in their order.
     pub fn keep_needed(&mut self, task: &Task) {
-        let mut needed = State::empty();
+        let needed = &mut self.needed;
+        needed.clear_all(task);
         task.goals().for_each(|goal| needed.add(goal));
         let mut free = self.actions.len();
         for at in (0..self.actions.len()).rev() {

@@ -130,31 +130,36 @@ impl<'a> Course<'a> {
     }
 }
 
-/// The real run of a red-black plan. Black variables hold one value in either, so that their part
-/// of it is known: red facts alone are looked at.
-pub fn real_run(task: &Task, plan: &[u16], black: u64) -> Run {
+/// The real run of a red-black plan, and its cost. Black variables hold one value in either, so that
+/// their part of it is known: red facts alone are looked at.
+pub fn real_run(task: &Task, plan: &[u16], black: u64) -> (Run, u32) {
     let mut now = Values::initial(task);
     let (mut met, mut plain) = (Numbers::default(), Numbers::default());
+    let (mut cost, mut stop) = (0, None);
     for (step, &number) in plan.iter().enumerate() {
         let number = number as usize;
-        if plain.contains(number) {
+        cost += task.cost(number);
+        if stop.is_some() || plain.contains(number) {
+            continue;
+        }
+        if met.insert(number) && names_only(task, number, black) {
+            plain.insert(number);
             continue;
         }
         let action = task.action(number);
-        if met.insert(number) {
-            let named = variables_of(action.preconditions) | variables_of(action.effects);
-            if named & !black == 0 {
-                plain.insert(number);
-                continue;
-            }
-        }
-        let unmet = |v: usize, value: usize| !contains(black, v) && now.of(v) != value;
-        if action.preconditions.iter().any(|fact| unmet(fact.variable(), fact.value())) {
-            return Run { steps: step as u32, plan: false };
+        let unmet = |fact: &Fact| now.of(fact.variable()) != fact.value();
+        if action.preconditions.iter().any(|f| unmet(f) && !contains(black, f.variable())) {
+            stop = Some(step as u32);
         }
         action.effects.iter().for_each(|&fact| now.set(fact));
     }
     let met = |v: usize, value: usize| contains(black, v) || now.of(v) == value;
-    let plan_holds = task.goals().all(|goal| met(goal.variable(), goal.value()));
-    Run { steps: plan.len() as u32, plan: plan_holds }
+    let goals = || task.goals().all(|goal| met(goal.variable(), goal.value()));
+    let steps = stop.unwrap_or(plan.len() as u32);
+    (Run { steps, plan: stop.is_none() && goals() }, cost)
+}
+
+fn names_only(task: &Task, number: usize, black: u64) -> bool {
+    let action = task.action(number);
+    (variables_of(action.preconditions) | variables_of(action.effects)) & !black == 0
 }

@@ -14,6 +14,8 @@ pub struct Repair {
     waiting: Waiting,
     paths: Paths,
     supports: Supports,
+    /// Red facts held now, and black facts held at any time so far.
+    held: State,
     /// Actions of the plan applied for the first time, whose effects are not held yet.
     fresh: Vec<u16>,
 }
@@ -24,6 +26,7 @@ impl Repair {
             waiting: Waiting::new(),
             paths: Paths::new(),
             supports: Supports::new(),
+            held: State::empty(),
             fresh: Vec::new(),
         }
     }
@@ -67,8 +70,8 @@ impl Supports {
     }
 
     fn fill(&mut self, task: &Task, painting: &Painting) {
-        let mut rank = [0; 64];
-        painting.order.iter().enumerate().for_each(|(i, &v)| rank[v] = i);
+        let mut rank = [0u8; 64];
+        painting.order.iter().enumerate().for_each(|(i, &v)| rank[v] = i as u8);
         self.facts.clear();
         for (number, action) in task.actions().enumerate() {
             let start = self.facts.len();
@@ -100,8 +103,6 @@ struct Course<'a> {
     steps: usize,
     /// The value of each black variable.
     current: [u8; 64],
-    /// Red facts held now, and black facts held at any time so far.
-    held: State,
     /// Actions of the plan so far. One that was applied before adds nothing to what is held.
     applied: Numbers,
     /// Whether something was inserted, so that usable moves are known.
@@ -119,23 +120,25 @@ impl<'a> Course<'a> {
         plan: &'a mut [u16],
     ) -> Self {
         room.fresh.clear();
+        room.held.start(task);
         room.supports.fill(task, painting);
         let mut current = [0; 64];
         task.variables.iter().zip(&mut current).for_each(|(v, now)| *now = v.initial);
-        let (held, applied) = (State::initial(task), Numbers::default());
-        Course { task, painting, room, plan, steps: 0, current, held, applied, prepared: false }
+        let applied = Numbers::default();
+        Course { task, painting, room, plan, steps: 0, current, applied, prepared: false }
     }
 
     #[cold]
     fn prepare(&mut self) {
         let (task, painting) = (self.task, self.painting);
         self.prepared = true;
-        self.room.waiting.clear(task);
-        self.room.paths.clear(task, painting.black);
+        let Repair { waiting, paths, held, .. } = &mut *self.room;
+        waiting.clear(task);
+        paths.clear(task, painting.black);
         for (number, moved) in painting.moves[..task.action_count()].iter().enumerate() {
             if let Some(moved) = *moved {
-                if self.room.waiting.start(task, &self.held, number) {
-                    self.room.paths.add(&painting.moves, moved, number);
+                if waiting.start(task, held, number) {
+                    paths.add(&painting.moves, moved, number);
                 }
             }
         }
@@ -220,12 +223,12 @@ impl<'a> Course<'a> {
 
     fn hold_effects(&mut self, number: usize) {
         let (task, moves) = (self.task, &self.painting.moves);
-        let Repair { waiting, paths, .. } = &mut *self.room;
+        let Repair { waiting, paths, held, .. } = &mut *self.room;
         for &fact in task.effects(number) {
-            let new = !self.held.holds(fact);
-            self.held.add(fact);
+            let new = !held.holds(fact);
+            held.add(fact);
             if new && self.prepared {
-                waiting.wake(task, &self.held, fact, |number| {
+                waiting.wake(task, held, fact, |number| {
                     let moved = moves[number % ACTIONS];
                     moved.into_iter().for_each(|moved| paths.add(moves, moved, number));
                 });

@@ -19,6 +19,8 @@ pub struct Returns {
     /// The move that served last as a return to each fact.
     served: Table<u16, FACTS>,
     rows: Rows,
+    /// What the move in hand sets of its variable, and its outside condition and effect.
+    union: State,
 }
 
 impl Returns {
@@ -28,6 +30,7 @@ impl Returns {
             own: Chains::new(),
             served: table(NONE),
             rows: Rows::new(),
+            union: State::empty(),
         }
     }
 
@@ -35,9 +38,7 @@ impl Returns {
     pub fn check(&mut self, task: &Task, black: u64, moves: &Moves) -> Result<(), Refusal> {
         self.group(task, black, moves);
         let all = task.action_count();
-        let mut union = State::empty();
-        let lowest =
-            members(black).fold(all, |lowest, v| self.lowest(task, moves, v, lowest, &mut union));
+        let lowest = members(black).fold(all, |lowest, v| self.lowest(task, moves, v, lowest));
         if lowest < all {
             return Err(Refusal::new(8, lowest));
         }
@@ -60,19 +61,11 @@ impl Returns {
         }
     }
 
-    /// The lower of `lowest` and the first move of the variable that lacks a return. The union is
-    /// empty before and after.
-    fn lowest(
-        &mut self,
-        task: &Task,
-        moves: &Moves,
-        v: usize,
-        lowest: usize,
-        union: &mut State,
-    ) -> usize {
-        let Returns { setting, served, rows, .. } = self;
+    /// The lower of `lowest` and the first move of the variable that lacks a return.
+    fn lowest(&mut self, task: &Task, moves: &Moves, v: usize, lowest: usize) -> usize {
+        let Returns { setting, own, served, rows, union } = self;
         let mut search = Search::new(task, moves, setting, served, rows);
-        for number in self.own.of(Fact::new(v, 0)).take_while(|&number| number < lowest) {
+        for number in own.of(Fact::new(v, 0)).take_while(|&number| number < lowest) {
             let Some(moved) = moves[number % ACTIONS] else { continue };
             let action = task.action(number);
             let facts = || action.preconditions.iter().chain(action.effects);

@@ -39,10 +39,21 @@ impl State {
 
     pub fn initial(task: &Task) -> Self {
         let mut state = State::empty();
-        for (v, variable) in task.variables.iter().enumerate() {
-            state.sets[v] = 1 << variable.initial;
-        }
+        state.start(task);
         state
+    }
+
+    /// Becomes the initial state in the task's variables.
+    #[inline(always)]
+    pub fn start(&mut self, task: &Task) {
+        let sets = task.variables.iter().zip(&mut self.sets);
+        sets.for_each(|(variable, set)| *set = 1 << variable.initial);
+    }
+
+    /// Holds nothing of the task's variables any more.
+    #[inline(always)]
+    pub fn clear_all(&mut self, task: &Task) {
+        self.sets[..task.variables.len().min(64)].fill(0);
     }
 
     #[inline(always)]
