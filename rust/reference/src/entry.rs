@@ -1,4 +1,5 @@
-//! The entry points over a record: checks in the paper's order, and what lent lists hold afterwards.
+//! The entry points over a record: checks in order, and what lent lists hold afterwards
+//! (SPECIFICATION, When it declines; Space and verdict).
 
 use crate::forward::Forward;
 use crate::index::Numbers;

@@ -1,4 +1,4 @@
-//! The forward run and the relaxed plan.
+//! The forward run and the relaxed plan (SPECIFICATION, States and runs).
 
 use crate::index::{Ready, Waiting};
 use crate::refusal::Refusal;

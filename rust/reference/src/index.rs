@@ -84,13 +84,14 @@ impl Waiting {
     #[inline(always)]
     fn advance(&mut self, task: &Task, held: &State, number: usize) -> bool {
         let preconditions = task.preconditions(number);
-        let place = &mut self.place[number % ACTIONS];
-        while let Some(&fact) = preconditions.get(*place as usize) {
+        let mut place = self.place[number % ACTIONS];
+        while let Some(&fact) = preconditions.get(place as usize) {
             if !held.holds(fact) {
+                self.place[number % ACTIONS] = place;
                 self.chains.insert(fact, number);
                 return false;
             }
-            *place += 1;
+            place += 1;
         }
         true
     }

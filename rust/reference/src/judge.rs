@@ -1,4 +1,4 @@
-//! A list of actions judged under the three semantics in one pass.
+//! A list of actions judged under the three semantics in one pass (SPECIFICATION, Space and verdict).
 //!
 //! What applies for real applies red-black, and what applies red-black applies relaxed. So the list
 //! is run for real until that stops, from there red-black, and from there relaxed. One state serves

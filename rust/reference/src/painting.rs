@@ -1,4 +1,5 @@
-//! Paintings that are accepted: an acyclic black causal graph, and a return for every arc.
+//! Paintings that are accepted: an acyclic black causal graph, and a return for every arc
+//! (SPECIFICATION, Paintings that are accepted).
 
 use crate::index::ACTIONS;
 use crate::refusal::Refusal;

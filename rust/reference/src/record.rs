@@ -1,4 +1,4 @@
-//! The record: checked, read and written.
+//! The record: checked, read and written (SPECIFICATION, The record).
 
 use crate::bits::{BitWriter, Bits};
 use crate::refusal::Refusal;

@@ -1,4 +1,4 @@
-//! Relaxed plan repair.
+//! Relaxed plan repair (SPECIFICATION, Repair).
 
 use crate::index::{Numbers, Waiting, ACTIONS};
 use crate::painting::{Move, Painting, ANYWHERE};

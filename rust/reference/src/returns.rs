@@ -1,4 +1,5 @@
-//! Whether each arc of the black variables has its return.
+//! Whether each arc of the black variables has its return (SPECIFICATION, Paintings that are
+//! accepted).
 
 use crate::index::{Chains, ACTIONS, NONE};
 use crate::painting::Move;

@@ -1,4 +1,4 @@
-//! Room that is made once and used by call after call, of which each clears only what it uses.
+//! Tables that are made once and used by call after call, of which each clears only what it uses.
 
 /// A table of fixed size, so that numbers below it need no check.
 pub type Table<T, const N: usize> = Box<[T; N]>;

@@ -1,4 +1,4 @@
-//! Plan sheets, written and read. A sheet looks at no task.
+//! Plan sheets, written and read (SPECIFICATION, Sheet).
 
 use crate::bits::Bits;
 use crate::entry::{MAX_STEPS, NO_ENTRY};
