@@ -19,6 +19,8 @@ pub struct Returns {
     own: Chains,
     /// The move that served last as a return to each fact.
     served: Table<u16, FACTS>,
+    /// For each move the place of the precondition that was unmet last, which is tried first.
+    unmet: Table<u8, ACTIONS>,
     rows: Rows,
     /// What the move in hand sets of its variable, and its outside condition and effect.
     union: State,
@@ -30,6 +32,7 @@ impl Returns {
             setting: Chains::new(),
             own: Chains::new(),
             served: table(NONE),
+            unmet: table(0),
             rows: Rows::new(),
             union: State::empty(),
         }
@@ -64,8 +67,20 @@ impl Returns {
 
     /// The lower of `lowest` and the first move of the variable that lacks a return.
     fn lowest(&mut self, task: &Task, moves: &Moves, v: usize, lowest: usize) -> usize {
-        let Returns { setting, own, served, rows, union } = self;
-        let mut search = Search::new(task, moves, setting, served, rows);
+        let Returns { setting, own, served, unmet, rows, union } = self;
+        let mut search = Search {
+            task,
+            moves,
+            setting,
+            served,
+            unmet,
+            rows,
+            in_rows: false,
+            looked: 0,
+            spent: 0,
+            limit: Rows::LEAST,
+            price: None,
+        };
         for number in own.of(Fact::new(v, 0)).take_while(|&number| number < lowest) {
             let Some(moved) = moves[number % ACTIONS] else { continue };
             let action = task.action(number);
@@ -90,6 +105,7 @@ struct Search<'a> {
     moves: &'a Moves,
     setting: &'a Chains,
     served: &'a mut [u16; FACTS],
+    unmet: &'a mut [u8; ACTIONS],
     rows: &'a mut Rows,
     in_rows: bool,
     /// Moves and preconditions looked at since rows were last thought of, and how many of the
@@ -101,18 +117,7 @@ struct Search<'a> {
     price: Option<usize>,
 }
 
-impl<'a> Search<'a> {
-    fn new(
-        task: &'a Task,
-        moves: &'a Moves,
-        setting: &'a Chains,
-        served: &'a mut [u16; FACTS],
-        rows: &'a mut Rows,
-    ) -> Self {
-        let (in_rows, price, limit) = (false, None, Rows::LEAST);
-        Search { task, moves, setting, served, rows, in_rows, looked: 0, spent: 0, limit, price }
-    }
-
+impl Search<'_> {
     /// Whether each arc of a move has its return; `union` holds the value that the move sets, and
     /// its outside condition and effect.
     #[inline(always)]
@@ -145,8 +150,12 @@ impl<'a> Search<'a> {
     #[inline(always)]
     fn one_by_one(&mut self, fact: Fact, from: u8, union: &State) -> bool {
         let served = self.served[fact.index()];
-        if served != NONE && self.serves(served as usize, union) {
-            return true;
+        if served != NONE {
+            let preconditions = self.task.preconditions(served as usize);
+            self.spent += 1 + preconditions.len();
+            if union.holds_all(preconditions) {
+                return true;
+            }
         }
         let (setting, moves) = (self.setting, self.moves);
         let leaves = |n: usize| moves[n % ACTIONS].is_some_and(|moved| moved.leaves(from));
@@ -159,8 +168,14 @@ impl<'a> Search<'a> {
     #[inline(always)]
     fn serves(&mut self, number: usize, union: &State) -> bool {
         let preconditions = self.task.preconditions(number);
+        let unmet = &mut self.unmet[number % ACTIONS];
+        self.spent += 1;
+        if preconditions.get(*unmet as usize).is_some_and(|&fact| !union.holds(fact)) {
+            return false;
+        }
         let met = preconditions.iter().take_while(|&&fact| union.holds(fact)).count();
-        self.spent += met + 1;
+        self.spent += met;
+        *unmet = met as u8;
         met == preconditions.len()
     }
 }

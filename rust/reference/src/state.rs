@@ -96,7 +96,7 @@ impl State {
     }
 }
 
-/// The steps before the first that does not apply, and whether the list is a plan.
+/// How far a list runs, and whether it is a plan.
 #[derive(Clone, Copy, Debug, Default, PartialEq, Eq)]
 pub struct Run {
     pub steps: u32,

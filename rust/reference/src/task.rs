@@ -161,10 +161,10 @@ impl<'a> Loader<'a> {
     pub fn new(task: &'a mut Task) -> Self {
         task.variables.clear();
         task.spans.clear();
-        task.facts.clear();
         Loader { task, filled: 0 }
     }
 
+    /// Facts are written over what is there; `finish` cuts the rest off.
     pub fn reserve(&mut self, actions: usize, most_facts: usize) {
         self.task.spans.reserve(actions);
         self.task.facts.resize(most_facts, Fact::default());
