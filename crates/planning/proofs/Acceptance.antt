@@ -1,6 +1,6 @@
 -- The examples of clause 12: one table, proved by one theorem. Each record, the bytes of examples/*.record, states the task that the
--- clause describes, and is called; antt computes the rows. It stands before the laws, so that a definition that makes a row false
--- is refused there.
+-- clause describes, and the planner is called on it; antt computes the rows. The prover takes files by name, so this one comes before
+-- the laws, and a definition that makes a row false is refused here first.
 use Prim.Native.Nat.{ℕ, zero, suc}
 use mathlib.Core.Path.{_≡_, refl}
 use mathlib.Core.Bool.{Bool, true, false}

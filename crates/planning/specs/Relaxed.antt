@@ -33,7 +33,7 @@ forwardEnd t = run (act t) relaxed (forwardRun t) (initial t)
 unfoldable pub reachesGoals : Task → Bool
 reachesGoals t = holds (forwardEnd t) (goals t)
 
--- 4.3
+-- 4.3: facts reached
 unfoldable pub factsReached : Task → ℕ
 factsReached t = factsIn t (forwardEnd t)
 

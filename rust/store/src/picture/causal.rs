@@ -2,11 +2,15 @@
 
 use std::collections::BTreeMap;
 
+use super::{at_most, notes, Arc, Legend, Node, Picture};
+use crate::explain;
 use crate::store::{Action, Store, Variable};
-use crate::svg::{Arc, Legend, Node, Picture};
 
-/// The arcs, each with the actions that make it: from u to v, u ≠ v, if an action affects v and has
-/// u among its preconditions or effects.
+/// As many actions of an arc are named beside it; its title has all.
+const MAX_LABELS: usize = 3;
+
+/// The arcs, each with the actions that make it: one from each variable that an action names to each
+/// other variable that it sets.
 pub fn causal_graph(store: &Store) -> BTreeMap<(usize, usize), Vec<usize>> {
     let mut arcs: BTreeMap<_, Vec<usize>> = BTreeMap::new();
     for (number, action) in store.actions.iter().enumerate() {
@@ -32,19 +36,23 @@ pub fn causal_picture(store: &Store) -> Picture {
         Legend::Arc("dark", "arc of the black causal graph"),
         Legend::Arc("", "other arc"),
     ];
-    legend.push(Legend::Note(painting(store)));
+    legend.extend(notes(&painting(store)));
     Picture {
         title: "Causal graph".to_owned(),
         nodes: store.variables.iter().map(node).collect(),
         arcs: arcs.iter().map(|(&arc, actions)| drawn(store, arc, actions)).collect(),
         legend,
+        layered: true,
     }
 }
 
 fn painting(store: &Store) -> String {
     match reference::painting::painting(&store.task()) {
         Ok(_) => "The painting is accepted.".to_owned(),
-        Err(refusal) => format!("The painting is refused: {}.", store.explain(refusal)),
+        Err(refusal) => {
+            let words = explain::in_words(store, refusal, None);
+            format!("The painting is refused, {}: {words}.", refusal.number)
+        }
     }
 }
 
@@ -53,7 +61,7 @@ fn node(variable: &Variable) -> Node {
     let initial = &variable.values[variable.initial];
     Node {
         lines: vec![variable.name.clone()],
-        class: variable.colour().to_owned(),
+        class: variable.colour(),
         title: format!(
             "{}: {}, {} values, initial {initial}{goal}",
             variable.name,
@@ -64,13 +72,14 @@ fn node(variable: &Variable) -> Node {
 }
 
 fn drawn(store: &Store, (from, to): (usize, usize), actions: &[usize]) -> Arc {
-    let names: Vec<&str> = actions.iter().map(|&a| store.actions[a].name.as_str()).collect();
+    let names: Vec<String> = actions.iter().map(|&a| store.actions[a].name.clone()).collect();
+    let title = format!("made by {}", names.join(", "));
     let black = store.variables[from].black && store.variables[to].black;
     Arc {
         from,
         to,
         class: if black { "dark" } else { "" },
-        labels: Vec::new(),
-        title: format!("made by {}", names.join(", ")),
+        labels: at_most(names, MAX_LABELS),
+        title,
     }
 }

@@ -2,39 +2,13 @@
 
 use std::fmt::Write;
 
-use crate::layout::{text_width, Curve, Layout, Point, Rect, LINE};
-
-/// A box with lines of text; the title shows when a pointer rests on it.
-pub struct Node {
-    pub lines: Vec<String>,
-    pub class: String,
-    pub title: String,
-}
-
-pub struct Arc {
-    pub from: usize,
-    pub to: usize,
-    pub class: &'static str,
-    pub labels: Vec<String>,
-    pub title: String,
-}
-
-/// A line below the picture.
-pub enum Legend {
-    Node(&'static str, &'static str),
-    Arc(&'static str, &'static str),
-    Note(String),
-}
-
-pub struct Picture {
-    pub title: String,
-    pub nodes: Vec<Node>,
-    pub arcs: Vec<Arc>,
-    pub legend: Vec<Legend>,
-}
+use super::layout::{text_width, Curve, Layout, Point, Rect, LINE};
+use super::{at_most, escape, Arc, Legend, Node, Picture};
 
 const MARGIN: f64 = 24.0;
 const SAMPLE: f64 = 40.0;
+/// As many arcs are listed below a picture.
+const MAX_LINES: usize = 40;
 
 const STYLE: &str = "\
 text { font: 13px monospace; text-anchor: middle; fill: #222 }
@@ -60,7 +34,27 @@ fn marker(id: &str, fill: &str) -> String {
     )
 }
 
-pub fn svg(picture: &Picture) -> String {
+/// The picture as SVG. In layers arcs cross, so their actions stand below and not beside them.
+pub fn svg(mut picture: Picture) -> String {
+    if picture.layered {
+        let below = arcs_below(&picture);
+        picture.legend.extend(below);
+        picture.arcs.iter_mut().for_each(|arc| arc.labels.clear());
+    }
+    laid_out(&picture)
+}
+
+fn arcs_below(picture: &Picture) -> Vec<Legend> {
+    let name = |node: usize| picture.nodes[node].lines.join(" ");
+    let line = |arc: &Arc| {
+        let actions = arc.labels.join(", ");
+        format!("{} to {}: {actions}", name(arc.from), name(arc.to))
+    };
+    let lines: Vec<String> = picture.arcs.iter().map(line).collect();
+    at_most(lines, MAX_LINES).into_iter().map(Legend::Note).collect()
+}
+
+fn laid_out(picture: &Picture) -> String {
     let layout = Layout::new(picture);
     let bounds = layout.bounds();
     let mut body = String::new();
@@ -98,15 +92,6 @@ fn frame(corner: Point, width: f64, height: f64, body: &str) -> String {
 fn written_width(picture: &Picture) -> f64 {
     let lines = picture.legend.iter().map(|line| SAMPLE + 10.0 + text_width(line.text()));
     lines.fold(text_width(&picture.title) * 16.0 / 13.0, f64::max)
-}
-
-impl Legend {
-    fn text(&self) -> &str {
-        match self {
-            Legend::Node(_, text) | Legend::Arc(_, text) => text,
-            Legend::Note(text) => text,
-        }
-    }
 }
 
 fn arc_path(arc: &Arc, curve: &Curve) -> String {
@@ -187,8 +172,4 @@ fn sample(entry: &Legend, left: f64, y: f64) -> (String, f64) {
         }
         Legend::Note(_) => (String::new(), 0.0),
     }
-}
-
-fn escape(text: &str) -> String {
-    text.replace('&', "&amp;").replace('<', "&lt;").replace('>', "&gt;")
 }

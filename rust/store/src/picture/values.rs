@@ -5,10 +5,10 @@ use std::collections::BTreeMap;
 
 use reference::Fact;
 
+use super::{at_most, Arc, Legend, Node, Picture};
 use crate::store::{Action, Store};
-use crate::svg::{Arc, Legend, Node, Picture};
 
-/// An arc with as many labels as this names its further actions in its title only.
+/// As many actions of an arc are named beside it; its title has all.
 const MAX_LABELS: usize = 4;
 
 #[derive(Clone, Copy, Debug, PartialEq, Eq)]
@@ -40,11 +40,13 @@ pub fn has_return(store: &Store, variable: usize, arc: ValueArc) -> bool {
     let action = &store.actions[arc.action];
     let given =
         |f: &Fact| f.variable() == variable || action.needs.contains(f) || action.sets.contains(f);
-    store.actions.iter().any(|back| {
-        back.set(variable) == Some(arc.from)
-            && leaves(back, variable, arc.to)
-            && back.needs.iter().all(given)
-    })
+    let back = |back: &Action| leads_back(back, variable, arc) && back.needs.iter().all(given);
+    store.actions.iter().any(back)
+}
+
+/// Whether an action leads from the end of an arc to its start.
+pub fn leads_back(back: &Action, variable: usize, arc: ValueArc) -> bool {
+    back.set(variable) == Some(arc.from) && leaves(back, variable, arc.to)
 }
 
 pub fn value_picture(store: &Store, variable: usize) -> Picture {
@@ -59,6 +61,7 @@ pub fn value_picture(store: &Store, variable: usize) -> Picture {
         nodes: (0..shown.values.len()).map(|value| node(store, variable, value)).collect(),
         arcs: arcs.collect(),
         legend: vec![Legend::Note("An arc is labelled with its actions and their costs.".into())],
+        layered: false,
     }
 }
 
@@ -75,17 +78,13 @@ fn node(store: &Store, variable: usize, value: usize) -> Node {
     Node {
         title: store.facts(&[Fact::new(variable, value)]),
         lines: std::iter::once(name).chain(role.map(|role| format!("({role})"))).collect(),
-        class: if goal { "value goal".to_owned() } else { "value".to_owned() },
+        class: if goal { "value goal" } else { "value" },
     }
 }
 
 fn drawn(store: &Store, variable: usize, arcs: &[ValueArc]) -> Arc {
-    let mut labels: Vec<String> = arcs.iter().map(|&arc| label(store, variable, arc)).collect();
-    if labels.len() > MAX_LABELS {
-        let more = labels.len() - (MAX_LABELS - 1);
-        labels.truncate(MAX_LABELS - 1);
-        labels.push(format!("and {more} more"));
-    }
+    let labels: Vec<String> = arcs.iter().map(|&arc| label(store, variable, arc)).collect();
+    let labels = at_most(labels, MAX_LABELS);
     let titles: Vec<String> = arcs.iter().map(|arc| describe(store, arc)).collect();
     Arc { from: arcs[0].from, to: arcs[0].to, class: "dark", labels, title: titles.join("\n") }
 }

@@ -1,9 +1,10 @@
-//! Where a picture's parts stand: nodes on an ellipse, so that no two overlap, arcs bent towards its
-//! middle, and labels where they cover least.
+//! Where a picture's parts stand without Graphviz: nodes in layers, or on an ellipse with arcs bent towards
+//! its middle, so that no two overlap; labels where they cover least.
 
 use std::f64::consts::{PI, SQRT_2};
 
-use crate::svg::{Arc, Picture};
+use super::layers::in_layers;
+use super::{Arc, Picture};
 
 pub const LINE: f64 = 17.0;
 const CHARACTER: f64 = 7.9;
@@ -127,8 +128,9 @@ pub struct Layout {
 impl Layout {
     pub fn new(picture: &Picture) -> Self {
         let nodes = place_nodes(picture);
+        let pull = if picture.layered { 0.0 } else { PULL };
         let curves: Vec<Curve> =
-            picture.arcs.iter().map(|arc| curve(&nodes, arc, &picture.arcs)).collect();
+            picture.arcs.iter().map(|arc| curve(&nodes, arc, &picture.arcs, pull)).collect();
         let labels = place_labels(&picture.arcs, &curves, &nodes);
         Layout { nodes, curves, labels }
     }
@@ -163,7 +165,11 @@ fn place_nodes(picture: &Picture) -> Vec<Rect> {
     let node = sizes.iter().copied().fold(Size::default(), Size::max);
     let label = labels.fold(Size::default(), Size::max);
     let room = Size { width: node.width + label.width, height: node.height + label.height };
-    let centres = on_ellipse(sizes.len(), room.plus(GAP));
+    let centres = if picture.layered {
+        in_layers(sizes.len(), &picture.arcs, room.plus(GAP))
+    } else {
+        on_ellipse(sizes.len(), room.plus(GAP))
+    };
     sizes.iter().zip(centres).map(|(&size, centre)| Rect { centre, size }).collect()
 }
 
@@ -183,9 +189,9 @@ fn on_ellipse(count: usize, room: Size) -> Vec<Point> {
     (0..count).map(point).collect()
 }
 
-fn curve(nodes: &[Rect], arc: &Arc, arcs: &[Arc]) -> Curve {
+fn curve(nodes: &[Rect], arc: &Arc, arcs: &[Arc], pull: f64) -> Curve {
     let (from, to) = (&nodes[arc.from], &nodes[arc.to]);
-    let middle = from.centre.plus(to.centre).times((1.0 - PULL) / 2.0);
+    let middle = from.centre.plus(to.centre).times((1.0 - pull) / 2.0);
     let control = middle.plus(aside(from.centre, to.centre, bend(arc, arcs)));
     Curve { start: from.border_towards(control), control, end: to.border_towards(control) }
 }
