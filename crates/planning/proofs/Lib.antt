@@ -26,3 +26,5 @@ pub mod Sizes
 pub mod Calls
 pub mod Demand3
 pub mod Longest
+pub mod Listing
+pub mod Listed

@@ -8,3 +8,4 @@ pub mod Repair
 pub mod Sheet
 pub mod Calls
 pub mod Existence
+pub mod Listing

@@ -25,7 +25,7 @@ pub fn two_shelves() -> Task {
     task
 }
 
-/// A drive that also sets a red lamp to 1; its return needs the lamp at `lamp`.
+/// A drive with a red lamp: forth sets it to 1, back needs it at `lamp`.
 pub fn lamp(lamp: usize) -> Task {
     let mover = variable(2, true, 0, None);
     let mut task = Task::new(vec![mover, variable(3, false, 0, None)]);

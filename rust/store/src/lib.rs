@@ -18,6 +18,7 @@ pub mod parse;
 pub mod picture;
 pub mod pictures;
 pub mod plan;
+pub mod run;
 pub mod show;
 pub mod store;
 pub mod tasks;

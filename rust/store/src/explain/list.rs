@@ -1,9 +1,10 @@
 //! Refusals 9 and 13: entries of a list.
 
 use reference::entry::MAX_STEPS;
-use reference::state::{run, Semantics};
+use reference::state::Semantics;
 
 use super::grouped;
+use crate::run::run;
 use crate::show::trouble;
 use crate::store::Store;
 

@@ -128,7 +128,7 @@ fn band(store: &Store, plan: &Plan, shown: Range<usize>, stops: Stops) -> Band {
 }
 
 fn stop(store: &Store, list: &[u16], semantics: &Semantics) -> Option<usize> {
-    let run = reference::state::run(&store.task(), list, semantics);
+    let run = crate::run::run(&store.task(), list, semantics);
     (!run.plan).then_some(run.steps as usize)
 }
 

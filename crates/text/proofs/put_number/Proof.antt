@@ -1,8 +1,10 @@
+use mathlib.Core.Path.{_∙_}
 use native.Mathlib.Omega.{arith}
-use Rattle.report.proofs.Texts.{digits-few, numeral-of}
+use Rattle.text.proofs.Numerals.{digits-few, decimal-of}
+use Rattle.text.proofs.Texts.{put-then, spaced}
 use borrow.Author.Needs.{needs}
-use Rattle.report.proofs.put_number.Statement.{statement}
-use Rattle.report.proofs.put_number.Tie as tie
+use Rattle.text.proofs.put_number.Statement.{statement}
+use Rattle.text.proofs.put_number.Tie as tie
 
 slice-aggregate-put : tie.Need-slice-aggregate-put
 slice-aggregate-put c = search needs
@@ -20,15 +22,20 @@ slice-aggregate-put-2 : tie.Need-slice-aggregate-put-2
 slice-aggregate-put-2 c = search needs
 
 put-requires-2 : tie.Need-put-requires-2
-put-requires-2 c κs = let l = digits-few _ _ (search needs) (c .before .before .decimal .ensures .1 .0) in omega (arith, c .before .before .decimal .ensures .0 .1)
+put-requires-2 c κs = let d = c .before .before .decimal .ensures in let l = digits-few 10 _ _ (omega arith) (search needs) (d .1 .0) in omega (arith, d .0 .1)
 
 same-length : tie.Need-same-length
 same-length c = search needs
 
 returns : tie.Need-returns
 returns c = let d = c .before .before .before .before .before .decimal .ensures in
-    let l = digits-few _ _ (search needs) (d .1 .0) in
-    (omega (arith, d .0 .1), numeral-of _ _ _ _ _ _ _ _ (d .1 .0) (d .1 .1) (c .before .before .before .before .before .before .before .before .before .put .ensures .1) (c .before .before .put2 .ensures .1))
+    let P = c .before .before .before .before .before .before .before .before .before .put .ensures in
+    let Q = c .before .before .put2 .ensures in
+    let l = digits-few 10 _ _ (omega arith) (search needs) (d .1 .0) in (
+      put-then (spaced _ _ (d .1 .1 ∙ decimal-of _ _ (d .1 .0))) P Q,
+      omega (arith, d .0 .1, P .ends, Q .ends),
+      λ h. let m = digits-few 5 _ _ (omega arith) h (d .1 .0) in omega (arith, d .0 .1, P .ends, Q .ends),
+    )
 
 pub put-number-spec : {M : Type 1} → statement M
 put-number-spec =
