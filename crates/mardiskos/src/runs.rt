@@ -1,8 +1,8 @@
 // The forward run and the relaxed plan as C calls them. The code is 0, or 32 times the place and the number; after a refusal
 // the other fields are 0.
-use answers::Number;
 use crate::code_of;
 use crate::number_code;
+use answers::Number;
 use forward::Found;
 ghost use mathlib.Core.Path.{_≡_};
 ghost use lib.ListN.{length};

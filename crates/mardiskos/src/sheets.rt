@@ -1,7 +1,7 @@
 // Sheets as C calls them.
-use answers::Number;
 use crate::code_of;
 use crate::number_code;
+use answers::Number;
 use sheet::Reading;
 ghost use mathlib.Core.Path.{_≡_};
 ghost use lib.ListN.{length, take};

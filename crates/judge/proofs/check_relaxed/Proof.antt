@@ -33,8 +33,7 @@ judge-one-requires : tie.Need-judge-one-requires
 judge-one-requires c κs =
     let a = c .before .before .before .before .before .before .args in
     let n = c .before .leading .result in
-    let l = a .list .now in
-    (
+    let l = a .list .now in (
       record {
         loaded = c .before .before .before .before .before .before .pre;
         short = omega (arith, length-take-le n l (c .before .leading .ensures .1));
