@@ -60,7 +60,7 @@ relaxedFault t s k (i ∷ l) = elim (ltb i (actions t) && holds s (act t i .pre)
 unfoldable pub relaxedCheck : Task → List ℕ → Check
 relaxedCheck t l = refuseAt 9 (relaxedFault t (initial t) 0 l)
 
--- 9.1: check of a record; 9.4: its code
+-- 9.1: check of a record; the task that it answers is what later calls use, a caller gets the code alone (9.4)
 unfoldable pub checkCall : List ℕ → Answer Task
 checkCall s = answer (recordCheck s) (taskOf s)
 

@@ -1,4 +1,4 @@
--- Demand 3 (11.3), and the bound of a repair (6.8).
+-- Demand 3 (11.3); what a repair makes (6.1) and its bound (6.8).
 use Prim.Native.Nat.{ℕ, _*_, _≤_}
 use mathlib.Core.Path.{_≡_}
 use mathlib.Core.Bool.{Bool, true, false}
@@ -52,6 +52,6 @@ pub record Complete (t : Task) (n w : ℕ) (r : Answer Planned) (l : List ℕ) :
 abbrev pub Demand3 : List ℕ → ℕ → ℕ → Answer Planned → List ℕ → Type 0
 Demand3 s n w r l = recordCheck s ≡ none → cyclic (taskOf s) ≡ none → unreturned (taskOf s) ≡ none → Complete (taskOf s) n w r l
 
--- 6.8: the repair of the list k, with its answer r and the plan l
+-- 6.1 and 6.8: what the repair of the list k returns, with answer r and plan l, is a red-black plan of at most n × P steps
 abbrev pub Bounded : List ℕ → List ℕ → Answer Planned → List ℕ → Type 0
 Bounded s k r l = ReturnsPlan r → RedBlackPlan (taskOf s) l × (length l ≤ length k * blackProduct (taskOf s))

@@ -1,4 +1,4 @@
-//! The proved library. Every call of it stands here; refusals become those of document 01's table.
+//! The proved library. Every call of it stands here; refusals become those of clause 9.5.
 
 use mardiskos::{Judgement, Plan};
 use reference::Refusal;

@@ -1,4 +1,4 @@
-//! The paper's examples as text.
+//! The examples of clause 12 as text.
 
 mod common;
 
