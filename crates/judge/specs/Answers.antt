@@ -22,7 +22,7 @@ judgedOf v = record { steps = v .steps; plan = v .plan }
 abbrev pub judgementOf : Verdicts → Judgement
 judgementOf v = record { relaxed′ = judgedOf (v .relaxed); redBlack = judgedOf (v .«red_black»); real′ = judgedOf (v .real) }
 
--- the paper's number and values for each case
+-- 3.11 and 9.5: number and values for each case
 abbrev pub answerOf : Judging → Answer Judgement
 answerOf (judging.Judged v) = done (judgementOf v)
 answerOf (judging.Refused f) = refused (f .number) (f .place)

@@ -18,7 +18,7 @@ ghost use Rattle.task.specs.Task.{taskIn, Loaded};
 ghost use Rattle.state.specs.Sets.{modeOf};
 ghost use Rattle.judge.specs.Answers.{judgedOf, judgementOf, answerOf, refusalOf, Ready, Runs, leading, listCheck, callerCheck, judgedList};
 
-// Under one semantics: the steps run before the first that does not apply, and whether the list is a plan.
+// Under one semantics (3.11): how many steps run, and whether the list is a plan.
 pub struct Verdict {
     pub steps: u32,
     pub plan: bool,

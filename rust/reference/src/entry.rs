@@ -27,7 +27,7 @@ pub struct ForwardResult {
 pub struct PlanResult {
     pub steps: u32,
     pub cost: u32,
-    /// The steps that run for real, from the front.
+    /// The steps that run for real, from the front (7.8).
     pub runs: u32,
     pub real: bool,
 }
@@ -80,7 +80,7 @@ pub fn forward(record: &[u8], plan: &mut [u16]) -> Result<ForwardResult, Refusal
     answer
 }
 
-/// The relaxed plan; answers its steps.
+/// The relaxed plan (4.7); answers its steps.
 pub fn relax(record: &[u8], plan: &mut [u16]) -> Result<u32, Refusal> {
     let answer = with(record, |Room { task, forward, .. }| {
         forward.run(task)?;
@@ -91,7 +91,7 @@ pub fn relax(record: &[u8], plan: &mut [u16]) -> Result<u32, Refusal> {
     answer
 }
 
-/// Repairs the caller's relaxed plan.
+/// Repairs the caller's relaxed plan (6, 9.6).
 pub fn repair(
     record: &[u8],
     relaxed: &[u16],
@@ -111,7 +111,7 @@ pub fn repair(
     answer
 }
 
-/// From a record to a repaired plan.
+/// The planner: from a record to a repaired plan.
 pub fn plan(record: &[u8], plan: &mut [u16], work: &mut [u16]) -> Result<PlanResult, Refusal> {
     let capacity = plan.len().min(work.len()).min(MAX_STEPS);
     let answer = with(record, |Room { task, forward, painting, repair, .. }| {
@@ -142,7 +142,7 @@ fn check_entries(task: &Task, list: &[u16]) -> Result<(), Refusal> {
     Err(Refusal::new(9, entry))
 }
 
-/// 9 at the lowest entry that is not below A or does not apply, or at the end for a goal missed.
+/// 9.6: 9 at the lowest entry that is not below A or does not apply, or at the end for a goal missed.
 fn check_relaxed_plan(task: &Task, list: &[u16]) -> Result<(), Refusal> {
     let mut held = State::initial(task);
     let mut applied = Numbers::default();
@@ -178,7 +178,7 @@ fn verdict(task: &Task, black: u64, plan: &[u16]) -> PlanResult {
     PlanResult { steps: plan.len() as u32, cost, runs: real.steps, real: real.plan }
 }
 
-/// After success 65,535 stands behind the plan; after a refusal everywhere.
+/// 7.4 and 7.5: after success 65,535 stands behind the plan; after a refusal everywhere.
 fn fill_rest(list: &mut [u16], steps: u32) {
     list[steps as usize..].fill(NO_ENTRY);
 }

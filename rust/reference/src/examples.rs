@@ -1,4 +1,4 @@
-//! The store examples of document 01.
+//! The examples of clause 12.
 
 use crate::task::{Fact, Task, Variable};
 

@@ -1,4 +1,5 @@
-//! Independent planner, written from document 01 alone and for speed.
+//! Independent planner, written from docs/SPECIFICATION.md alone and for speed. Numbers like 6.7 are its
+//! clauses.
 //!
 //! Data goes one way: bytes to a task (`record`), a task to runs (`forward`, `judge`), a forward run
 //! to a relaxed plan, and that to a repaired plan (`painting`, `paths`, `repair`). `entry` holds the

@@ -1,4 +1,4 @@
-//! Shortest paths of the black variables along usable arcs, kept while they are valid.
+//! Shortest paths of the black variables along usable arcs (6.7), kept while they are valid.
 
 use crate::index::{Chains, ACTIONS};
 use crate::painting::{Move, ANYWHERE};

@@ -14,7 +14,7 @@ pub struct Repair {
     waiting: Waiting,
     paths: Paths,
     supports: Supports,
-    /// Red facts held now, and black facts held at any time so far.
+    /// 6.3: R and B.
     held: State,
     /// Actions of the plan applied for the first time, whose effects are not held yet.
     fresh: Vec<u16>,

@@ -28,7 +28,7 @@ pub fn write(list: &[u16], cost: u32, real: bool, bytes: &mut [u8]) -> Result<u3
     answer.map(|size| size as u32)
 }
 
-/// The checks, 13 with the length first, then 11; the entries are checked as they are written.
+/// The checks of 8.3; the entries are checked as they are written.
 fn written(list: &[u16], cost: u32, real: bool, bytes: &mut [u8]) -> Result<usize, Refusal> {
     if list.len() > MAX_STEPS {
         return Err(Refusal::new(13, MAX_STEPS));

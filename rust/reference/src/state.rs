@@ -1,4 +1,4 @@
-//! States, and runs under the three semantics.
+//! States (3.1), and runs under the three semantics (3.4, 3.7).
 
 use crate::task::{Action, Fact, Task};
 
