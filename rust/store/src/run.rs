@@ -3,7 +3,7 @@
 use reference::state::{Run, Semantics, State};
 use reference::Task;
 
-/// The steps before the first that does not apply, and whether the list is a plan.
+/// How many steps run, and whether the list is a plan.
 pub fn run(task: &Task, list: &[u16], semantics: &Semantics) -> Run {
     let mut state = State::initial(task);
     for (step, &number) in list.iter().enumerate() {
