@@ -23,9 +23,9 @@ pub record Passing (t : Task) (K : State) (v start : ℕ) (l₀ : List ℕ) (w :
   pub inside : c < count t v
   pub at : j ≤ length l₀
   pub so-far : passOf t K v start l₀ w ≡ take e out ++ passOf t K v c (drop j l₀) w
-  pub rows : Memo t K v memo
+  pub rows : Memo t K memo
 
-pub passing-start : (t : Task) (K : State) (v start : ℕ) (l₀ : List ℕ) (w : List Fact) (out memo : List ℕ) → start < count t v → Memo t K v memo → Passing t K v start l₀ w out out memo start 0 0
+pub passing-start : (t : Task) (K : State) (v start : ℕ) (l₀ : List ℕ) (w : List Fact) (out memo : List ℕ) → start < count t v → Memo t K memo → Passing t K v start l₀ w out out memo start 0 0
 passing-start t K v start l₀ w out memo b M = record { within = omega arith; long = refl; inside = b; at = omega arith; so-far = refl; rows = M }
 
 module _ {t : Task} {K : State} {v start : ℕ} {l₀ : List ℕ} {w : List Fact} {out₀ out memo : List ℕ} {c e j : ℕ} (F : Formed t) (P : Passing t K v start l₀ w out₀ out memo c e j) where
@@ -59,7 +59,7 @@ module _ {t : Task} {K : State} {v start : ℕ} {l₀ : List ℕ} {w : List Fact
     rest-next = rw (drop-cons l₀ j 0 h, add-one j, asked-is (look (act t i .pre) v) d asked-here, append-assoc) refl
 
     module _ (out′ : List ℕ) (r : Written) (p : Put out out′ e piece r) where
-      pub passing-turn : (memo′ : List ℕ) (x c′ : ℕ) → length out′ ≡ length out → r ≡ Upto x → Memo t K v memo′ → c′ ≡ after c (askedBy d)
+      pub passing-turn : (memo′ : List ℕ) (x c′ : ℕ) → length out′ ≡ length out → r ≡ Upto x → Memo t K memo′ → c′ ≡ after c (askedBy d)
           → Passing t K v start l₀ w out₀ out′ memo′ c′ x (j + 1)
       passing-turn memo′ x c′ n y M ec =
           let z = put-as out out′ e piece r (Upto x) y p in

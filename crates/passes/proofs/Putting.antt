@@ -105,5 +105,5 @@ forgetting-turn memo k f h = record { long = length-set memo k 0 ∙ f .long; fr
 pub forgetting-end : (memo : List ℕ) (k : ℕ) → Forgetting memo k → 4160 ≤ k → Blank memo
 forgetting-end memo k f h = record { long = f .long; none-marked = λ d b. f .done (4096 + d) (omega arith) (omega arith) }
 
-pub blank-memo : (t : Task) (K : State) (v : ℕ) (memo : List ℕ) → Blank memo → Memo t K v memo
-blank-memo t K v memo B = record { long = B .long; rows = λ d c b _ e. absurd (omega (arith, e, B .none-marked d b)) }
+pub blank-memo : (t : Task) (K : State) (memo : List ℕ) → Blank memo → Memo t K memo
+blank-memo t K memo B = record { long = B .long; rows = λ v d c _ b _ e. absurd (omega (arith, e, B .none-marked d b)) }

@@ -2,15 +2,16 @@
 // the variable, and at the end if a value is wanted.
 use paths::Written;
 ghost use mathlib.Core.Path.{_≡_};
-ghost use Prim.Native.Nat.{_<_, _≤_};
+ghost use mathlib.Core.Bool.{not, _&&_};
+ghost use Prim.Native.Nat.{_/_, _%_, _<_, _≤_};
 ghost use lib.Dec.{T};
 ghost use lib.ListN.{length};
-ghost use Rattle.planning.specs.Runs.{count, black};
-ghost use Rattle.planning.specs.Repair.{toward, after};
-ghost use Rattle.task.specs.Task.{taskIn};
+ghost use Rattle.planning.specs.Runs.{relaxed, step, actions, count, act, black};
+ghost use Rattle.planning.specs.Repair.{toward, after, blackMet};
+ghost use Rattle.task.specs.Task.{taskIn, Loaded};
 ghost use Rattle.task.specs.Links.{Prepared};
-ghost use Rattle.state.specs.Sets.{setsOf};
-ghost use Rattle.paths.specs.Paths.{pathsOf, Memo, Put};
+ghost use Rattle.state.specs.Sets.{setsOf, modeOf};
+ghost use Rattle.paths.specs.Paths.{pathsOf, Memo, Covers, Put};
 ghost use Rattle.passes.specs.Passes.{askedBy, passOf, factsOf, Fitting, Entries, Blank, Behind};
 
 // The memo with no row in it.
@@ -23,6 +24,46 @@ pub fn forget(memo: &mut [u16])
         memo[k] = 0;
         k += 1;
     }
+}
+
+// Fact f has its variable in the set and is not held.
+fn unheld(set: u64, sets: &[u64; 64], f: usize) -> bool
+    requires { ⌜ f < 4096 ⌝ }
+    ensures { λ r. ⌜ r ≡ (modeOf set (f / 64) && not (setsOf (now (sets .entry)) (f / 64) (f % 64))) ⌝ }
+{
+    if state::member(set, f / 64) {
+        !state::holds(sets, f)
+    } else {
+        false
+    }
+}
+
+// Action i sets no new fact of a variable of the set.
+fn adds_none(task: &[u16], ever: &[u64; 64], i: usize, set: u64) -> bool
+    requires { ⌜ Loaded (now task) × (i < actions (taskIn (now task))) ⌝ }
+    ensures { λ r. ⌜ r ≡ blackMet (modeOf set) (setsOf (now (ever .entry))) (act (taskIn (now (task .entry))) i .eff) ⌝ }
+{
+    let end = task::eff_end(task, i);
+    let mut k = task::eff_start(task, i);
+    while k < end {
+        if unheld(set, ever, lists::wide(task[k])) {
+            return false;
+        }
+        k += 1;
+    }
+    true
+}
+
+// Before action i is applied to the facts held ever: the rows of leads are forgotten if a move may become usable by it.
+pub fn refresh(task: &[u16], ever: &[u64; 64], memo: &mut [u16], i: usize, needs: u64)
+    requires { ⌜ Loaded (now task) × (i < actions (taskIn (now task))) × Covers (taskIn (now task)) (actions (taskIn (now task))) needs ⌝ }
+    requires { ⌜ Memo (taskIn (now task)) (setsOf (now ever)) (now memo) ⌝ }
+    ensures { λ _. ⌜ Memo (taskIn (now (task .entry))) (step relaxed (act (taskIn (now (task .entry))) i) (setsOf (now (ever .entry)))) (now (memo .exit)) ⌝ }
+{
+    if adds_none(task, ever, i, needs) {
+        return;
+    }
+    forget(memo);
 }
 
 // The value of v after a path to the value that d asks.
@@ -43,10 +84,10 @@ fn lead_to(
     list: &mut [u16],
     at: usize,
 ) -> Written
-    requires { ⌜ Prepared (now task) × T (black (taskIn (now task)) v) × Memo (taskIn (now task)) (setsOf (now ever)) v (now memo) ⌝ }
+    requires { ⌜ Prepared (now task) × T (black (taskIn (now task)) v) × Memo (taskIn (now task)) (setsOf (now ever)) (now memo) ⌝ }
     requires { ⌜ (c < count (taskIn (now task)) v) × (d < 64 → d < count (taskIn (now task)) v) × (at ≤ length (now list)) ⌝ }
     ensures { λ r. ⌜ Put (now (list .entry)) (now (list .exit)) at (toward (pathsOf (taskIn (now (task .entry))) (setsOf (now (ever .entry))) v) c (askedBy d)) r ⌝ }
-    ensures { λ _. ⌜ Memo (taskIn (now (task .entry))) (setsOf (now (ever .entry))) v (now (memo .exit)) ⌝ }
+    ensures { λ _. ⌜ Memo (taskIn (now (task .entry))) (setsOf (now (ever .entry))) (now (memo .exit)) ⌝ }
 {
     if d >= 64 {
         return Written::Upto(at);
@@ -79,10 +120,10 @@ pub fn pass(
     wanted: &[u16],
     out: &mut [u16],
 ) -> Written
-    requires { ⌜ Prepared (now task) × T (black (taskIn (now task)) v) × Memo (taskIn (now task)) (setsOf (now ever)) v (now memo) ⌝ }
+    requires { ⌜ Prepared (now task) × T (black (taskIn (now task)) v) × Memo (taskIn (now task)) (setsOf (now ever)) (now memo) ⌝ }
     requires { ⌜ (start < count (taskIn (now task)) v) × Entries (taskIn (now task)) (now list) × Fitting (taskIn (now task)) (factsOf (now wanted)) ⌝ }
     ensures { λ r. ⌜ Put (now (out .entry)) (now (out .exit)) 0 (passOf (taskIn (now (task .entry))) (setsOf (now (ever .entry))) v start (now (list .entry)) (factsOf (now (wanted .entry)))) r ⌝ }
-    ensures { λ _. ⌜ Memo (taskIn (now (task .entry))) (setsOf (now (ever .entry))) v (now (memo .exit)) ⌝ }
+    ensures { λ _. ⌜ Memo (taskIn (now (task .entry))) (setsOf (now (ever .entry))) (now (memo .exit)) ⌝ }
 {
     let mut c = start;
     let mut e: usize = 0;

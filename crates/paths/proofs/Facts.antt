@@ -3,18 +3,20 @@ use mathlib.Core.Path.{_≡_, refl, sym, ap, _∙_}
 use mathlib.Core.Bool.{Bool, true, false, _&&_, and-true, and-false}
 use mathlib.Core.List.{List}
 use mathlib.Core.Option.{Option, none, some}
-use Prim.Native.Nat.{ℕ, _^_, _<_, _≤_}
+use Prim.Native.Nat.{ℕ, _/_, _^_, _<_, _≤_}
 use native.Mathlib.Omega.{arith}
 use native.Mathlib.Decide.{ℕ-discrete}
 use borrow.Author.Tests.{eq-eqb, ne-eqb}
 use lib.Bits.{bitAnd}
 use lib.Dec.{eqb}
-use Rattle.planning.specs.Record.{Task}
-use Rattle.planning.specs.Runs.{State, look, holds, actions, act}
+use lib.ListN.{getD}
+use Rattle.planning.specs.Record.{Action, Task}
+use Rattle.planning.specs.Runs.{State, look, holds, variables, actions, count, act}
 use Rattle.planning.specs.Painting.{fits}
-use Rattle.task.specs.Task.{factsIn, preAt, effAt, endAt, actionIn, taskIn}
+use Rattle.task.specs.Task.{factsIn, preAt, effAt, endAt, actionIn, taskIn, Loaded}
 use Rattle.task.proofs.Reading.{taskIn-act}
 use Rattle.state.specs.Sets.{inSet, Asked}
+use Rattle.state.proofs.Listing.{between-inside}
 use Rattle.state.proofs.Members.{inSet-single, inSet-empty, inSet-and}
 use Rattle.paths.specs.Paths.{sourceOf}
 
@@ -56,11 +58,26 @@ module _ (t : Task) (K : State) (i v rest m : ℕ) (s : (c : ℕ) → inSet m c 
   usable-no e c = rw (e, and-false (inSet rest c)) (inSet-empty c)
 
 -- the facts of an action, as places of the loaded task
-module _ (task : List ℕ) (i v from to d : ℕ) (b : i < actions (taskIn task)) (q : Asked (look (factsIn task from to) v) d) where
-  pub asked-pre : from ≡ preAt task i → to ≡ effAt task i → Asked (look (act (taskIn task) i .pre) v) d
+module _ (task : List ℕ) (L : Loaded task) (i : ℕ) (b : i < actions (taskIn task)) where
+  pub pre-facts : factsIn task (preAt task i) (effAt task i) ≡ act (taskIn task) i .pre
   unfolding actionIn
-  asked-pre e f = rw (taskIn-act task i b, ← e, ← f) q
+  pre-facts = sym (ap (λ (a : Action). a .pre) (taskIn-act task i b))
 
-  pub asked-eff : from ≡ effAt task i → to ≡ endAt task i → Asked (look (act (taskIn task) i .eff) v) d
+  pub eff-facts : factsIn task (effAt task i) (endAt task i) ≡ act (taskIn task) i .eff
   unfolding actionIn
-  asked-eff e f = rw (taskIn-act task i b, ← e, ← f) q
+  eff-facts = sym (ap (λ (a : Action). a .eff) (taskIn-act task i b))
+
+  pub pre-inside : (k : ℕ) → preAt task i ≤ k → k < effAt task i → getD task k 0 / 64 < variables (taskIn task)
+  pre-inside k l h =
+      let R = L .rows i b in
+      between-inside _ (count (taskIn task)) task (effAt task i) (omega (arith, R .eff-below, R .end-below)) (preAt task i) k l h (rw pre-facts (L .formed .pre-sorted i))
+
+  pub eff-inside : (k : ℕ) → effAt task i ≤ k → k < endAt task i → getD task k 0 / 64 < variables (taskIn task)
+  eff-inside k l h = between-inside _ (count (taskIn task)) task (endAt task i) (L .rows i b .end-below) (effAt task i) k l h (rw eff-facts (L .formed .eff-sorted i))
+
+  module _ (v from to d : ℕ) (q : Asked (look (factsIn task from to) v) d) where
+    pub asked-pre : from ≡ preAt task i → to ≡ effAt task i → Asked (look (act (taskIn task) i .pre) v) d
+    asked-pre e f = rw (← pre-facts, ← e, ← f) q
+
+    pub asked-eff : from ≡ effAt task i → to ≡ endAt task i → Asked (look (act (taskIn task) i .eff) v) d
+    asked-eff e f = rw (← eff-facts, ← e, ← f) q

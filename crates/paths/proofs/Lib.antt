@@ -5,3 +5,4 @@ pub mod Leads
 pub mod Arriving
 pub mod Walking
 pub mod Memos
+pub mod Needing

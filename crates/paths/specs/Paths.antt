@@ -1,14 +1,14 @@
 -- Rows of leads: the first action of the path to one value, from each value.
 use mathlib.Core.Path.{_≡_}
-use mathlib.Core.Bool.{Bool, true, false, _&&_}
-use mathlib.Core.List.{List, _++_}
+use mathlib.Core.Bool.{Bool, true, false, _&&_, _||_}
+use mathlib.Core.List.{List, [], _∷_, _++_}
 use mathlib.Core.Option.{Option, none, some}
 use Prim.Native.Nat.{ℕ, zero, suc, _+_, _*_, _<_, _≤_, min}
 use lib.Dec.{T}
 use lib.ListN.{length, getD, take}
 use Rattle.planning.specs.Basics.{first, reach}
-use Rattle.planning.specs.Record.{Action, Task}
-use Rattle.planning.specs.Runs.{State, look, holds, actions, count, act}
+use Rattle.planning.specs.Record.{Fact, Action, Task}
+use Rattle.planning.specs.Runs.{State, touches, look, holds, actions, count, act, black}
 use Rattle.planning.specs.Painting.{target, fits}
 use Rattle.planning.specs.Repair.{usableArc, adjacent, shortest}
 use Rattle.task.specs.Links.{Next, Sets}
@@ -83,10 +83,19 @@ Kept rest row₀ row = (c : ℕ) → c < 64 → (T (inSet rest c) → ⊥) → g
 abbrev pub Apart : ℕ → ℕ → Type 0
 Apart front rest = (c : ℕ) → T (inSet front c) → T (inSet rest c) → ⊥
 
--- rows of leads for the values d of v that are marked by 1 behind the rows
-pub record Memo (t : Task) (K : State) (v : ℕ) (memo : List ℕ) : Type 0 where
+-- a row of leads for each value d: to d, of the black variable v where v + 1 stands behind the rows at d
+pub record Memo (t : Task) (K : State) (memo : List ℕ) : Type 0 where
   pub long : length memo ≡ 4160
-  pub rows : (d c : ℕ) → d < 64 → c < count t v → getD memo (4096 + d) 0 ≡ 1 → getD memo (64 * d + c) 0 ≡ leadOf t K v c d
+  pub rows : (v d c : ℕ) → T (black t v) → d < 64 → c < count t v → getD memo (4096 + d) 0 ≡ v + 1 → getD memo (64 * d + c) 0 ≡ leadOf t K v c d
+
+-- the facts set a black variable
+unfoldable pub anyBlack : Task → List Fact → Bool
+anyBlack t [] = false
+anyBlack t (f ∷ fs) = black t (f .var) || anyBlack t fs
+
+-- the set has every variable that an action below k which sets a black variable needs
+abbrev pub Covers : Task → ℕ → ℕ → Type 0
+Covers t k m = (i v : ℕ) → i < k → T (anyBlack t (act t i .eff) && touches (act t i .pre) v) → T (inSet m v)
 
 -- the list l was written into d₀ from place a on, and d is left; or it does not fit
 abbrev pub Put : List ℕ → List ℕ → ℕ → List ℕ → Written → Type 0

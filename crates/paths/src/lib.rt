@@ -1,16 +1,16 @@
 // Shortest paths of one black variable along usable arcs. Breadth first backwards from the wanted value, one layer of equal
 // distance after another; the row of leads that it leaves gives, for each value, the smallest action that comes one move closer.
 ghost use mathlib.Core.Path.{_≡_};
-ghost use mathlib.Core.Bool.{_&&_};
+ghost use mathlib.Core.Bool.{_&&_, _||_};
 ghost use Prim.Native.Nat.{ℕ, _+_, _-_, _*_, _^_, _<_, _≤_, min};
 ghost use lib.Dec.{T};
 ghost use lib.ListN.{length, getD};
-ghost use Rattle.planning.specs.Runs.{look, actions, count, act, black};
+ghost use Rattle.planning.specs.Runs.{touches, look, actions, count, act, black};
 ghost use Rattle.planning.specs.Painting.{fits};
 ghost use Rattle.task.specs.Task.{taskIn, Loaded};
 ghost use Rattle.task.specs.Links.{Prepared};
 ghost use Rattle.state.specs.Sets.{inSet, setsOf, Asked};
-ghost use Rattle.paths.specs.Paths.{Member, lower, sourceOf, pathsOf, Leads, Marked, Kept, Apart, Memo, Put};
+ghost use Rattle.paths.specs.Paths.{Member, lower, sourceOf, pathsOf, Leads, Marked, Kept, Apart, Memo, anyBlack, Covers, Put};
 
 // Where a list ends after more was written, or that it does not fit.
 pub enum Written {
@@ -195,16 +195,16 @@ fn walk(
 // The row of leads to d stands in the memo: it is searched for if it does not yet.
 fn prepare(task: &[u16], ever: &[u64; 64], memo: &mut [u16], v: usize, d: usize)
     requires { ⌜ Prepared (now task) × T (black (taskIn (now task)) v) × (d < count (taskIn (now task)) v) ⌝ }
-    requires { ⌜ Memo (taskIn (now task)) (setsOf (now ever)) v (now memo) ⌝ }
-    ensures { λ _. ⌜ Memo (taskIn (now (task .entry))) (setsOf (now (ever .entry))) v (now (memo .exit)) × (getD (now (memo .exit)) (4096 + d) 0 ≡ 1) ⌝ }
+    requires { ⌜ Memo (taskIn (now task)) (setsOf (now ever)) (now memo) ⌝ }
+    ensures { λ _. ⌜ Memo (taskIn (now (task .entry))) (setsOf (now (ever .entry))) (now (memo .exit)) × (getD (now (memo .exit)) (4096 + d) 0 ≡ v + 1) ⌝ }
 {
-    if memo[4096 + d] == 1 {
+    if lists::wide(memo[4096 + d]) == v + 1 {
         return;
     }
     let from = 64 * d;
     let to = from + 64;
     towards(task, ever, &mut memo[from..to], v, d);
-    memo[4096 + d] = 1;
+    memo[4096 + d] = (v + 1) as u16;
 }
 
 // The path of v from c to d (6.7), written into the list from place `at` on.
@@ -218,13 +218,70 @@ pub fn path(
     list: &mut [u16],
     at: usize,
 ) -> Written
-    requires { ⌜ Prepared (now task) × T (black (taskIn (now task)) v) × Memo (taskIn (now task)) (setsOf (now ever)) v (now memo) ⌝ }
+    requires { ⌜ Prepared (now task) × T (black (taskIn (now task)) v) × Memo (taskIn (now task)) (setsOf (now ever)) (now memo) ⌝ }
     requires { ⌜ (c < count (taskIn (now task)) v) × (d < count (taskIn (now task)) v) × (at ≤ length (now list)) ⌝ }
     ensures { λ r. ⌜ Put (now (list .entry)) (now (list .exit)) at (pathsOf (taskIn (now (task .entry))) (setsOf (now (ever .entry))) v c d) r ⌝ }
-    ensures { λ _. ⌜ Memo (taskIn (now (task .entry))) (setsOf (now (ever .entry))) v (now (memo .exit)) ⌝ }
+    ensures { λ _. ⌜ Memo (taskIn (now (task .entry))) (setsOf (now (ever .entry))) (now (memo .exit)) ⌝ }
 {
     prepare(task, ever, memo, v, d);
     let from = 64 * d;
     let to = from + 64;
     walk(task, ever, &memo[from..to], v, c, d, list, at)
+}
+
+// Action i sets a black variable.
+fn sets_black(task: &[u16], i: usize) -> bool
+    requires { ⌜ Loaded (now task) × (i < actions (taskIn (now task))) ⌝ }
+    ensures { λ r. ⌜ r ≡ anyBlack (taskIn (now (task .entry))) (act (taskIn (now (task .entry))) i .eff) ⌝ }
+{
+    let end = task::eff_end(task, i);
+    let mut k = task::eff_start(task, i);
+    while k < end {
+        if task::is_black(task, lists::wide(task[k]) / 64) {
+            return true;
+        }
+        k += 1;
+    }
+    false
+}
+
+// The set, and the variables that action i needs.
+fn with_needs(task: &[u16], i: usize, set: u64) -> u64
+    requires { ⌜ Loaded (now task) × (i < actions (taskIn (now task))) ⌝ }
+    ensures { λ r. ⌜ ((v : ℕ) → inSet r v ≡ (inSet set v || touches (act (taskIn (now (task .entry))) i .pre) v)) ⌝ }
+{
+    let end = task::eff_start(task, i);
+    let mut m = set;
+    let mut k = task::pre_start(task, i);
+    while k < end {
+        m = m | state::single(lists::wide(task[k]) / 64);
+        k += 1;
+    }
+    m
+}
+
+// The set, and the variables that action i needs if it sets a black variable.
+fn with_moves(task: &[u16], i: usize, set: u64) -> u64
+    requires { ⌜ Loaded (now task) × (i < actions (taskIn (now task))) × Covers (taskIn (now task)) i set ⌝ }
+    ensures { λ r. ⌜ Covers (taskIn (now (task .entry))) (i + 1) r ⌝ }
+{
+    if sets_black(task, i) {
+        return with_needs(task, i, set);
+    }
+    set
+}
+
+// The variables that actions which set a black variable need: while no new fact of these is held, the same arcs are usable.
+pub fn needs(task: &[u16]) -> u64
+    requires { ⌜ Loaded (now task) ⌝ }
+    ensures { λ r. ⌜ Covers (taskIn (now (task .entry))) (actions (taskIn (now (task .entry)))) r ⌝ }
+{
+    let n = task::actions(task);
+    let mut set: u64 = 0;
+    let mut i: usize = 0;
+    while i < n {
+        set = with_moves(task, i, set);
+        i += 1;
+    }
+    set
 }

@@ -6,12 +6,12 @@ use Prim.Native.Nat.{ℕ, _+_, _-_, _<_, _≤_}
 use native.Mathlib.Omega.{arith}
 use lib.ListN.{length, take, drop, length-drop}
 use lib.Seq.{take-length, take-add, take-at, drop-at, getD-take, getD-drop, length-take-le, take-append-le}
-use Rattle.planning.specs.Record.{Fact, Action, Task}
+use Rattle.planning.specs.Record.{Fact, Task}
 use Rattle.planning.specs.Runs.{State, variables, actions, count, act, black}
 use Rattle.planning.specs.Repair.{blackMet}
-use Rattle.task.specs.Task.{factOf, factsIn, preAt, effAt, actionIn, taskIn, Loaded}
-use Rattle.task.proofs.Reading.{taskIn-act}
+use Rattle.task.specs.Task.{factOf, factsIn, preAt, effAt, taskIn, Loaded}
 use Rattle.state.proofs.Listing.{between-inside}
+use Rattle.paths.proofs.Facts.{pre-facts}
 use Rattle.paths.specs.Paths.{Put}
 use Rattle.paths.specs.declared.Written.{Written}
 use Rattle.paths.specs.declared.Written.the-variants.{Upto, Long}
@@ -19,46 +19,55 @@ use Rattle.passes.specs.Passes.{factsOf}
 use Rattle.passes.proofs.Putting.{pre-fitting, put-as}
 use Rattle.repair.specs.Repairs.{Wanted, Lent, filled, moved}
 
-module _ (t : Task) (K s : State) (w : List Fact) (plan : List ℕ) (a : ℕ) (b : Bool) (met : b ≡ blackMet (black t) s w) (h : a ≤ length plan) where
-  pub moves-none : b ≡ true → Put plan plan a (moved t K s w) (Upto a)
+pub moves-none : (t : Task) (K s : State) (w : List Fact) (plan : List ℕ) (a : ℕ) → blackMet (black t) s w ≡ true → a ≤ length plan → Put plan plan a (moved t K s w) (Upto a)
+unfolding moved
+moves-none t K s w plan a e h = rw (e, moved) (omega arith, h, sym (append-nil (take a plan)))
+
+-- the passes filled the part of the plan from place a on
+pub record Passed (t : Task) (K s : State) (w : List Fact) (plan : List ℕ) (a : ℕ) (ys : List ℕ) (r : Written) : Type 0 where
+  pub unmet : blackMet (black t) s w ≡ false
+  pub within : a ≤ length plan
+  pub long : length ys ≡ length (take (length plan - a) (drop a plan))
+  pub put : Put (take (length plan - a) (drop a plan)) ys 0 (filled t K s w) r
+
+module _ {t : Task} {K s : State} {w : List Fact} {plan : List ℕ} {a : ℕ} {ys : List ℕ} {r : Written} (P : Passed t K s w plan a ys r) where
+  moved-is : moved t K s w ≡ filled t K s w
   unfolding moved
-  moves-none e = rw (sym met ∙ e, moved) (omega arith, h, sym (append-nil (take a plan)))
+  moved-is = rw (P .unmet, moved) refl
 
-  -- the passes filled the part of the plan from place a on
-  module _ (e : b ≡ false) (k : ℕ) (ek : k ≡ length plan - a) (ys : List ℕ) (long : length ys ≡ length (take k (drop a plan))) (r : Written) (p : Put (take k (drop a plan)) ys 0 (filled t K s w) r) where
-    moved-is : moved t K s w ≡ filled t K s w
-    unfolding moved
-    moved-is = rw (sym met ∙ e, moved) refl
+  abbrev part′ : List ℕ
+  part′ = take (length plan - a) (drop a plan)
 
-    part-length : length (take k (drop a plan)) ≡ k
-    part-length = length-take-le k (drop a plan) (omega (arith, length-drop a plan))
+  part-length : length part′ ≡ length plan - a
+  part-length = length-take-le (length plan - a) (drop a plan) (omega (arith, length-drop a plan))
 
-    pub moves-long : r ≡ Long → length plan < a + length (moved t K s w)
-    moves-long q =
-        let z = put-as (take k (drop a plan)) ys 0 (filled t K s w) r Long q p in
-        omega (arith, z, part-length, ap length moved-is)
+  pub moves-long : r ≡ Long → length plan < a + length (moved t K s w)
+  moves-long q =
+      let z = put-as part′ ys 0 (filled t K s w) r Long q (P .put) in
+      omega (arith, z, part-length, ap length moved-is, P .within)
 
-    pub moves-some : (n : ℕ) → r ≡ Upto n → Put plan (take a plan ++ (ys ++ drop k (drop a plan))) a (moved t K s w) (Upto (a + n))
-    moves-some n q =
-        let z = put-as (take k (drop a plan)) ys 0 (filled t K s w) r (Upto n) q p in
-        let f : length (take a plan) ≡ a = length-take-le a plan h in
-        let whole : List ℕ = take a plan ++ (ys ++ drop k (drop a plan)) in
-        let front : take a whole ≡ take a plan = take-at (take a plan) (ys ++ drop k (drop a plan)) a f in
-        let behind : drop a whole ≡ ys ++ drop k (drop a plan) = drop-at (take a plan) (ys ++ drop k (drop a plan)) a f in (
-          omega (arith, z .0, ap length moved-is),
-          omega (arith, z .1, part-length),
-          take-add a n whole ∙ rw (front, behind, take-append-le n ys (drop k (drop a plan)) (omega (arith, z .1, long)), z .2, moved-is) refl,
-        )
+  module _ (n : ℕ) (q : r ≡ Upto n) where
+    told : Put part′ ys 0 (filled t K s w) (Upto n)
+    told = put-as part′ ys 0 (filled t K s w) r (Upto n) q (P .put)
 
-    pub moves-fit : (n : ℕ) → r ≡ Upto n → a + n ≤ length plan
-    moves-fit n q = let z = put-as (take k (drop a plan)) ys 0 (filled t K s w) r (Upto n) q p in omega (arith, z .1, part-length)
+    pub moves-fit : a + n ≤ length plan
+    moves-fit = omega (arith, told .1, part-length, P .within)
+
+    pub moves-some : Put plan (take a plan ++ (ys ++ drop (length plan - a) (drop a plan))) a (moved t K s w) (Upto (a + n))
+    moves-some =
+        let behind : List ℕ = ys ++ drop (length plan - a) (drop a plan) in
+        let f : length (take a plan) ≡ a = length-take-le a plan (P .within) in
+        let front : take a (take a plan ++ behind) ≡ take a plan = take-at (take a plan) behind a f in
+        let rest : drop a (take a plan ++ behind) ≡ behind = drop-at (take a plan) behind a f in
+        let kept = take-append-le n ys (drop (length plan - a) (drop a plan)) (omega (arith, told .1, P .long)) in
+        (omega (arith, told .0, ap length moved-is), moves-fit, take-add a n (take a plan ++ behind) ∙ rw (front, rest, kept, told .2, moved-is) refl)
 
 -- the parts of both lists from place a on
-pub parts-lent : (memo plan work : List ℕ) (a k j : ℕ) → Lent memo plan work a → k ≡ length plan - a → j ≡ length work - a → Lent memo (take k (drop a plan)) (take j (drop a work)) 0
-parts-lent memo plan work a k j L ek ej =
+pub parts-lent : (plan work : List ℕ) (a k j : ℕ) → Lent plan work a → k ≡ length plan - a → j ≡ length work - a → Lent (take k (drop a plan)) (take j (drop a work)) 0
+parts-lent plan work a k j L ek ej =
     let p : length (take k (drop a plan)) ≡ k = length-take-le k (drop a plan) (omega (arith, length-drop a plan)) in
     let w : length (take j (drop a work)) ≡ j = length-take-le j (drop a work) (omega (arith, length-drop a work)) in
-    record { memo-long = L .memo-long; same = omega (arith, p, w, L .same); within = omega arith }
+    record { same = omega (arith, p, w, L .same); within = omega arith }
 
 drop-take : (l : List ℕ) (a b : ℕ) → a ≤ b → b ≤ length l → drop a (take b l) ≡ take (b - a) (drop a l)
 drop-take l a b h n =
@@ -78,8 +87,7 @@ module _ (task : List ℕ) (L : Loaded task) (k from to i : ℕ) (ek : k ≡ i) 
       (omega (arith, ef, et, R .pre-below), omega (arith, et, R .eff-below, R .end-below))
 
   task-pre : factsIn task from to ≡ act t i .pre
-  unfolding actionIn
-  task-pre = rw (ef, et, ek) (sym (ap (λ (x : Action). x .pre) (taskIn-act task i b)))
+  task-pre = rw (ef, et, ek) (pre-facts task L i b)
 
   pub part-pre : factsOf part ≡ act t i .pre
   unfolding factsIn

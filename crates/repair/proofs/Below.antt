@@ -1,5 +1,5 @@
 -- Entries of the lists that passes build are actions; parts of a list that was written.
-use mathlib.Core.Path.{_≡_, refl, sym, ap, _∙_, subst, fun-ext}
+use mathlib.Core.Path.{_≡_, refl, sym, ap, _∙_, subst}
 use mathlib.Core.Bool.{Bool, true, false, _&&_, _||_}
 use mathlib.Core.List.{List, [], _∷_, _++_}
 use mathlib.Core.Option.{Option, none, some}
@@ -10,16 +10,14 @@ use lib.ListN.{length, getD, take, drop}
 use lib.Seq.{take-add, take-at, drop-at, length-take-le}
 use Rattle.planning.specs.Basics.{first, reach}
 use Rattle.planning.specs.Record.{Fact, Action, Task}
-use Rattle.planning.specs.Runs.{State, Mode, relaxed, look, variables, actions, count, act, black}
+use Rattle.planning.specs.Runs.{State, Mode, look, variables, actions, count, act, black}
 use Rattle.planning.specs.Painting.{target}
 use Rattle.planning.specs.Repair.{usableArc, adjacent, pathIn, shortest, toward, after, pass, fill, ready, clientsFirst, order, value, blackMet}
 use Rattle.planning.proofs.Tests.{and-l}
 use Rattle.planning.proofs.Below.{First?, first-is}
 use Rattle.planning.proofs.Steps.{All, all-append}
 use Rattle.passes.specs.Passes.{passOf, Entries}
-use Rattle.state.specs.Sets.{modeOf}
 use Rattle.paths.specs.Paths.{pathsOf}
-use Rattle.state.proofs.Members.{inSet-empty}
 use Rattle.repair.specs.Repairs.{fillFrom, filled, moved, stepsFor}
 
 all-entries : (n : ℕ) (l : List ℕ) → All (λ i. i < n) l → (k : ℕ) → k < length l → getD l k 0 < n
@@ -90,11 +88,6 @@ all-at P (x ∷ l) a (suc k) h = all-at P l (a .1) k (omega arith)
 pub order-at : (t : Task) (k : ℕ) → k < length (order t) → (getD (order t) k 0 < variables t) × T (black t (getD (order t) k 0))
 unfolding order
 order-at t k h = all-at (λ v. (v < variables t) × T (black t v)) (order t) (order-all (variables t) _ (black t) (variables t) (λ _. false)) k h
-
--- no variable acts as black
-pub mode-none : modeOf 0 ≡ relaxed
-unfolding modeOf
-mode-none = fun-ext (λ v. inSet-empty v)
 
 fill-entries : (t : Task) (K s : State) (vs l : List ℕ) (w : List Fact) → Entries t l → Entries t (fillFrom t K s vs l w)
 unfolding fill

@@ -63,27 +63,42 @@ module _ (plan work : List ℕ) (less room : ℕ) (ea : less ≡ min (length pla
   front-length : length (take room plan) ≡ room
   front-length = length-take-le room plan (room-bounds .0)
 
-  pub fronts-lent : (memo : List ℕ) → length memo ≡ 4160 → Lent memo (take room plan) (take room work) 0
-  fronts-lent memo m = record { memo-long = m; same = length-take-le room work (room-bounds .1) ∙ sym front-length; within = omega arith }
+  pub fronts-lent : Lent (take room plan) (take room work) 0
+  fronts-lent = record { same = length-take-le room work (room-bounds .1) ∙ sym front-length; within = omega arith }
 
-  module _ (l ys : List ℕ) (long : length ys ≡ length (take room plan)) (r : Written) (q : Put (take room plan) ys 0 l r) where
-    pub ends-long : r ≡ Long → (d : List ℕ) (p : ℕ) → p ≡ room → Held l d (capacityOf (length plan) (length work)) (Refused (record { number = 11; place = p }))
+-- the repair of the front parts, and the answer
+pub record Ended (l plan work : List ℕ) (less room : ℕ) (ys : List ℕ) (r : Written) : Type 0 where
+  pub least : less ≡ min (length plan) (length work)
+  pub is-room : room ≡ capacity less
+  pub long : length ys ≡ length (take room plan)
+  pub put : Put (take room plan) ys 0 l r
+
+module _ {l plan work : List ℕ} {less room : ℕ} {ys : List ℕ} {r : Written} (E : Ended l plan work less room ys r) where
+  pub ends-long : r ≡ Long → (d : List ℕ) (p : ℕ) → p ≡ room → Held l d (capacityOf (length plan) (length work)) (Refused (record { number = 11; place = p }))
+  unfolding answer
+  ends-long z d p e =
+      let y = put-as (take room plan) ys 0 l r Long z (E .put) in
+      let f = front-length plan work less room (E .least) (E .is-room) in
+      rw (← room-is plan work less room (E .least) (E .is-room))
+      (record { says = rw (room-short (length l) room (omega (arith, y, f)), e) refl; fills = λ n w. let x : _≡_ {A = ℕ} 0 1 = cc in absurd (omega arith) })
+
+  module _ (n : ℕ) (z : r ≡ Upto n) where
+    told : Put (take room plan) ys 0 l (Upto n)
+    told = put-as (take room plan) ys 0 l r (Upto n) z (E .put)
+
+    within : n ≤ room
+    within = omega (arith, told .1, front-length plan work less room (E .least) (E .is-room))
+
+    pub ends-small : n ≤ 32768
+    ends-small = omega (arith, within, room-bounds plan work less room (E .least) (E .is-room))
+
+    pub ends-held : (rest : List ℕ) (m : ℕ) → m ≡ n → Held l (ys ++ rest) (capacityOf (length plan) (length work)) (Value m)
     unfolding answer
-    ends-long z d p e =
-        let y = put-as (take room plan) ys 0 l r Long z q in
-        rw (← room-is) (record { says = rw (room-short (length l) room (omega (arith, y, front-length)), e) refl; fills = λ n w. let x : _≡_ {A = ℕ} 0 1 = cc in absurd (omega arith) })
-
-    pub ends-small : (n : ℕ) → r ≡ Upto n → n ≤ 32768
-    ends-small n z = let y = put-as (take room plan) ys 0 l r (Upto n) z q in omega (arith, y .1, front-length, room-bounds)
-
-    pub ends-held : (n : ℕ) → r ≡ Upto n → (rest : List ℕ) (m : ℕ) → m ≡ n → Held l (ys ++ rest) (capacityOf (length plan) (length work)) (Value m)
-    unfolding answer
-    ends-held n z rest m e =
-        let y = put-as (take room plan) ys 0 l r (Upto n) z q in
-        let b : m ≡ length l = omega (arith, y .0) in
-        rw (← room-is) (record {
-          says = rw (room-fits (length l) room (omega (arith, y .0, y .1, front-length)), b) refl;
-          fills = λ k w. let x : k ≡ n = cc in rw x (take-append-le n ys rest (omega (arith, y .1, long)) ∙ y .2);
+    ends-held rest m e =
+        let b : m ≡ length l = omega (arith, told .0) in
+        rw (← room-is plan work less room (E .least) (E .is-room)) (record {
+          says = rw (room-fits (length l) room (omega (arith, told .0, within)), b) refl;
+          fills = λ k w. let x : k ≡ n = cc in rw x (take-append-le n ys rest (omega (arith, told .1, E .long)) ∙ told .2);
         })
 
 -- what a caller reads off

@@ -12,7 +12,7 @@ use Rattle.planning.specs.Record.{Fact, Task}
 use Rattle.planning.specs.Runs.{State, variables, count, act, black}
 use Rattle.planning.specs.Repair.{fill, value, order}
 use Rattle.planning.proofs.Fill.{fill-grows}
-use Rattle.paths.specs.Paths.{pathsOf, Put}
+use Rattle.paths.specs.Paths.{pathsOf, Memo, Put}
 use Rattle.paths.specs.declared.Written.{Written}
 use Rattle.paths.specs.declared.Written.the-variants.{Upto, Long}
 use Rattle.passes.specs.Passes.{passOf, Entries}
@@ -23,17 +23,17 @@ use Rattle.repair.proofs.Below.{pass-entries, order-at}
 pub record Filling (t : Task) (K s : State) (vs : List ℕ) (w : List Fact) (plan₀ plan memo work : List ℕ) (e p : ℕ) : Type 0 where
   pub within : e ≤ length plan₀
   pub long : length plan ≡ length plan₀
-  pub memo-long : length memo ≡ 4160
+  pub rows : Memo t K memo
   pub work-long : length work ≡ length plan₀
   pub place : p ≤ length vs
   pub entries : Entries t (take e plan)
   pub so-far : fillFrom t K s vs [] w ≡ fillFrom t K s (drop p vs) (take e plan) w
 
-pub filling-start : (t : Task) (K s : State) (vs : List ℕ) (w : List Fact) (plan memo work : List ℕ) → length memo ≡ 4160 → length work ≡ length plan → Filling t K s vs w plan plan memo work 0 0
+pub filling-start : (t : Task) (K s : State) (vs : List ℕ) (w : List Fact) (plan memo work : List ℕ) → Memo t K memo → length work ≡ length plan → Filling t K s vs w plan plan memo work 0 0
 filling-start t K s vs w plan memo work m n = record {
   within = omega arith;
   long = refl;
-  memo-long = m;
+  rows = m;
   work-long = n;
   place = omega arith;
   entries = λ k b. absurd (omega arith);
@@ -65,14 +65,14 @@ module _ {t : Task} {K s : State} {vs : List ℕ} {w : List Fact} {plan₀ plan 
           let f : x ≤ length work′ = omega (arith, told .1) in
           (f, omega (arith, length-take-le x work′ f, told .1, G .work-long, G .long))
 
-      pub filling-turn : (plan′ memo′ : List ℕ) → plan′ ≡ take x work′ ++ drop (length (take x work′)) plan → length plan′ ≡ length plan → length memo′ ≡ 4160
+      pub filling-turn : (plan′ memo′ : List ℕ) → plan′ ≡ take x work′ ++ drop (length (take x work′)) plan → length plan′ ≡ length plan → Memo t K memo′
           → Filling t K s vs w plan₀ plan′ memo′ work′ x (p + 1)
       filling-turn plan′ memo′ ep l m =
           let u : take x plan′ ≡ passed = rw ep (take-at (take x work′) (drop (length (take x work′)) plan) x (length-take-le x work′ (filling-fits .0))) ∙ told .2 in
           record {
             within = omega (arith, told .1, G .work-long);
             long = l ∙ G .long;
-            memo-long = m;
+            rows = m;
             work-long = n ∙ G .work-long;
             place = omega arith;
             entries = rw u (pass-entries t K v c (take e plan) w (G .entries));

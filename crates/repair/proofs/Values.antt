@@ -1,5 +1,6 @@
 -- The small loops of the repair: the present value, the test of black facts, a list run step by step.
-use mathlib.Core.Path.{_≡_, refl, sym, _∙_, subst}
+use mathlib.Core.Path.{_≡_, refl, sym, _∙_, subst, fun-ext}
+use mathlib.Core.Logic.{inl, inr}
 use mathlib.Core.Bool.{Bool, true, false, not, _&&_, _||_}
 use mathlib.Core.List.{List, _∷_}
 use mathlib.Core.Option.{Option, none, some}
@@ -11,13 +12,18 @@ use lib.Dec.{T}
 use lib.ListN.{length, getD, take}
 use lib.Seq.{slice, slice-cons, slice-empty, length-slice, getD-take, getD-drop}
 use Rattle.planning.specs.Basics.{first}
-use Rattle.planning.specs.Record.{Task}
-use Rattle.planning.specs.Runs.{State, Mode, step, run, actions, act}
+use Rattle.planning.specs.Record.{Action, Task}
+use Rattle.planning.specs.Runs.{State, Mode, relaxed, holds, step, run, actions, act}
 use Rattle.planning.specs.Painting.{orZero}
 use Rattle.planning.specs.Repair.{value, blackMet}
 use Rattle.planning.proofs.Below.{First?, first-is}
+use Rattle.planning.proofs.Facts.{holds→sub}
+use Rattle.planning.proofs.Steps.{step-keep, step-cases}
+use Rattle.planning.proofs.Tests.{true→T}
 use Rattle.task.specs.Task.{factOf, factsIn}
-use Rattle.state.specs.Sets.{inSet, setsOf}
+use Rattle.state.specs.Sets.{inSet, setsOf, modeOf}
+use Rattle.state.proofs.Members.{inSet-empty}
+use Rattle.paths.proofs.Needing.{bool-same}
 use Rattle.state.proofs.Effects.{factsIn-cons, factsIn-none}
 use Rattle.paths.specs.Paths.{Member}
 use Rattle.passes.specs.Passes.{Entries}
@@ -53,35 +59,6 @@ module _ (sets : List ℕ) (v r : ℕ) (count : ℕ → ℕ) (few : count v ≤ 
   unfolding value setsOf
   value-zero h = sym (value-none (count v) (inSet (getD sets v 0)) (λ x b. m .skipped x (omega arith) (omega arith)))
 
--- one turn of a loop over facts, and its end
-module _ (l : List ℕ) (k : ℕ) (h : k < length l) (m : Mode) (s : State) (f : ℕ) (ef : f ≡ getD l k 0) where
-  abbrev rest : Bool
-  rest = blackMet m s (factsIn l (k + 1) (length l))
-
-  met-cons : blackMet m s (factsIn l k (length l)) ≡ ((not (m (f / 64)) || s (f / 64) (f % 64)) && rest)
-  unfolding blackMet factOf
-  met-cons = rw (factsIn-cons l k (length l) h (omega arith), ← ef) refl
-
-  pub met-fails : (m (f / 64) && not (s (f / 64) (f % 64))) ≡ true → blackMet m s (factsIn l k (length l)) ≡ false
-  met-fails a = met-cons ∙ go (m (f / 64)) (s (f / 64) (f % 64)) rest a
-    where
-      go : (x y z : Bool) → (x && not y) ≡ true → ((not x || y) && z) ≡ false
-      go true true z e = let q : _≡_ {A = ℕ} 0 1 = cc in absurd (omega arith)
-      go true false z e = refl
-      go false y z e = let q : _≡_ {A = ℕ} 0 1 = cc in absurd (omega arith)
-
-  pub met-passes : (m (f / 64) && not (s (f / 64) (f % 64))) ≡ false → blackMet m s (factsIn l k (length l)) ≡ rest
-  met-passes a = met-cons ∙ go (m (f / 64)) (s (f / 64) (f % 64)) rest a
-    where
-      go : (x y z : Bool) → (x && not y) ≡ false → ((not x || y) && z) ≡ z
-      go true true z e = refl
-      go true false z e = let q : _≡_ {A = ℕ} 0 1 = cc in absurd (omega arith)
-      go false y z e = refl
-
-pub met-end : (l : List ℕ) (k : ℕ) (m : Mode) (s : State) → k ≡ length l → blackMet m s (factsIn l k (length l)) ≡ true
-unfolding blackMet
-met-end l k m s e = rw (factsIn-none l k (length l) e) refl
-
 -- a part of a list that is run, entry by entry
 pub record Running (t : Task) (m : Mode) (l : List ℕ) (from to : ℕ) (sets₀ sets : List ℕ) (k : ℕ) : Type 0 where
   pub from-here : from ≤ k
@@ -112,9 +89,13 @@ module _ {t : Task} {m : Mode} {l : List ℕ} {from to : ℕ} {sets₀ sets : Li
       let z : k ≡ to = omega (arith, R .within) in
       sym (R .so-far ∙ rw (z, slice-empty to l) refl)
 
--- a black fact that is not held
-pub unmet-black : (b h x : Bool) → h ≡ x → b ≡ true → not h ≡ (b && not x)
-unmet-black b h x e q = rw (e, q) refl
+-- no variable acts as black
+pub mode-none : modeOf 0 ≡ relaxed
+unfolding modeOf
+mode-none = fun-ext (λ v. inSet-empty v)
 
-pub unmet-red : (b x : Bool) → b ≡ false → false ≡ (b && not x)
-unmet-red b x q = rw q refl
+-- an action whose effects are held adds nothing
+pub step-held : (a : Action) (K : State) → holds K (a .eff) ≡ true → K ≡ step relaxed a K
+step-held a K e = fun-ext (λ v. fun-ext (λ d. bool-same (K v d) (step relaxed a K v d)
+    (λ h. step-keep relaxed a K v d h (λ z. absurd z))
+    (λ h. elim (step-cases relaxed a K v d h) [ inl x ↦ holds→sub K (a .eff) (true→T (holds K (a .eff)) e) v d x | inr x ↦ x .0 ])))

@@ -20,9 +20,8 @@ pub record Wanted (t : Task) (facts : List ℕ) : Type 0 where
   pub inside : (k : ℕ) → k < length facts → getD facts k 0 / 64 < variables t
   pub fitting : Fitting t (factsOf facts)
 
--- room for rows of leads, two lists of one length, and a place in them
-pub record Lent (memo plan work : List ℕ) (at : ℕ) : Type 0 where
-  pub memo-long : length memo ≡ 4160
+-- two lists of one length, and a place in them
+pub record Lent (plan work : List ℕ) (at : ℕ) : Type 0 where
   pub same : length work ≡ length plan
   pub within : at ≤ length plan
 

@@ -11,14 +11,14 @@ ghost use mathlib.Core.Bool.{not, _&&_};
 ghost use Prim.Native.Nat.{_/_, _%_, _<_, _≤_};
 ghost use lib.ListN.{length};
 ghost use lib.Seq.{slice};
-ghost use Rattle.planning.specs.Runs.{run, variables, actions, count, act, black};
+ghost use Rattle.planning.specs.Runs.{relaxed, holds, run, variables, actions, count, act, black};
 ghost use Rattle.planning.specs.Repair.{value, blackMet, repaired};
 ghost use Rattle.planning.specs.Calls.{capacityOf};
 ghost use Rattle.task.specs.Task.{taskIn, Loaded};
 ghost use Rattle.task.specs.Links.{Prepared};
 ghost use Rattle.state.specs.Sets.{setsOf, modeOf};
-ghost use Rattle.paths.specs.Paths.{Put};
-ghost use Rattle.passes.specs.Passes.{factsOf, Entries};
+ghost use Rattle.paths.specs.Paths.{Memo, Covers, Put};
+ghost use Rattle.passes.specs.Passes.{factsOf, Entries, Blank};
 ghost use Rattle.repair.specs.Repairs.{Wanted, Lent, filled, moved, stepsFor, lastMoves, Held};
 
 // The present value of v.
@@ -70,6 +70,42 @@ fn run_list(task: &[u16], mut s: State, list: &[u16], from: usize, to: usize, mo
     s
 }
 
+// Each effect of action i is held.
+fn has_effects(task: &[u16], sets: &[u64; 64], i: usize) -> bool
+    requires { ⌜ Loaded (now task) × (i < actions (taskIn (now task))) ⌝ }
+    ensures { λ r. ⌜ r ≡ holds (setsOf (now (sets .entry))) (act (taskIn (now (task .entry))) i .eff) ⌝ }
+{
+    state::all_hold(sets, task, task::eff_start(task, i), task::eff_end(task, i))
+}
+
+// The facts held ever after the entries of a list from place `from` up to `to`. An action whose effects are held adds none.
+fn learn(
+    task: &[u16],
+    mut ever: State,
+    memo: &mut [u16],
+    list: &[u16],
+    from: usize,
+    to: usize,
+    needs: u64,
+) -> State
+    requires { ⌜ Loaded (now task) × (from ≤ to) × (to ≤ length (now list)) × Entries (taskIn (now task)) (slice from to (now list)) ⌝ }
+    requires { ⌜ Covers (taskIn (now task)) (actions (taskIn (now task))) needs × Memo (taskIn (now task)) (setsOf (ever .sets)) (now memo) ⌝ }
+    ensures { λ r. ⌜ setsOf (r .sets) ≡ run (act (taskIn (now (task .entry)))) relaxed (slice from to (now (list .entry))) (setsOf (ever .sets)) ⌝ }
+    ensures { λ r. ⌜ Memo (taskIn (now (task .entry))) (setsOf (r .sets)) (now (memo .exit)) ⌝ }
+{
+    let mut k = from;
+    while k < to {
+        let i = lists::wide(list[k]);
+        k += 1;
+        if has_effects(task, &ever.sets, i) {
+            continue;
+        }
+        passes::refresh(task, &ever.sets, memo, i, needs);
+        ever = ever.step(task, i, 0);
+    }
+    ever
+}
+
 // The passes of the black variables in their order: moves for the wanted facts, in the front of a list.
 fn fill(
     task: &[u16],
@@ -80,8 +116,10 @@ fn fill(
     plan: &mut [u16],
     work: &mut [u16],
 ) -> Written
-    requires { ⌜ Prepared (now task) × Wanted (taskIn (now task)) (now wanted) × Lent (now memo) (now plan) (now work) 0 ⌝ }
+    requires { ⌜ Prepared (now task) × Wanted (taskIn (now task)) (now wanted) × Lent (now plan) (now work) 0 ⌝ }
+    requires { ⌜ Memo (taskIn (now task)) (setsOf (now ever)) (now memo) ⌝ }
     ensures { λ r. ⌜ Put (now (plan .entry)) (now (plan .exit)) 0 (filled (taskIn (now (task .entry))) (setsOf (now (ever .entry))) (setsOf (now (sets .entry))) (factsOf (now (wanted .entry)))) r ⌝ }
+    ensures { λ _. ⌜ Memo (taskIn (now (task .entry))) (setsOf (now (ever .entry))) (now (memo .exit)) ⌝ }
 {
     let n = task::ordered(task);
     let mut e: usize = 0;
@@ -89,7 +127,6 @@ fn fill(
     while p < n {
         let v = task::order_at(task, p);
         let c = value(task, sets, v);
-        passes::forget(memo);
         let w = passes::pass(task, ever, memo, v, c, &plan[..e], wanted, work);
         let Written::Upto(x) = w else {
             return Written::Long;
@@ -112,8 +149,10 @@ fn moves(
     at: usize,
     work: &mut [u16],
 ) -> Written
-    requires { ⌜ Prepared (now task) × Wanted (taskIn (now task)) (now wanted) × Lent (now memo) (now plan) (now work) at ⌝ }
+    requires { ⌜ Prepared (now task) × Wanted (taskIn (now task)) (now wanted) × Lent (now plan) (now work) at ⌝ }
+    requires { ⌜ Memo (taskIn (now task)) (setsOf (now ever)) (now memo) ⌝ }
     ensures { λ r. ⌜ Put (now (plan .entry)) (now (plan .exit)) at (moved (taskIn (now (task .entry))) (setsOf (now (ever .entry))) (setsOf (now (sets .entry))) (factsOf (now (wanted .entry)))) r ⌝ }
+    ensures { λ _. ⌜ Memo (taskIn (now (task .entry))) (setsOf (now (ever .entry))) (now (memo .exit)) ⌝ }
 {
     if black_met(task, sets, wanted) {
         return Written::Upto(at);
@@ -144,8 +183,10 @@ fn arrange(
     at: usize,
     work: &mut [u16],
 ) -> Written
-    requires { ⌜ Prepared (now task) × (i < actions (taskIn (now task))) × Lent (now memo) (now plan) (now work) at ⌝ }
+    requires { ⌜ Prepared (now task) × (i < actions (taskIn (now task))) × Lent (now plan) (now work) at ⌝ }
+    requires { ⌜ Memo (taskIn (now task)) (setsOf (now ever)) (now memo) ⌝ }
     ensures { λ r. ⌜ Put (now (plan .entry)) (now (plan .exit)) at (stepsFor (taskIn (now (task .entry))) (setsOf (now (ever .entry))) (setsOf (now (sets .entry))) i) r ⌝ }
+    ensures { λ _. ⌜ Memo (taskIn (now (task .entry))) (setsOf (now (ever .entry))) (now (memo .exit)) ⌝ }
 {
     let k = lists::wide(i);
     let from = task::pre_start(task, k);
@@ -164,7 +205,8 @@ fn finish(
     at: usize,
     work: &mut [u16],
 ) -> Written
-    requires { ⌜ Prepared (now task) × Lent (now memo) (now plan) (now work) at ⌝ }
+    requires { ⌜ Prepared (now task) × Lent (now plan) (now work) at ⌝ }
+    requires { ⌜ Memo (taskIn (now task)) (setsOf (now ever)) (now memo) ⌝ }
     ensures { λ r. ⌜ Put (now (plan .entry)) (now (plan .exit)) at (lastMoves (taskIn (now (task .entry))) (setsOf (now (ever .entry))) (setsOf (now (sets .entry)))) r ⌝ }
 {
     let goals = Goals::load(task);
@@ -181,10 +223,11 @@ fn repair_from(
     plan: &mut [u16],
     work: &mut [u16],
 ) -> Written
-    requires { ⌜ Prepared (now task) × Entries (taskIn (now task)) (now relaxed) × Lent (now memo) (now plan) (now work) 0 ⌝ }
+    requires { ⌜ Prepared (now task) × Entries (taskIn (now task)) (now relaxed) × Blank (now memo) × Lent (now plan) (now work) 0 ⌝ }
     ensures { λ r. ⌜ Put (now (plan .entry)) (now (plan .exit)) 0 (repaired (taskIn (now (task .entry))) (now (relaxed .entry))) r ⌝ }
 {
     let paint = state::painted(task);
+    let needs = paths::needs(task);
     let mut s = State::initial(task);
     let mut ever = s;
     let mut at: usize = 0;
@@ -195,7 +238,7 @@ fn repair_from(
             return Written::Long;
         };
         s = run_list(task, s, plan, at, x, paint);
-        ever = run_list(task, ever, plan, at, x, 0);
+        ever = learn(task, ever, memo, plan, at, x, needs);
         at = x;
         j += 1;
     }
@@ -209,6 +252,7 @@ pub fn repair(task: &[u16], relaxed: &[u16], plan: &mut [u16], work: &mut [u16])
 {
     let room = lists::capacity(lists::lesser(plan.len(), work.len()));
     let mut memo = [0u16; 4160];
+    passes::forget(&mut memo);
     let w = repair_from(
         task,
         &mut memo,

@@ -22,7 +22,7 @@ asked-requires c κs =
 returns : tie.Need-returns
 returns c =
     let s = c .before .before .before .before in
-    asked-pre (s .args .task .now) (s .args .i) (s .args .v) _ _ _ (s .pre .1) (c .asked .ensures) (c .before .before .pre-start .ensures) (c .before .eff-start .ensures)
+    asked-pre _ (s .pre .0) _ (s .pre .1) (s .args .v) _ _ _ (c .asked .ensures) (c .before .before .pre-start .ensures) (c .before .eff-start .ensures)
 
 pub need-spec : {M : Type 1} → statement M
 need-spec = tie.close (tie.spec pre-start-requires eff-start-requires asked-requires returns)

@@ -44,7 +44,7 @@ walk-requires c κs =
       (
         s .pre .0 .0 .loaded,
         part-long _ (64 * a .d) k (omega arith) (omega (arith, M .0 .long, small s)),
-        memo-part _ _ (a .v) (a .d) (small s) (s .pre .0 .0 .loaded .formed .count-max (a .v)) _ k (omega arith) (M .0) (M .1),
+        memo-part _ _ (a .v) (a .d) (s .pre .0 .1) (small s) (s .pre .0 .0 .loaded .formed .count-max (a .v)) _ k (omega arith) (M .0) (M .1),
       ),
       (s .pre .1 .0, s .pre .1 .2),
     )

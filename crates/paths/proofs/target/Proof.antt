@@ -22,7 +22,7 @@ asked-requires c κs =
 returns : tie.Need-returns
 returns c =
     let s = c .before .before .before .before in
-    asked-eff (s .args .task .now) (s .args .i) (s .args .v) _ _ _ (s .pre .1) (c .asked .ensures) (c .before .before .eff-start .ensures) (c .before .eff-end .ensures)
+    asked-eff _ (s .pre .0) _ (s .pre .1) (s .args .v) _ _ _ (c .asked .ensures) (c .before .before .eff-start .ensures) (c .before .eff-end .ensures)
 
 pub target-spec : {M : Type 1} → statement M
 target-spec = tie.close (tie.spec eff-start-requires eff-end-requires asked-requires returns)

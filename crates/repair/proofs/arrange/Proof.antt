@@ -20,17 +20,17 @@ start-of c = c .before .before .before .before .before
 bounds : (c : tie.After-eff-start) → (c .before .pre-start .result ≤ c .eff-start .result) × (c .eff-start .result ≤ length (start-of (wide-of c) .args .task .now))
 bounds c =
     let k = wide-of c in
-    let p = start-of k .pre in
+    let p = start-of k .pre .0 in
     pre-bounds _ (p .0 .loaded) _ _ _ _ (k .wide .ensures) (p .1) (c .before .pre-start .ensures) (c .eff-start .ensures)
 
 wide-requires : tie.Need-wide-requires
 wide-requires c κs = search needs
 
 pre-start-requires : tie.Need-pre-start-requires
-pre-start-requires c κs = let p = start-of c .pre in (p .0 .loaded, omega (arith, p .1, c .wide .ensures))
+pre-start-requires c κs = let p = start-of c .pre .0 in (p .0 .loaded, omega (arith, p .1, c .wide .ensures))
 
 eff-start-requires : tie.Need-eff-start-requires
-eff-start-requires c κs = let p = start-of (c .before) .pre in (p .0 .loaded, omega (arith, p .1, c .before .wide .ensures))
+eff-start-requires c κs = let p = start-of (c .before) .pre .0 in (p .0 .loaded, omega (arith, p .1, c .before .wide .ensures))
 
 mul-moves : tie.Need-mul-moves
 mul-moves c = let e = c .before in omega (arith, bounds e, start-of (wide-of e) .good)
@@ -49,7 +49,7 @@ moves-requires c κs =
     let e = c .before .before .before .before in
     let k = wide-of e in
     let p = start-of k .pre in
-    (p .0, part-wanted _ (p .0 .loaded) _ _ _ _ (k .wide .ensures) (p .1) (e .before .pre-start .ensures) (e .eff-start .ensures), p .2)
+    ((p .0 .0, part-wanted _ (p .0 .0 .loaded) _ _ _ _ (k .wide .ensures) (p .0 .1) (e .before .pre-start .ensures) (e .eff-start .ensures), p .0 .2), p .1)
 
 push-requires : tie.Need-push-requires
 push-requires c κs = search needs
@@ -71,10 +71,12 @@ returns c =
     let s = start-of k in
     let a = s .args in
     let t = taskIn (a .task .now) in
-    c .before .before .push .ensures (a .plan .now) (a .at) (moved t (setsOf (a .ever .now)) (setsOf (a .sets .now)) (act t (a .i) .pre))
-    (c .before .before .before .before .before .before .before .plan .given)
-    (moves-pre (a .task .now) (s .pre .0 .loaded) _ _ _ _ (k .wide .ensures) (s .pre .1) (e .before .pre-start .ensures) (e .eff-start .ensures)
-    (setsOf (a .ever .now)) (setsOf (a .sets .now)) (a .plan .now) _ (a .at) (m .moves .result) (m .moves .ensures))
+    let put = moves-pre (a .task .now) (s .pre .0 .0 .loaded) _ _ _ _ (k .wide .ensures) (s .pre .0 .1) (e .before .pre-start .ensures) (e .eff-start .ensures)
+    (setsOf (a .ever .now)) (setsOf (a .sets .now)) (a .plan .now) _ (a .at) (m .moves .result) (m .moves .ensures .0) in (
+      c .before .before .push .ensures (a .plan .now) (a .at) (moved t (setsOf (a .ever .now)) (setsOf (a .sets .now)) (act t (a .i) .pre))
+          (c .before .before .before .before .before .before .before .plan .given) put,
+      m .moves .ensures .1,
+    )
 
 pub arrange-spec : {M : Type 1} → statement M
 arrange-spec =

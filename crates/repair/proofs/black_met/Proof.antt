@@ -8,7 +8,7 @@ use Rattle.planning.specs.Runs.{black}
 use Rattle.planning.specs.Repair.{blackMet}
 use Rattle.task.specs.Task.{factsIn, taskIn}
 use Rattle.state.specs.Sets.{setsOf}
-use Rattle.repair.proofs.Values.{met-fails, met-passes, met-end}
+use Rattle.passes.proofs.Holding.{met-fails, met-passes, met-end}
 use Rattle.repair.proofs.black_met.Statement.{statement}
 use Rattle.repair.proofs.black_met.Tie as tie
 
@@ -42,7 +42,7 @@ unmet-requires c κs =
 returns : tie.Need-returns Inv-loop μ-loop
 returns c =
     let h = c .before .before .before .before .before in
-    sym (h .loop .inv .1 ∙ met-fails _ _ (omega arith) _ _ _ (c .before .before .wide .ensures) (sym (c .before .unmet .ensures) ∙ c .if1 .taken))
+    sym (h .loop .inv .1 ∙ met-fails _ _ _ (omega arith) (omega arith) _ _ _ (c .before .before .wide .ensures) (sym (c .before .unmet .ensures) ∙ c .if1 .taken))
 
 add-k : tie.Need-add-k Inv-loop μ-loop
 add-k c = search needs
@@ -53,12 +53,12 @@ loop-less c = search needs
 loop-again : tie.Need-loop-again Inv-loop μ-loop
 loop-again c =
     let h = c .before .before .before .before .before in
-    (omega arith, h .loop .inv .1 ∙ met-passes _ _ (omega arith) _ _ _ (c .before .before .wide .ensures) (sym (c .before .unmet .ensures) ∙ c .if1 .left))
+    (omega arith, h .loop .inv .1 ∙ met-passes _ _ _ (omega arith) (omega arith) _ _ _ (c .before .before .wide .ensures) (sym (c .before .unmet .ensures) ∙ c .if1 .left))
 
 returns-2 : tie.Need-returns-2 Inv-loop μ-loop
 returns-2 c =
     let i = c .before .loop .inv in
-    sym (i .1 ∙ met-end _ _ _ _ (omega (arith, i .0)))
+    sym (i .1 ∙ met-end _ _ _ _ _ (omega (arith, i .0)))
 
 pub black-met-spec : {M : Type 1} → statement M
 black-met-spec =

@@ -31,7 +31,7 @@ moves-requires : tie.Need-moves-requires
 moves-requires c κs =
     let l = c .before .before .before .before .before in
     let p = start-of l .pre in
-    (p .0, goals-wanted (taskIn (start-of l .args .task .now)) (p .0 .loaded .formed) (l .load .result) (l .load .ensures) (few l), p .1)
+    ((p .0 .0, goals-wanted (taskIn (start-of l .args .task .now)) (p .0 .0 .loaded .formed) (l .load .result) (l .load .ensures) (few l), p .0 .1), p .1)
 
 same-length : tie.Need-same-length
 same-length c = search needs
@@ -48,7 +48,8 @@ returns c =
     let l = m .before .before .before .before .before .before in
     let s = start-of l in
     let a = s .args in
-    goals-moves (taskIn (a .task .now)) (s .pre .0 .loaded .formed) (l .load .result) (l .load .ensures) (few l) (setsOf (a .ever .now)) (setsOf (a .sets .now)) (a .plan .now) _ (a .at) (m .moves .result) (m .moves .ensures)
+    goals-moves (taskIn (a .task .now)) (s .pre .0 .0 .loaded .formed) (l .load .result) (l .load .ensures) (few l)
+    (setsOf (a .ever .now)) (setsOf (a .sets .now)) (a .plan .now) _ (a .at) (m .moves .result) (m .moves .ensures .0)
 
 pub finish-spec : {M : Type 1} → statement M
 finish-spec =

@@ -7,7 +7,7 @@ use lib.ListN.{length, take, drop}
 use Rattle.task.specs.Task.{taskIn}
 use Rattle.state.specs.Sets.{setsOf}
 use Rattle.passes.specs.Passes.{factsOf}
-use Rattle.repair.proofs.Arranging.{moves-none, moves-long, moves-some, moves-fit, parts-lent}
+use Rattle.repair.proofs.Arranging.{Passed, moves-none, moves-long, moves-some, moves-fit, parts-lent}
 use Rattle.repair.proofs.moves.Statement.{statement}
 use Rattle.repair.proofs.moves.Tie as tie
 
@@ -17,17 +17,30 @@ met-of c = c .before .before .before .before
 abbrev start-of : tie.Else1 → tie.Start
 start-of c = c .before .before .before .before .before .before .before
 
+abbrev fill-of : tie.After-plan → tie.After-fill
+fill-of c = c .before .before .before
+
 abbrev left-by : tie.After-fill → List ℕ
 left-by c = c .fill .last .1 .1 .1 .1 .1 .0
 
+passed : (c : tie.After-plan) → let f = fill-of c in let a = start-of (met-of f) .args in
+    Passed (taskIn (a .task .now)) (setsOf (a .ever .now)) (setsOf (a .sets .now)) (factsOf (a .wanted .now)) (a .plan .now) (a .at) (left-by f) (f .fill .result)
+passed c =
+    let f = fill-of c in
+    let b = met-of f in
+    record { unmet = sym (b .before .black-met .ensures) ∙ b .if1 .left; within = start-of b .pre .0 .2 .within; long = c .plan .given .0; put = f .fill .ensures .0 }
+
 black-met-requires : tie.Need-black-met-requires
-black-met-requires c κs = let p = c .before .before .before .before .before .pre in (p .0 .loaded, p .1)
+black-met-requires c κs = let p = c .before .before .before .before .before .pre .0 in (p .0 .loaded, p .1)
 
 returns : tie.Need-returns
 returns c =
     let s = c .before .before .before .before .before .before .before in
-    let a = s .args in
-    moves-none (taskIn (a .task .now)) (setsOf (a .ever .now)) (setsOf (a .sets .now)) (factsOf (a .wanted .now)) (a .plan .now) (a .at) _ (c .before .black-met .ensures) (s .pre .2 .within) (c .if1 .taken)
+    let a = s .args in (
+      moves-none (taskIn (a .task .now)) (setsOf (a .ever .now)) (setsOf (a .sets .now)) (factsOf (a .wanted .now)) (a .plan .now) (a .at) (sym (c .before .black-met .ensures) ∙ c .if1 .taken)
+          (s .pre .0 .2 .within),
+      s .pre .1,
+    )
 
 mul-fill : tie.Need-mul-fill
 mul-fill c = search needs
@@ -56,7 +69,7 @@ part-fill-end-2 c = search needs
 fill-requires : tie.Need-fill-requires
 fill-requires c κs =
     let p = start-of (c .before .before .before) .pre in
-    (p .0, p .1, parts-lent _ _ _ _ _ _ (p .2) refl refl)
+    ((p .0 .0, p .0 .1, parts-lent _ _ _ _ _ (p .0 .2) refl refl), p .1)
 
 enum-known-w : tie.Need-enum-known-w
 enum-known-w c = search needs
@@ -75,25 +88,13 @@ same-length-3 c = search needs
 
 returns-2 : tie.Need-returns-2
 returns-2 c =
-    let f = c .before .before .before .before .before .before .before .before in
-    let b = met-of f in
-    let s = start-of b in
-    let a = s .args in
-    moves-long (taskIn (a .task .now)) (setsOf (a .ever .now)) (setsOf (a .sets .now)) (factsOf (a .wanted .now)) (a .plan .now) (a .at) _ (b .before .black-met .ensures) (s .pre .2 .within) (b .if1 .left)
-    (length (a .plan .now) - a .at) refl (left-by f) (c .before .before .before .before .before .plan .given .0) (f .fill .result) (f .fill .ensures) (c .enum-told .given .1)
+    let p = c .before .before .before .before .before in
+    (moves-long (passed p) (c .enum-told .given .1), fill-of p .fill .ensures .1)
 
 add-t14 : tie.Need-add-t14
 add-t14 c =
-    let f = c .before .before .before .before .before .before .before .before .before in
-    let b = met-of f in
-    let s = start-of b in
-    let a = s .args in
-    omega (
-      arith,
-      s .good,
-      moves-fit (taskIn (a .task .now)) (setsOf (a .ever .now)) (setsOf (a .sets .now)) (factsOf (a .wanted .now)) (a .plan .now) (a .at) _ (b .before .black-met .ensures) (s .pre .2 .within)
-          (b .if1 .left) (length (a .plan .now) - a .at) refl (left-by f) (c .before .before .before .before .before .before .plan .given .0) (f .fill .result) (f .fill .ensures) _ (c .before .w .given .1),
-    )
+    let p = c .before .before .before .before .before .before in
+    omega (arith, start-of (met-of (fill-of p)) .good, moves-fit (passed p) _ (c .before .w .given .1))
 
 same-length-4 : tie.Need-same-length-4
 same-length-4 c = search needs
@@ -106,12 +107,8 @@ same-length-6 c = search needs
 
 returns-3 : tie.Need-returns-3
 returns-3 c =
-    let f = c .before .before .before .before .before .before .before .before .before in
-    let b = met-of f in
-    let s = start-of b in
-    let a = s .args in
-    moves-some (taskIn (a .task .now)) (setsOf (a .ever .now)) (setsOf (a .sets .now)) (factsOf (a .wanted .now)) (a .plan .now) (a .at) _ (b .before .black-met .ensures) (s .pre .2 .within)
-    (b .if1 .left) (length (a .plan .now) - a .at) refl (left-by f) (c .before .before .before .before .before .before .plan .given .0) (f .fill .result) (f .fill .ensures) _ (c .before .w .given .1)
+    let p = c .before .before .before .before .before .before in
+    (moves-some (passed p) _ (c .before .w .given .1), fill-of p .fill .ensures .1)
 
 pub moves-spec : {M : Type 1} → statement M
 moves-spec =

@@ -2,7 +2,7 @@ use borrow.Author.Needs.{needs}
 use mathlib.Core.Path.{sym, _∙_}
 use Prim.Native.Nat.{_/_, _%_}
 use Rattle.state.specs.Sets.{setsOf}
-use Rattle.repair.proofs.Values.{unmet-black, unmet-red}
+use Rattle.passes.proofs.Holding.{unmet-black, unmet-red}
 use Rattle.repair.proofs.unmet.Statement.{statement}
 use Rattle.repair.proofs.unmet.Tie as tie
 

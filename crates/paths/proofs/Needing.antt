@@ -1,0 +1,153 @@
+-- Which variables moves need, and why rows of leads stay right while nothing new of these is held: a lead depends on the facts
+-- known by the usable arcs alone, and an arc of a black variable is given by an action that sets it.
+use mathlib.Core.Path.{_≡_, refl, sym, ap, _∙_, subst, fun-ext}
+use mathlib.Core.Logic.{_⊎_, inl, inr}
+use mathlib.Core.Bool.{Bool, true, false, not, _&&_, _||_, or-false, or-assoc, and-false}
+use mathlib.Core.List.{List, [], _∷_}
+use mathlib.Core.Option.{Option, none, some}
+use Prim.Native.Nat.{ℕ, zero, suc, _+_, _/_, _^_, _<_, _≤_}
+use native.Mathlib.Omega.{arith}
+use native.Mathlib.Decide.{decLt}
+use lib.Bits.{bitOr}
+use lib.Dec.{T, eqb, eqb→eq}
+use lib.ListN.{length, getD}
+use Rattle.planning.specs.Basics.{first, someBelow, reach}
+use Rattle.planning.specs.Record.{Fact, Action, Task}
+use Rattle.planning.specs.Runs.{State, has, touches, look, holds, actions, count, act, black, noAction}
+use Rattle.planning.specs.Painting.{target, fits, leaves, arcFrom}
+use Rattle.planning.specs.Repair.{usableArc, adjacent}
+use Rattle.planning.proofs.Facts.{_⊆_, has→touches, look-some, holds→sub, sub→holds}
+use Rattle.planning.proofs.Fields.{act-past}
+use Rattle.planning.proofs.Tests.{T→true, F→false, true→T, or-l, or-r, or-cases, and-l, and-r, and-i}
+use Rattle.task.specs.Task.{factOf, factsIn}
+use Rattle.state.specs.Sets.{inSet}
+use Rattle.state.proofs.Effects.{factsIn-cons, factsIn-none}
+use Rattle.state.proofs.Members.{inSet-or, inSet-single}
+use Rattle.paths.specs.Paths.{leadIn, lead, numberOf, Memo, anyBlack, Covers}
+
+-- one turn of a loop over facts, and its end
+module _ (l : List ℕ) (k to : ℕ) (h : k < to) (b : to ≤ length l) (f : ℕ) (ef : f ≡ getD l k 0) where
+  any-cons : (t : Task) → anyBlack t (factsIn l k to) ≡ (black t (f / 64) || anyBlack t (factsIn l (k + 1) to))
+  unfolding anyBlack factOf
+  any-cons t = rw (factsIn-cons l k to h b, ← ef) refl
+
+  pub any-here : (t : Task) → black t (f / 64) ≡ true → anyBlack t (factsIn l k to) ≡ true
+  any-here t e = any-cons t ∙ rw e refl
+
+  pub any-later : (t : Task) → black t (f / 64) ≡ false → anyBlack t (factsIn l k to) ≡ anyBlack t (factsIn l (k + 1) to)
+  any-later t e = any-cons t ∙ rw e refl
+
+  touches-cons : (v : ℕ) → touches (factsIn l k to) v ≡ (eqb v (f / 64) || touches (factsIn l (k + 1) to) v)
+  unfolding touches factOf
+  touches-cons v = rw (factsIn-cons l k to h b, ← ef) refl
+
+  -- the fact's variable joins the set
+  pub joined : (m x v : ℕ) → x ≡ 2 ^ (f / 64) → (inSet m v || touches (factsIn l k to) v) ≡ (inSet (bitOr m x) v || touches (factsIn l (k + 1) to) v)
+  joined m x v e =
+      rw (touches-cons v, inSet-or m x v, e, inSet-single (f / 64) v)
+      (sym (or-assoc (inSet m v) (eqb v (f / 64)) (touches (factsIn l (k + 1) to) v)))
+
+pub any-end : (t : Task) (l : List ℕ) (k to : ℕ) → k ≡ to → anyBlack t (factsIn l k to) ≡ false
+unfolding anyBlack
+any-end t l k to e = rw (factsIn-none l k to e) refl
+
+pub joined-end : (l : List ℕ) (k to m v : ℕ) → k ≡ to → (inSet m v || touches (factsIn l k to) v) ≡ inSet m v
+unfolding touches
+joined-end l k to m v e = rw (factsIn-none l k to e) (or-false (inSet m v))
+
+-- one action more is covered
+module _ (t : Task) (i m r : ℕ) (C : Covers t i m) where
+  below : (j : ℕ) → j < i + 1 → Dec (j < i) → (j < i) ⊎ (j ≡ i)
+  below j h (yes l) = inl l
+  below j h (no l) = inr (omega arith)
+
+  pub covers-black : ((v : ℕ) → inSet r v ≡ (inSet m v || touches (act t i .pre) v)) → Covers t (i + 1) r
+  covers-black e j v h q = rw (e v) (elim (below j h (decLt j i)) [
+    | inl l ↦ or-l (inSet m v) (touches (act t i .pre) v) (C j v l q)
+    | inr l ↦ or-r (inSet m v) (touches (act t i .pre) v) (and-r (anyBlack t (act t i .eff)) (touches (act t i .pre) v) (subst (λ (x : ℕ). T (anyBlack t (act t x .eff) && touches (act t x .pre) v)) l q))
+  ])
+
+  pub covers-red : anyBlack t (act t i .eff) ≡ false → Covers t (i + 1) m
+  covers-red e j v h q = elim (below j h (decLt j i)) [
+    | inl l ↦ C j v l q
+    | inr l ↦ absurd (subst T e (and-l (anyBlack t (act t i .eff)) (touches (act t i .pre) v) (subst (λ (x : ℕ). T (anyBlack t (act t x .eff) && touches (act t x .pre) v)) l q)))
+  ]
+
+-- leads with the same arcs
+module _ (act : ℕ → Action) (A : ℕ) (K L : State) (v n : ℕ) (same : (c i : ℕ) → usableArc act K v c i ≡ usableArc act L v c i) where
+  arcs : usableArc act K v ≡ usableArc act L v
+  arcs = fun-ext (λ c. fun-ext (λ i. same c i))
+
+  adjacent-same : adjacent act A K v ≡ adjacent act A L v
+  unfolding adjacent
+  adjacent-same = ap (λ (u : ℕ → ℕ → Bool). λ (c e : ℕ). someBelow A (λ i. u c i && eqb (target act v i) e)) arcs
+
+  leadIn-same : (k c d : ℕ) → leadIn act A K v n k c d ≡ leadIn act A L v n k c d
+  unfolding leadIn
+  leadIn-same zero c d = refl
+  leadIn-same (suc k) c d =
+      ap (λ (u : ℕ → ℕ → Bool). first A (λ i. u c i && reach n (adjacent act A K v) k (target act v i) d)) arcs
+      ∙ ap (λ (a : ℕ → ℕ → Bool). first A (λ i. usableArc act L v c i && reach n a k (target act v i) d)) adjacent-same
+
+  lead-same : (c d : ℕ) → lead act A K v n c d ≡ lead act A L v n c d
+  unfolding lead
+  lead-same c d =
+      ap (λ (a : ℕ → ℕ → Bool). elim (first n (λ k. reach n a k c d)) [ none ↦ none | some k ↦ leadIn act A K v n k c d ]) adjacent-same
+      ∙ go (first n (λ k. reach n (adjacent act A L v) k c d))
+    where
+      go : (o : Option ℕ) → _≡_ {A = Option ℕ} (elim o [ none ↦ none | some k ↦ leadIn act A K v n k c d ]) (elim o [ none ↦ none | some k ↦ leadIn act A L v n k c d ])
+      go none = refl
+      go (some k) = leadIn-same k c d
+
+-- facts on a black variable
+touches-any : (t : Task) (fs : List Fact) (v : ℕ) → T (black t v) → T (touches fs v) → T (anyBlack t fs)
+unfolding touches anyBlack
+touches-any t [] v b h = h
+touches-any t (f ∷ fs) v b h = elim (or-cases (eqb v (f .var)) (touches fs v) h) [
+  | inl q ↦ or-l (black t (f .var)) (anyBlack t fs) (subst (λ (x : ℕ). T (black t x)) (eqb→eq v (f .var) q) b)
+  | inr q ↦ or-r (black t (f .var)) (anyBlack t fs) (touches-any t fs v b q)
+]
+
+-- an action that sets something is one of the task
+sets-inside : (t : Task) (i v x : ℕ) → look (act t i .eff) v ≡ some x → i < actions t
+unfolding look
+sets-inside t i v x e = go (decLt i (actions t))
+  where
+    go : Dec (i < actions t) → i < actions t
+    go (yes b) = b
+    go (no n) =
+        let q : look (act t i .eff) v ≡ look [] v = ap (λ (a : Action). look (a .eff) v) (act-past t i (omega arith)) in
+        let z : _≡_ {A = ℕ} 0 1 = cc in absurd (omega arith)
+
+pub bool-same : (a b : Bool) → (T a → T b) → (T b → T a) → a ≡ b
+bool-same true true f g = refl
+bool-same true false f g = absurd (f tt)
+bool-same false true f g = absurd (g tt)
+bool-same false false f g = refl
+
+-- more facts are known, but none of a needed variable
+module _ (t : Task) (m : ℕ) (C : Covers t (actions t) m) (K L : State) (sub : K ⊆ L) (new : (v d : ℕ) → T (inSet m v) → T (L v d) → T (K v d)) where
+  pre-same : (i : ℕ) → i < actions t → T (anyBlack t (act t i .eff)) → holds K (act t i .pre) ≡ holds L (act t i .pre)
+  pre-same i b q =
+      bool-same (holds K (act t i .pre)) (holds L (act t i .pre))
+      (λ h. sub→holds L (act t i .pre) (λ v d x. sub v d (holds→sub K (act t i .pre) h v d x)))
+      (λ h. sub→holds K (act t i .pre) (λ v d x. new v d (C i v b (and-i (anyBlack t (act t i .eff)) (touches (act t i .pre) v) q (has→touches (act t i .pre) v d x))) (holds→sub L (act t i .pre) h v d x)))
+
+  usable-same : (v : ℕ) → T (black t v) → (c i : ℕ) → usableArc (act t) K v c i ≡ usableArc (act t) L v c i
+  unfolding usableArc arcFrom leaves
+  usable-same v bl c i = go (look (act t i .eff) v) refl
+    where
+      f : Bool
+      f = fits (look (act t i .pre) v) c
+
+      go : (o : Option ℕ) → look (act t i .eff) v ≡ o → (holds K (act t i .pre) && (f && leaves o c)) ≡ (holds L (act t i .pre) && (f && leaves o c))
+      go none e = simp and-false
+      go (some x) e =
+          let any : T (anyBlack t (act t i .eff)) = touches-any t (act t i .eff) v bl (has→touches (act t i .eff) v x (look-some (act t i .eff) v x e)) in
+          rw (pre-same i (sets-inside t i v x e) any) refl
+
+  pub memo-same : (memo : List ℕ) → Memo t K memo → Memo t L memo
+  memo-same memo M = record {
+    long = M .long;
+    rows = λ v d c bl b cb e. M .rows v d c bl b cb e ∙ ap numberOf (lead-same (act t) (actions t) K L v (count t v) (usable-same v bl) c d);
+  }
