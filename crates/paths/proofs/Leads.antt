@@ -112,7 +112,8 @@ module _ (A rest : ℕ) (D D′ : ℕ → ℕ → Type 0) (row row′ : List ℕ
     ]);
   }
 
-pub marks-map : (A rest : ℕ) (D D′ : ℕ → ℕ → Type 0) (row : List ℕ) (grow : ℕ) → ((c j : ℕ) → j < A → D c j → D′ c j) → ((c j : ℕ) → j < A → D′ c j → D c j) → Marks A rest D row grow → Marks A rest D′ row grow
+pub marks-map : (A rest : ℕ) (D D′ : ℕ → ℕ → Type 0) (row : List ℕ) (grow : ℕ)
+    → ((c j : ℕ) → j < A → D c j → D′ c j) → ((c j : ℕ) → j < A → D′ c j → D c j) → Marks A rest D row grow → Marks A rest D′ row grow
 marks-map A rest D D′ row grow f g M = record {
   least = λ c cb r. next-map A (D c) (D′ c) (getD row c 0) (f c) (g c) (M .least c cb r);
   inside = M .inside;
@@ -340,11 +341,14 @@ module _ (t : Task) (F : Formed t) (K : State) (v : ℕ) where
           | inl y ↦ kept c b y
           | inr y ↦
               let x = T-not (R k c) y in
-              unmarked c b x (none c) ∙ sym (ap numberOf (lead-never c (λ j jb r. x (reach-stable n adj d db k (λ c b r. elim (T-cases (R k c)) [ inl z ↦ z | inr z ↦ absurd (none c (reach-marked c b (T-not (R k c) z) r)) ]) j c b r))))
+              unmarked c b x (none c) ∙ sym (ap numberOf (lead-never c (λ j jb r. x (reach-stable n adj d db k stays j c b r))))
         ]
           where
             none : (c : ℕ) → T (inSet grow c) → ⊥
             none c g = rw (e, inSet-empty c) at g
+
+            stays : (c : ℕ) → c < n → T (R (suc k) c) → T (R k c)
+            stays c b r = elim (T-cases (R k c)) [ inl z ↦ z | inr z ↦ absurd (none c (reach-marked c b (T-not (R k c) z) r)) ]
 
       pub layered-end : n ≤ suc k → Leads t K v d row
       unfolding numberOf

@@ -64,7 +64,8 @@ module _ (t : Task) (K : State) (v d : ℕ) (bl : T (black t v)) (b : d < 64) (f
     -- a row of another value stands as it was
     other-row : (u e c : ℕ) → T (black t u) → e < 64 → c < 64 → c < count t u → (e ≡ d → ⊥) → getD marked (4096 + e) 0 ≡ u + 1 → getD marked (64 * e + c) 0 ≡ leadOf t K u c e
     other-row u e c ub eb cs cb ne h =
-        let m : getD memo (4096 + e) 0 ≡ u + 1 = sym (splice-behind memo row (64 * d) long fits (4096 + e) (omega arith)) ∙ sym (getD-set-other written (4096 + d) (4096 + e) (v + 1) 0 (omega arith)) ∙ h in
+        let same : getD marked (4096 + e) 0 ≡ getD written (4096 + e) 0 = getD-set-other written (4096 + d) (4096 + e) (v + 1) 0 (omega arith) in
+        let m : getD memo (4096 + e) 0 ≡ u + 1 = sym (same ∙ splice-behind memo row (64 * d) long fits (4096 + e) (omega arith)) ∙ h in
         getD-set-other written (4096 + d) (64 * e + c) (v + 1) 0 (omega arith) ∙ apart (decLt e d) ∙ M .rows u e c ub eb cb m
       where
         apart : Dec (e < d) → getD written (64 * e + c) 0 ≡ getD memo (64 * e + c) 0

@@ -61,16 +61,19 @@ module _ (t : Task) (i m r : ℕ) (C : Covers t i m) where
   below j h (yes l) = inl l
   below j h (no l) = inr (omega arith)
 
+  abbrev asks : ℕ → ℕ → Bool
+  asks j v = anyBlack t (act t j .eff) && touches (act t j .pre) v
+
   pub covers-black : ((v : ℕ) → inSet r v ≡ (inSet m v || touches (act t i .pre) v)) → Covers t (i + 1) r
   covers-black e j v h q = rw (e v) (elim (below j h (decLt j i)) [
     | inl l ↦ or-l (inSet m v) (touches (act t i .pre) v) (C j v l q)
-    | inr l ↦ or-r (inSet m v) (touches (act t i .pre) v) (and-r (anyBlack t (act t i .eff)) (touches (act t i .pre) v) (subst (λ (x : ℕ). T (anyBlack t (act t x .eff) && touches (act t x .pre) v)) l q))
+    | inr l ↦ or-r (inSet m v) (touches (act t i .pre) v) (and-r (anyBlack t (act t i .eff)) (touches (act t i .pre) v) (subst (λ (x : ℕ). T (asks x v)) l q))
   ])
 
   pub covers-red : anyBlack t (act t i .eff) ≡ false → Covers t (i + 1) m
   covers-red e j v h q = elim (below j h (decLt j i)) [
     | inl l ↦ C j v l q
-    | inr l ↦ absurd (subst T e (and-l (anyBlack t (act t i .eff)) (touches (act t i .pre) v) (subst (λ (x : ℕ). T (anyBlack t (act t x .eff) && touches (act t x .pre) v)) l q)))
+    | inr l ↦ absurd (subst T e (and-l (anyBlack t (act t i .eff)) (touches (act t i .pre) v) (subst (λ (x : ℕ). T (asks x v)) l q)))
   ]
 
 -- leads with the same arcs
@@ -131,7 +134,10 @@ module _ (t : Task) (m : ℕ) (C : Covers t (actions t) m) (K L : State) (sub : 
   pre-same i b q =
       bool-same (holds K (act t i .pre)) (holds L (act t i .pre))
       (λ h. sub→holds L (act t i .pre) (λ v d x. sub v d (holds→sub K (act t i .pre) h v d x)))
-      (λ h. sub→holds K (act t i .pre) (λ v d x. new v d (C i v b (and-i (anyBlack t (act t i .eff)) (touches (act t i .pre) v) q (has→touches (act t i .pre) v d x))) (holds→sub L (act t i .pre) h v d x)))
+      (λ h. sub→holds K (act t i .pre) (λ v d x. new v d (covered v d x) (holds→sub L (act t i .pre) h v d x)))
+    where
+      covered : (v d : ℕ) → T (has (act t i .pre) v d) → T (inSet m v)
+      covered v d x = C i v b (and-i (anyBlack t (act t i .eff)) (touches (act t i .pre) v) q (has→touches (act t i .pre) v d x))
 
   usable-same : (v : ℕ) → T (black t v) → (c i : ℕ) → usableArc (act t) K v c i ≡ usableArc (act t) L v c i
   unfolding usableArc arcFrom leaves

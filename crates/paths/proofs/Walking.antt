@@ -88,8 +88,9 @@ module _ (t : Task) (F : Formed t) (K : State) (v d : ℕ) where
               let h : T (usableArc (act t) K v c i) = and-l (usableArc (act t) K v c i) (R k (target (act t) v i)) (g .passes) in
               let r : T (R k (target (act t) v i)) = and-r (usableArc (act t) K v c i) (R k (target (act t) v i)) (g .passes) in
               let b : suc k < n = f .below in
+              let there : target (act t) v i < n = range t F K v i (target (act t) v i) (g .below) (usableArc-sets t F K v c i (g .below) h) in
               let s : Path′ (target (act t) v i) ≡ pathIn (act t) A K v n k (target (act t) v i) d = shortest-at k (target (act t) v i) (omega arith) r
-              (λ j l z. f .least (suc j) (omega arith) (reach-move n (adjacent (act t) A K v) j c (target (act t) v i) d (range t F K v i (target (act t) v i) (g .below) (usableArc-sets t F K v c i (g .below) h)) (usableArc-adj t F K v c i (g .below) h) z)) in
+              (λ j l z. f .least (suc j) (omega arith) (reach-move n (adjacent (act t) A K v) j c (target (act t) v i) d there (usableArc-adj t F K v c i (g .below) h) z)) in
               rw e (record {
                 below = g .below;
                 hops = h;

@@ -46,7 +46,8 @@ pub record Repairing (t : Task) (l₀ plan₀ plan memo work sets ever : List �
   pub knows : known (black t) (setsOf sets) held ≡ setsOf ever
   pub so-far : repaired t l₀ ≡ take a plan ++ restOf t (drop j l₀) (setsOf sets) held
 
-pub repairing-start : (t : Task) (l₀ plan memo work sets ever : List ℕ) → Blank memo → Lent plan work 0 → setsOf sets ≡ initial t → setsOf ever ≡ initial t → Repairing t l₀ plan plan memo work sets ever 0 0
+pub repairing-start : (t : Task) (l₀ plan memo work sets ever : List ℕ) → Blank memo → Lent plan work 0
+    → setsOf sets ≡ initial t → setsOf ever ≡ initial t → Repairing t l₀ plan plan memo work sets ever 0 0
 unfolding repaired
 repairing-start t l₀ plan memo work sets ever B L es ee = record {
   held = initial t;

@@ -68,7 +68,8 @@ returns c =
     let h = c .before .before .before .before .before in
     let s = start-of h in
     let i = h .loop .inv in
-    sym (i .3 ∙ met-fails _ _ _ (omega arith) (omega (arith, i .2, s .pre .0 .rows _ (s .pre .1) .end-below)) _ _ _ (c .before .before .wide .ensures) (sym (c .before .unheld .ensures) ∙ c .if1 .taken))
+    let to = s .pre .0 .rows _ (s .pre .1) .end-below in
+    sym (i .3 ∙ met-fails _ _ _ (omega arith) (omega (arith, i .2, to)) _ _ _ (c .before .before .wide .ensures) (sym (c .before .unheld .ensures) ∙ c .if1 .taken))
 
 add-k : tie.Need-add-k Inv-loop μ-loop
 add-k c = search needs
@@ -80,11 +81,12 @@ loop-again : tie.Need-loop-again Inv-loop μ-loop
 loop-again c =
     let h = c .before .before .before .before .before in
     let s = start-of h in
-    let i = h .loop .inv in (
+    let i = h .loop .inv in
+    let to = s .pre .0 .rows _ (s .pre .1) .end-below in (
       omega (arith, i .0),
       omega arith,
       i .2,
-      i .3 ∙ met-passes _ _ _ (omega arith) (omega (arith, i .2, s .pre .0 .rows _ (s .pre .1) .end-below)) _ _ _ (c .before .before .wide .ensures) (sym (c .before .unheld .ensures) ∙ c .if1 .left),
+      i .3 ∙ met-passes _ _ _ (omega arith) (omega (arith, i .2, to)) _ _ _ (c .before .before .wide .ensures) (sym (c .before .unheld .ensures) ∙ c .if1 .left),
     )
 
 returns-2 : tie.Need-returns-2 Inv-loop μ-loop

@@ -60,7 +60,8 @@ returns c =
     let h = c .before .before .before .before .before in
     let s = start-of h in
     let i = h .loop .inv in
-    sym (i .3 ∙ any-here _ _ _ (omega arith) (omega (arith, i .2, s .pre .0 .rows _ (s .pre .1) .end-below)) _ (c .before .before .wide .ensures) _ (sym (c .before .is-black .ensures) ∙ c .if1 .taken))
+    let to = s .pre .0 .rows _ (s .pre .1) .end-below in
+    sym (i .3 ∙ any-here _ _ _ (omega arith) (omega (arith, i .2, to)) _ (c .before .before .wide .ensures) _ (sym (c .before .is-black .ensures) ∙ c .if1 .taken))
 
 add-k : tie.Need-add-k Inv-loop μ-loop
 add-k c = search needs
@@ -72,11 +73,12 @@ loop-again : tie.Need-loop-again Inv-loop μ-loop
 loop-again c =
     let h = c .before .before .before .before .before in
     let s = start-of h in
-    let i = h .loop .inv in (
+    let i = h .loop .inv in
+    let to = s .pre .0 .rows _ (s .pre .1) .end-below in (
       omega (arith, i .0),
       omega arith,
       i .2,
-      i .3 ∙ any-later _ _ _ (omega arith) (omega (arith, i .2, s .pre .0 .rows _ (s .pre .1) .end-below)) _ (c .before .before .wide .ensures) _ (sym (c .before .is-black .ensures) ∙ c .if1 .left),
+      i .3 ∙ any-later _ _ _ (omega arith) (omega (arith, i .2, to)) _ (c .before .before .wide .ensures) _ (sym (c .before .is-black .ensures) ∙ c .if1 .left),
     )
 
 returns-2 : tie.Need-returns-2 Inv-loop μ-loop

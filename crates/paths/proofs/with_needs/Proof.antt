@@ -15,7 +15,8 @@ use Rattle.paths.proofs.with_needs.Statement.{statement}
 use Rattle.paths.proofs.with_needs.Tie as tie
 
 abbrev Inv-loop : tie.InvT-loop
-Inv-loop task i set end m₀ k₀ m k = (preAt task i ≤ k) × (k ≤ end) × (end ≡ effAt task i) × ((v : ℕ) → (inSet set v || touches (act (taskIn task) i .pre) v) ≡ (inSet m v || touches (factsIn task k end) v))
+Inv-loop task i set end m₀ k₀ m k = (preAt task i ≤ k) × (k ≤ end) × (end ≡ effAt task i)
+    × ((v : ℕ) → (inSet set v || touches (act (taskIn task) i .pre) v) ≡ (inSet m v || touches (factsIn task k end) v))
 
 abbrev μ-loop : tie.MeasureT-loop
 μ-loop task i set end m₀ k₀ m k = end - k

@@ -13,7 +13,9 @@ use Rattle.repair.proofs.black_met.Statement.{statement}
 use Rattle.repair.proofs.black_met.Tie as tie
 
 abbrev Inv-loop : tie.InvT-loop
-Inv-loop task sets facts k₀ k = (k ≤ length facts) × (blackMet (black (taskIn task)) (setsOf sets) (factsIn facts 0 (length facts)) ≡ blackMet (black (taskIn task)) (setsOf sets) (factsIn facts k (length facts)))
+Inv-loop task sets facts k₀ k =
+    (k ≤ length facts)
+    × (blackMet (black (taskIn task)) (setsOf sets) (factsIn facts 0 (length facts)) ≡ blackMet (black (taskIn task)) (setsOf sets) (factsIn facts k (length facts)))
 
 abbrev μ-loop : tie.MeasureT-loop
 μ-loop task sets facts k₀ k = length facts - k

@@ -46,7 +46,8 @@ within c = omega (arith, c .before .before .ordered .ensures, c .loop-test .take
 painted : (c : tie.After-order-at Inv-loop μ-loop) → let t = taskIn (start-of (c .before .before) .args .task .now) in (c .order-at .result < variables t) × T (black t (c .order-at .result))
 painted c = order-black _ _ (start-of (c .before .before) .pre .0 .0 .ordered) _ (within (c .before)) _ (c .order-at .ensures)
 
-fits : (c : tie.After-known-told Inv-loop μ-loop) → let d = pass-of c in let x = c .before .w .given .0 .0 in (x ≤ length (left-by d)) × (length (take x (left-by d)) ≤ length (head-of (value-of d) .loop .plan))
+fits : (c : tie.After-known-told Inv-loop μ-loop) → let d = pass-of c in let x = c .before .w .given .0 .0 in
+    (x ≤ length (left-by d)) × (length (take x (left-by d)) ≤ length (head-of (value-of d) .loop .plan))
 fits c =
     let d = pass-of c in
     let v = value-of d in

@@ -56,10 +56,10 @@ loop-again : tie.Need-loop-again Inv-loop μ-loop
 loop-again c =
     let w = c .before .before .before .before in
     let h = head-of w in
-    let i = h .loop .inv in (
-      running-turn (i .0) (start-of h .pre .0 .2) (w .before .before .loop-test .taken) _ (w .wide .ensures) _ (step-held (act (taskIn (start-of h .args .task .now)) (w .wide .result)) (setsOf (h .loop .ever .sets)) (sym (c .before .has-effects .ensures) ∙ c .if1 .taken)),
-      i .1,
-    )
+    let i = h .loop .inv in
+    let a = act (taskIn (start-of h .args .task .now)) (w .wide .result) in
+    let same = step-held a (setsOf (h .loop .ever .sets)) (sym (c .before .has-effects .ensures) ∙ c .if1 .taken) in
+    (running-turn (i .0) (start-of h .pre .0 .2) (w .before .before .loop-test .taken) _ (w .wide .ensures) _ same, i .1)
 
 refresh-requires : tie.Need-refresh-requires Inv-loop μ-loop
 refresh-requires c κs =

@@ -33,6 +33,9 @@ start-of h = h .before .before .before .before .before .before .before .before .
 abbrev left-by : tie.After-arrange Inv-loop μ-loop → List ℕ
 left-by c = c .arrange .last .1 .1 .1 .1 .1 .0
 
+abbrev end-of : tie.After-slice-known10 Inv-loop μ-loop → tie.At-loop Inv-loop μ-loop
+end-of c = c .before .before .before .before .before .before .before .before .before .before .before .before .before .before .before
+
 arranged : (c : tie.After-plan Inv-loop μ-loop) → let d = arrange-of c in let h = test-of d .before in let a = start-of h .args in let l = h .loop in
     Arranged (taskIn (a .task .now)) (a .relaxed .now) (a .plan .now) (l .plan) (l .memo) (l .work) (l .s .sets) (l .ever .sets) (l .at) (l .j) (left-by d) (d .arrange .result)
 arranged c =
@@ -127,15 +130,15 @@ finish-requires c κs = let h = c .before .before .before .before .before .befor
 
 same-length-4 : tie.Need-same-length-4 Inv-loop μ-loop
 same-length-4 c =
-    let h = c .before .before .before .before .before .before .before .before .before .before .before .before .before .before .before in
+    let h = end-of c in
     c .before .before .before .before .before .memo3 .given ∙ h .loop .inv .rows .long ∙ sym (start-of h .pre .2 .long)
 
 same-length-5 : tie.Need-same-length-5 Inv-loop μ-loop
-same-length-5 c = let h = c .before .before .before .before .before .before .before .before .before .before .before .before .before .before .before in c .before .before .before .plan2 .given ∙ h .loop .inv .long
+same-length-5 c = let h = end-of c in c .before .before .before .plan2 .given ∙ h .loop .inv .long
 
 same-length-6 : tie.Need-same-length-6 Inv-loop μ-loop
 same-length-6 c =
-    let h = c .before .before .before .before .before .before .before .before .before .before .before .before .before .before .before in
+    let h = end-of c in
     c .before .work2 .given ∙ h .loop .inv .work-long ∙ sym (start-of h .pre .3 .same)
 
 returns-2 : tie.Need-returns-2 Inv-loop μ-loop
