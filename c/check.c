@@ -1,10 +1,9 @@
 /* Calls every function of the header on two shelves and on records and lists with faults, and prints what
  * comes back, the lists lent with all their entries. */
 #include "mardiskos.h"
+#include "output.h"
 
 #include <inttypes.h>
-#include <stdio.h>
-#include <string.h>
 
 /* Two shelves: a carriage with 2 values and a box with 3, four actions, 278 bits. */
 static const uint8_t two_shelves[35] = {
@@ -162,6 +161,7 @@ static void check_sheets(void)
 
 int main(void)
 {
+    begin_output();
     check_records();
     judge("repaired plan", repaired, 4);
     judge("relaxed plan", relaxed, 3);
@@ -180,5 +180,5 @@ int main(void)
     repair("does not apply", does_not_apply, 3, 4);
     repair("empty list", relaxed, 0, 4);
     check_sheets();
-    return 0;
+    return end_output("check", 0);
 }

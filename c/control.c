@@ -1,14 +1,14 @@
 /* A control program: hands over a record, gets a plan, writes its sheet, reads the sheet back, judges what
  * it read and prints the steps that run for real. Arguments are record files; without any it takes the
- * two-shelves record that is built in. A refused record prints its number and place.
- * Ends with status 0, with 1 if a record was refused, with 2 if a file could not be read. */
+ * two-shelves record that is built in. A refused record prints its number and place, and what they mean.
+ * Ends with status 0 if every record has its plan, with 1 if a record was refused, with 2 if a file could not be
+ * read or the output not be written, which a line on standard error says. */
 #include "mardiskos.h"
+#include "output.h"
 
 #include <inttypes.h>
-#include <stdio.h>
-#include <string.h>
 
-enum { PLANNED = 0, REFUSED = 1, UNREAD = 2 };
+enum { PLANNED = 0, REFUSED = 1, FAILED = 2 };
 
 static const uint8_t two_shelves[35] = {
     0x10, 0x40, 0x10, 0x18, 0x10, 0x02, 0x03, 0x00, 0x00, 0x10, 0x44, 0x00,
@@ -23,7 +23,8 @@ static uint16_t plan[MARDISKOS_MOST_STEPS], work[MARDISKOS_MOST_STEPS], steps_re
 
 static int refuse(uint64_t code)
 {
-    printf("refused %u %" PRIu64 "\n", MARDISKOS_NUMBER(code), MARDISKOS_PLACE(code));
+    unsigned number = MARDISKOS_NUMBER(code);
+    printf("refused %u %" PRIu64 ": %s\n", number, MARDISKOS_PLACE(code), mardiskos_words(number));
     return REFUSED;
 }
 
@@ -87,11 +88,12 @@ static int control_file(const char *name)
     FILE *file = fopen(name, "rb");
     size_t len = file != NULL ? fread(record, 1, sizeof record, file) : 0;
     bool failed = file == NULL || ferror(file);
+    int why = errno;
     if (file != NULL)
         fclose(file);
     if (failed) {
-        fprintf(stderr, "cannot read %s\n", name);
-        return UNREAD;
+        fprintf(stderr, "control: cannot read %s: %s\n", name, strerror(why));
+        return FAILED;
     }
     return control(name, len);
 }
@@ -99,14 +101,15 @@ static int control_file(const char *name)
 int main(int argc, char **argv)
 {
     int status = PLANNED;
+    begin_output();
     if (argc < 2) {
         memcpy(record, two_shelves, sizeof two_shelves);
-        return control("two shelves", sizeof two_shelves);
+        status = control("two shelves", sizeof two_shelves);
     }
     for (int i = 1; i < argc; i++) {
         int next = control_file(argv[i]);
         if (status < next)
             status = next;
     }
-    return status;
+    return end_output("control", status);
 }

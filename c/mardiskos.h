@@ -2,43 +2,59 @@
  *
  * A refusal is told by one code: 32 * place + number. 0 means success.
  *
- *   number  place                              when
- *   1       first bit of the field             the record ends inside or before a field
- *   2       0                                  edition not 1
- *   3       first bit of the field             count of variables not 1 to 64, or of actions over 1,024
- *   4       first bit of the field             a value not below its variable's count of values, or a
- *                                              goal value not 0 where no goal is present
- *   5       first bit of the field             a fact's variable not below the count of variables, or
- *                                              not rising within its list
- *   6       first bit behind the last field    padding not 0, or bytes left over
- *   7       lowest black variable on a cycle   the black causal graph has a cycle
- *   8       lowest action with such an arc     an arc of a black variable lacks its return
- *   9       position of the entry; the list's  a list entry that is no action of the record; of a caller's
- *           length for a goal missed           relaxed plan also one that does not apply, or a goal missed
- *   10      facts reached                      no plan
- *   11      the capacity; the bytes lent       the result is longer than that
- *   12      first bit of the field, or behind  sheet cut short, wrong edition, too many steps; or padding
- *           the last step                      not 0, bytes left over
- *   13      32,768, or position of the entry   list over 32,768 entries; in writing, an entry over 1,023
+ *   number  what is wrong                                       place
+ *   1       the record stops before all its fields are there    where the missing field starts
+ *   2       the record is of another edition than 1             0
+ *   3       not 1 to 64 variables, or over 1,024 actions        where the count starts
+ *   4       a value that its variable does not have; a goal     where the value starts
+ *           value other than 0 without a goal
+ *   5       a fact of a variable that does not exist, or that   where the variable starts
+ *           is not above the one before it in its list
+ *   6       the padding is not 0, or bytes follow               where the last field ends
+ *   7       black variables depend on one another in a circle   the lowest of them
+ *   8       an arc of a black variable lacks its return         the lowest action with such an arc
+ *   9       an entry that is no action of the record; in a      the entry's position; for a goal, the
+ *           caller's relaxed plan also one that does not        length of the list
+ *           apply, or a goal that is missed
+ *   10      there is no plan                                    how many facts can be reached
+ *   11      the result needs more room than was lent            the room: entries, or bytes
+ *   12      a sheet that stops early, is of another edition     where the field starts; for the end,
+ *           or has too many steps, or whose end is not as in 6  where the last step ends
+ *   13      a list of more than 32,768 entries; for a sheet     32,768; the entry's position
+ *           also an entry above 1,023
  *
- * Bits, entries, variables and actions count from 0, the most significant bit of the first byte being
- * bit 0. Fields are looked at in bit order, and the first fault is told. The capacity is the length of
- * the list lent, of the shorter one where two are lent, and 32,768 at most.
+ * Where something starts is told in bits, and the most significant bit of the first byte is bit 0. Entries, variables and
+ * actions count from 0 too. Fields are looked at in their order, and the first fault is told. Room is the
+ * length of the list lent, of the shorter one where two are lent, and never more than 32,768.
  *
- * Record and sheet are fields packed without gaps, most significant bit first, numbers unsigned, with zero
- * bits up to a whole byte and nothing behind.
+ * A record and a sheet are unsigned numbers without gaps between them, most significant bit first. Zero bits fill the
+ * last byte, and nothing follows. Their fields, with their bits:
  *
- *   record  edition 4 bits (1); variables V, 7 bits (1 to 64); actions A, 11 bits (0 to 1,024).
- *           For each variable: count of values less one, 6 bits; black 1 bit (1 black, 0 red); initial
- *           value 6 bits; goal present 1 bit; goal value 6 bits (0 where no goal is present).
- *           For each action: cost 16 bits; count of preconditions 4 bits; count of effects 4 bits; then the
- *           preconditions and the effects, each a variable, 6 bits, and a value, 6 bits, with variables
- *           rising strictly in either list.
- *   sheet   edition 4 bits (1); real 1 bit; steps 16 bits (up to 32,768); cost 32 bits; each step 10 bits.
+ *   record   4  the edition, 1
+ *            7  how many variables there are, 1 to 64
+ *           11  how many actions, up to 1,024
+ *           for each variable:
+ *            6  how many values it has, less one
+ *            1  1 if it is black, 0 if it is red
+ *            6  the value that it starts with
+ *            1  1 if it has a goal, else 0
+ *            6  the goal's value, 0 without a goal
+ *           for each action:
+ *           16  its cost
+ *            4  how many preconditions it has
+ *            4  how many effects
+ *           12  each precondition, then each effect: the variable in 6 bits, the value in 6. Among the
+ *               preconditions each variable is above the one before it, and likewise among the effects.
+ *
+ *   sheet    4  the edition, 1
+ *            1  1 if the plan is one for real
+ *           16  how many steps it has, up to 32,768
+ *           32  its cost
+ *           10  each step
  *
  * Anything may be handed over: any bytes as a record or a sheet, any numbers as a list, and all of it
  * may be empty, the lists lent for writing too. What stands in these before a call makes no difference.
- * No pointer may be null, also where its length is 0; with length 0 nothing is read or written there.
+ * A pointer may be null where its length is 0: nothing is read or written there.
  * What is lent stays the caller's: it is used only during the call, and no pointer to it is kept.
  * Areas lent for writing must not overlap with anything else lent to the same call. Nothing is
  * allocated. Calls may run at the same time in several threads. 256 KiB of stack are enough.
@@ -57,10 +73,57 @@
 extern "C" {
 #endif
 
+/* The version, as text and as 10,000 * major + 100 * minor + patch. */
+#define MARDISKOS_VERSION "0.1.0"
+#define MARDISKOS_VERSION_NUMBER 100
+
 #define MARDISKOS_NUMBER(code) ((unsigned)((code) % 32))
 #define MARDISKOS_PLACE(code) ((code) / 32)
 
-/* The longest record and the longest sheet in bytes, and the most steps of a plan. */
+/* The numbers of the table above. */
+enum mardiskos_number {
+    MARDISKOS_ACCEPTED = 0,
+    MARDISKOS_RECORD_CUT_SHORT = 1,
+    MARDISKOS_WRONG_EDITION = 2,
+    MARDISKOS_WRONG_COUNT = 3,
+    MARDISKOS_WRONG_VALUE = 4,
+    MARDISKOS_WRONG_VARIABLE = 5,
+    MARDISKOS_WRONG_END = 6,
+    MARDISKOS_BLACK_CYCLE = 7,
+    MARDISKOS_NO_RETURN = 8,
+    MARDISKOS_WRONG_ENTRY = 9,
+    MARDISKOS_NO_PLAN = 10,
+    MARDISKOS_NO_ROOM = 11,
+    MARDISKOS_WRONG_SHEET = 12,
+    MARDISKOS_LIST_TOO_LARGE = 13
+};
+
+/* A number in words; never null. */
+static inline const char *mardiskos_words(unsigned number)
+{
+    static const char *const words[] = {
+        "accepted",
+        "the record stops before all its fields are there",
+        "the record's edition is not 1",
+        "the count of variables is not 1 to 64, or there are more than 1,024 actions",
+        "a value does not exist in its variable, or a goal value is given where there is no goal",
+        "a fact's variable does not exist, or the variables of a list do not rise",
+        "padding is not 0, or bytes follow the record",
+        "the black causal graph has a cycle",
+        "an arc of a black variable lacks its return",
+        "a list entry is no action or does not apply, or a goal is missed",
+        "no plan exists",
+        "the result is longer than the room lent",
+        "the sheet is cut short, of another edition or over 32,768 steps, or its end is not clean",
+        "the list is over 32,768 entries, or an entry is too large for a sheet",
+    };
+    return number < sizeof words / sizeof words[0] ? words[number] : "no such number";
+}
+
+/* The most variables and actions of a record, the longest record and the longest sheet in bytes, and the most
+ * steps of a plan. */
+#define MARDISKOS_MOST_VARIABLES 64
+#define MARDISKOS_MOST_ACTIONS 1024
 #define MARDISKOS_LONGEST_RECORD 49315
 #define MARDISKOS_LONGEST_SHEET 40967
 #define MARDISKOS_MOST_STEPS 32768
@@ -69,9 +132,9 @@ extern "C" {
  * else the code of the first fault, with a number from 1 to 6. */
 uint64_t mardiskos_check(const uint8_t *record, size_t len);
 
-/* A list of actions judged under the three semantics: in a relaxed run every variable keeps all its
- * values, in a real run each holds one, in a red-black run the black ones hold one. For each: the steps
- * that run before the first that does not apply, and whether the list is a plan. */
+/* A list of actions judged under the three semantics: in a relaxed run every variable keeps every value it has
+ * had, in a real run each holds one value, in a red-black run the black ones hold one and the red ones keep all.
+ * For each: how many steps run until one does not apply, and whether it is a plan. */
 typedef struct {
     uint64_t code;
     uint32_t relaxed_steps;
@@ -93,8 +156,8 @@ typedef struct {
     uint32_t reached;
 } mardiskos_forward_run;
 
-/* The forward run of the record: until every goal is reached, the lowest-numbered applicable action
- * that adds a fact. It fills the front of the plan list and 65,535 the rest; answers its steps and the
+/* The forward run of the record: as long as a goal is missing it takes the lowest action that applies and
+ * reaches something new. It fills the front of the plan list and 65,535 the rest; answers its steps and the
  * facts reached. Refuses with 1 to 6, 10, 11. */
 mardiskos_forward_run mardiskos_forward(const uint8_t *record, size_t len, uint16_t *plan,
                                         size_t plan_len);
@@ -109,9 +172,9 @@ typedef struct {
 mardiskos_relaxed_plan mardiskos_relax(const uint8_t *record, size_t len, uint16_t *plan,
                                        size_t plan_len);
 
-/* A plan: its steps, the sum of their costs, the steps that run for real before the first that does not
- * apply, and whether it is a plan in a real run. The steps that run are the first `runs` entries of the
- * plan list; where all run and only a goal is missed, they are the whole plan. */
+/* A plan: how many steps it has, the sum of their costs, how many run for real until one does not apply, and
+ * whether it is a plan for real. The steps that run are the first `runs` entries of the plan list; where all
+ * run and only a goal is missed, they are the whole plan. */
 typedef struct {
     uint64_t code;
     uint32_t steps;

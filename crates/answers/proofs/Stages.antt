@@ -5,9 +5,11 @@ use mathlib.Core.Option.{none, some}
 use Prim.Native.Nat.{ℕ}
 use native.Mathlib.Omega.{arith}
 use Rattle.answers.specs.declared.Refusal.{Refusal}
+use Rattle.answers.specs.declared.Checked.{Checked}
+use Rattle.answers.specs.declared.Checked.the-variants as checked
 use Rattle.answers.specs.declared.Number.{Number}
 use Rattle.answers.specs.declared.Number.the-variants.{Value, Refused}
-use Rattle.answers.specs.Answers.{valueOf, refusalOf}
+use Rattle.answers.specs.Answers.{checkOf, valueOf, refusalIn, refusalOf}
 use Rattle.planning.specs.Basics.{Check, refuse, andThen, inOrder, Answer, answer, refused, done}
 use Rattle.planning.proofs.Checks.{inOrder-++}
 
@@ -33,6 +35,13 @@ passed r v c b e h = answer-done c b v (sym h ∙ ap valueOf e)
 
 pub handed-on : (r : Number) (f g : Refusal) (c : Check) (b : ℕ) → r ≡ Refused f → g ≡ refusalOf r → valueOf r ≡ answer c b → c ≡ refuse (g .number) (g .place)
 handed-on r f g c b e k h = rw (k ∙ ap refusalOf e) (answer-refused c b (f .number) (f .place) (sym h ∙ ap valueOf e))
+
+-- the same of a check
+pub passed-by : (c : Checked) (k : Check) → c ≡ checked.Accepted → checkOf c ≡ k → k ≡ none
+passed-by c k e h = sym h ∙ ap checkOf e
+
+pub refused-by : (c : Checked) (f g : Refusal) (k : Check) → c ≡ checked.Refused f → g ≡ refusalIn c → checkOf c ≡ k → k ≡ refuse (g .number) (g .place)
+refused-by c f g k e q h = sym h ∙ ap checkOf e ∙ rw (q ∙ ap refusalIn e) refl
 
 -- the refusal of the first check is the answer of them all
 pub stops : (r : Number) (f : Refusal) (c : Check) (b : ℕ) (xs : List Check) (d : ℕ) → r ≡ Refused f → valueOf r ≡ answer c b → valueOf r ≡ answer (inOrder (c ∷ xs)) d

@@ -10,7 +10,7 @@ use native.Mathlib.Omega.{arith}
 use lib.Dec.{T, T-not, not-T, eqb, eqb-refl}
 use lib.ListN.{length, set, replicate}
 use Rattle.planning.specs.Basics.{first, tally}
-use Rattle.planning.specs.Record.{Action, Task}
+use Rattle.planning.specs.Record.{Task}
 use Rattle.planning.specs.Runs.{State, Mode, has, holds, step, relaxed, actions, act, initial, goals}
 use Rattle.planning.specs.Relaxed.{adds}
 use Rattle.planning.proofs.Tests.{and-l, and-r}

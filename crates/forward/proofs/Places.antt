@@ -3,7 +3,7 @@
 use mathlib.Core.Path.{_≡_, refl, sym, ap, _∙_, subst}
 use mathlib.Core.Logic.{_⊎_, inl, inr, _≢_}
 use mathlib.Core.Bool.{Bool, true, false, not, _&&_, _||_}
-use mathlib.Core.List.{List, [], _∷_}
+use mathlib.Core.List.{List}
 use Prim.Native.Nat.{ℕ, zero, suc, _+_, _-_, _/_, _%_, _<_, _≤_}
 use native.Mathlib.Omega.{arith}
 use native.Mathlib.Decide.{ℕ-discrete, decLt}
@@ -17,7 +17,7 @@ use Rattle.planning.specs.Record.{Action}
 use Rattle.task.specs.Task.{factOf, factsIn, preAt, effAt, actionIn, taskIn}
 use Rattle.state.proofs.Listed.{Listed}
 use Rattle.state.proofs.Effects.{factsIn-cons, factsIn-none}
-use Rattle.forward.specs.Waiting.{reaches, Passing, Unmet, Looked, Noted}
+use Rattle.forward.specs.Waiting.{reaches, Passing, Looked, Noted}
 
 module _ (l : List ℕ) where
   at-has′ : (n a b v d : ℕ) → a + n ≡ b → b ≤ length l → T (has (factsIn l a b) v d) → (x : ℕ) × (a ≤ x) × (x < b) × (v ≡ getD l x 0 / 64) × (d ≡ getD l x 0 % 64)

@@ -17,11 +17,11 @@ use Rattle.planning.specs.Relaxed.{adds, forward, addable, forwardRun, forwardE
 use Rattle.planning.proofs.Tests.{T→true, F→false, and-l}
 use Rattle.planning.proofs.Below.{total-le, total-pred, total-one, tally-pos}
 use Rattle.planning.proofs.Facts.{_⊆_, holds→sub}
-use Rattle.planning.proofs.Steps.{All, step-eff, step-keep, run-append, run-grows}
+use Rattle.planning.proofs.Steps.{All, step-eff, run-append, run-grows}
 use Rattle.planning.proofs.Formed.{Formed, sorted-has, initial-holds}
 use Rattle.planning.proofs.Forward.{Once, forward-take, forwardRun-ran, forwardRun-once}
 use Rattle.task.specs.Task.{factsIn}
-use Rattle.forward.specs.Waiting.{reaches, Each, Passing, Unmet, Noted}
+use Rattle.forward.specs.Waiting.{reaches, Each, Passing, Noted}
 use Rattle.state.specs.Sets.{setsOf}
 use Rattle.forward.specs.declared.Ran.{Ran}
 use Rattle.forward.specs.Running.{achiever, Achieved, RanOf, Going}

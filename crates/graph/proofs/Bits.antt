@@ -6,7 +6,7 @@ use native.Mathlib.Nat.{pow-suc}
 use native.Mathlib.Numerals.{one-add}
 use native.Mathlib.Omega.{arith}
 use native.Mathlib.Decide.{ℕ-discrete}
-use lib.Bits.{bitAnd, bitOr, bitXor}
+use lib.Bits.{bitOr, bitXor}
 use lib.Dec.{eqb}
 use lib.Pow.{shr-shr}
 use Rattle.state.specs.Sets.{inSet}

@@ -1,18 +1,18 @@
 -- The clients-first order as the loop builds it: `left` is the set of untaken black variables, and what is written with what
 -- the definition still takes is the order.
 use mathlib.Core.Path.{_≡_, refl, sym, ap, _∙_, subst}
+use mathlib.Core.Logic.{_⊎_, inl, inr}
 use mathlib.Core.Bool.{Bool, true, false, not, _&&_, _||_, and-true, and-comm}
 use mathlib.Core.List.{List, [], _∷_, _++_, append-assoc, append-nil}
 use mathlib.Core.Option.{Option, none, some}
-use Prim.Native.Nat.{ℕ, zero, suc, _+_, _-_, _*_, _%_, _^_, _<_, _≤_}
-use native.Mathlib.Numerals.{add-one}
+use Prim.Native.Nat.{ℕ, zero, suc, _+_, _-_, _^_, _<_, _≤_}
 use native.Mathlib.Omega.{arith}
 use native.Mathlib.Decide.{ℕ-discrete}
 use borrow.Author.Tests.{eq-eqb, ne-eqb}
 use lib.Bits.{bitAnd, bitXor, and-lt}
 use lib.Dec.{T, eqb, eqb→eq}
-use lib.ListN.{length, set, take, replicate, length-set}
-use lib.Seq.{take-suc-set}
+use lib.ListN.{length, getD, set, take, length-set}
+use lib.Seq.{slice, slice-empty, length-take-le, take-suc-set, take-set-lt, drop-set-lt, drop-append-le, getD-set-same, getD-set-other}
 use Rattle.planning.specs.Basics.{someBelow, first}
 use Rattle.planning.specs.Record.{Task}
 use Rattle.planning.specs.Runs.{variables, black}
@@ -22,7 +22,10 @@ use Rattle.planning.proofs.Tests.{T→true, true→T, F→false, and-l, and-r, 
 use Rattle.planning.proofs.Below.{First?, first-is, some-intro, some-elim}
 use Rattle.planning.proofs.Painting.{black-inside}
 use Rattle.state.specs.Sets.{inSet, setsOf, modeOf}
-use Rattle.state.proofs.Members.{one-shl, inSet-empty, inSet-single, inSet-and, inSet-xor, xor}
+use Rattle.state.proofs.Members.{inSet-empty, inSet-single, inSet-and, inSet-xor, xor}
+use Rattle.task.specs.Task.{cell, taskIn}
+use Rattle.task.specs.Links.{orderIn}
+use Rattle.graph.specs.Graph.{Filled, Ordered}
 use Rattle.graph.proofs.Bits.{empty-is}
 use Rattle.graph.proofs.Searches.{both, false-not, first-same, some-lacks}
 
@@ -44,7 +47,8 @@ module _ (row left v : ℕ) (small : row < 2 ^ 64) (small′ : left < 2 ^ 64) wh
 
       hit : (b : Bool) → meets ≡ b → T b
       hit true f = tt
-      hit false f = false-not (eqb (bitAnd row left) 0) e (true→T (eqb (bitAnd row left) 0) (eq-eqb (bitAnd row left) 0 (empty-is 64 (bitAnd row left) (and-lt 64 row left small small′) (none-shared f))))
+      hit false f = false-not (eqb (bitAnd row left) 0) e
+          (true→T (eqb (bitAnd row left) 0) (eq-eqb (bitAnd row left) 0 (empty-is 64 (bitAnd row left) (and-lt 64 row left small small′) (none-shared f))))
 
   pub ready-of : inSet left v ≡ true → eqb (bitAnd row left) 0 ≡ (inSet left v && not (someBelow 64 (λ u. inSet left u && inSet row u)))
   unfolding meets
@@ -57,22 +61,30 @@ end-black : (t : Task) (v u : ℕ) → T (blackArc t v u) → T (black t u)
 unfolding blackArc
 end-black t v u a = search (and-l, and-r)
 
--- the first k are taken, and `left` has the others
-pub record Taking (t : Task) (n : ℕ) (vars : List ℕ) (count left k : ℕ) : Type 0 where
+-- one more place of the order is written
+slice-more : (task : List ℕ) (k v : ℕ) → 260 + k < length task → slice 260 (260 + (k + 1)) (set task (260 + k) v) ≡ slice 260 (260 + k) task ++ (v ∷ [])
+slice-more task k v h =
+    let e : 260 + (k + 1) ≡ suc (260 + k) = omega arith in
+    rw (e, take-suc-set task (260 + k) v h) (drop-append-le 260 (take (260 + k) task) (v ∷ []) (rw (length-take-le (260 + k) task (omega arith)) (omega arith)))
+
+-- the first k are taken, and `left` has the others; `task` is the list with their places written
+pub record Taking (t : Task) (n : ℕ) (task₀ task : List ℕ) (left k : ℕ) : Type 0 where
   pub within : k ≤ n
-  pub counted : count ≡ k
   pub few : n ≤ 64
-  pub long : length vars ≡ 64
+  pub room : 5444 ≤ length task₀
+  pub long : length task ≡ length task₀
+  pub kept : (j : ℕ) → (j < 260) ⊎ (324 ≤ j) → getD task j 0 ≡ getD task₀ j 0
   pub taken : ℕ → Bool
   pub still : (u : ℕ) → inSet left u ≡ (black t u && not (taken u))
-  pub so-far : take k vars ++ clientsFirst n (blackArc t) (black t) (n - k) taken ≡ order t
+  pub so-far : slice 260 (260 + k) task ++ clientsFirst n (blackArc t) (black t) (n - k) taken ≡ order t
 
 module _ (t : Task) (rows : List ℕ) (n : ℕ) (arcs : setsOf rows ≡ blackArc t) (all : n ≡ variables t) where
   -- the test that the code makes of a variable of `left`
   ready-same : (left : ℕ) (taken : ℕ → Bool) → ((u : ℕ) → inSet left u ≡ (black t u && not (taken u))) → n ≤ 64 → (v : ℕ)
       → (inSet left v && not (someBelow 64 (λ u. inSet left u && setsOf rows v u))) ≡ ready n (blackArc t) (black t) taken v
   unfolding ready
-  ready-same left taken s b v = rw (arcs, s v) (ap (λ (x : Bool). (black t v && not (taken v)) && not x) (both (someBelow 64 (λ u. inSet left u && blackArc t v u)) (someBelow n (λ u. not (taken u) && blackArc t v u)) there back))
+  ready-same left taken s b v = rw (arcs, s v) (ap (λ (x : Bool). (black t v && not (taken v)) && not x)
+      (both (someBelow 64 (λ u. inSet left u && blackArc t v u)) (someBelow n (λ u. not (taken u) && blackArc t v u)) there back))
     where
       there : T (someBelow 64 (λ u. inSet left u && blackArc t v u)) → T (someBelow n (λ u. not (taken u) && blackArc t v u))
       there h =
@@ -88,32 +100,36 @@ module _ (t : Task) (rows : List ℕ) (n : ℕ) (arcs : setsOf rows ≡ blackArc
           let u : ℕ = r .0 in
           let a = and-r (not (taken u)) (blackArc t v u) (r .2) in
           let q = and-l (not (taken u)) (blackArc t v u) (r .2) in
-          some-intro 64 (λ u. inSet left u && blackArc t v u) u (omega (arith, r .1)) (and-i (inSet left u) (blackArc t v u) (subst T (sym (s u)) (and-i (black t u) (not (taken u)) (end-black t v u a) q)) a)
+          some-intro 64 (λ u. inSet left u && blackArc t v u) u (omega (arith, r .1))
+          (and-i (inSet left u) (blackArc t v u) (subst T (sym (s u)) (and-i (black t u) (not (taken u)) (end-black t v u a) q)) a)
 
   takes-none : (j : ℕ) (taken : ℕ → Bool) → first n (ready n (blackArc t) (black t) taken) ≡ none → clientsFirst n (blackArc t) (black t) j taken ≡ []
   unfolding clientsFirst
   takes-none zero taken e = refl
   takes-none (suc j) taken e = rw (clientsFirst, e) refl
 
-  takes-one : (j : ℕ) (taken : ℕ → Bool) (v : ℕ) → first n (ready n (blackArc t) (black t) taken) ≡ some v → clientsFirst n (blackArc t) (black t) (suc j) taken ≡ v ∷ clientsFirst n (blackArc t) (black t) j (λ u. eqb u v || taken u)
+  takes-one : (j : ℕ) (taken : ℕ → Bool) (v : ℕ) → first n (ready n (blackArc t) (black t) taken) ≡ some v
+      → clientsFirst n (blackArc t) (black t) (suc j) taken ≡ v ∷ clientsFirst n (blackArc t) (black t) j (λ u. eqb u v || taken u)
   unfolding clientsFirst
   takes-one j taken v e = rw (clientsFirst, e) refl
 
-  pub taking-start : (paint : ℕ) → modeOf paint ≡ black t → n ≤ 64 → Taking t n (replicate 64 0) 0 paint 0
+  pub taking-start : (task : List ℕ) (paint : ℕ) → modeOf paint ≡ black t → n ≤ 64 → 5444 ≤ length task → Taking t n task task paint 0
   unfolding modeOf order
-  taking-start paint e b = record {
+  taking-start task paint e b room = record {
     within = omega arith;
-    counted = refl;
     few = b;
+    room = room;
     long = refl;
+    kept = λ j h. refl;
     taken = λ _. false;
     still = λ u. ap (λ (g : ℕ → Bool). g u) e ∙ sym (and-true (black t u));
-    so-far = let z : n - 0 ≡ n = omega arith in rw (z, all) refl;
+    so-far = let z : n - 0 ≡ n = omega arith in rw (z, slice-empty 260 task, all) refl;
   }
 
-  module _ (vars : List ℕ) (count left k : ℕ) (P : Taking t n vars count left k) where
+  module _ (task₀ task : List ℕ) (left k : ℕ) (P : Taking t n task₀ task left k) where
     same-first : (o : Option ℕ) → o ≡ first n (λ v. inSet left v && not (someBelow 64 (λ u. inSet left u && setsOf rows v u))) → first n (ready n (blackArc t) (black t) (P .taken)) ≡ o
-    same-first o e = sym (e ∙ first-same n (λ v. inSet left v && not (someBelow 64 (λ u. inSet left u && setsOf rows v u))) (ready n (blackArc t) (black t) (P .taken)) (λ v _. ready-same left (P .taken) (P .still) (P .few) v))
+    same-first o e = sym (e ∙ first-same n (λ v. inSet left v && not (someBelow 64 (λ u. inSet left u && setsOf rows v u)))
+        (ready n (blackArc t) (black t) (P .taken)) (λ v _. ready-same left (P .taken) (P .still) (P .few) v))
 
     pub taking-found : (v : ℕ) → some v ≡ first n (λ v. inSet left v && not (someBelow 64 (λ u. inSet left u && setsOf rows v u))) → (v < n) × T (inSet left v)
     unfolding ready
@@ -124,23 +140,30 @@ module _ (t : Task) (rows : List ℕ) (n : ℕ) (arcs : setsOf rows ≡ blackArc
         go (some w) f q =
             let i : w ≡ v = cc in
             let r : T ((black t w && not (P .taken w)) && not (someBelow n (λ u. not (P .taken u) && blackArc t w u))) = f .passes in
-            (omega (arith, f .below), subst (λ (x : ℕ). T (inSet left x)) i (subst T (sym (P .still w)) (and-l (black t w && not (P .taken w)) (not (someBelow n (λ u. not (P .taken u) && blackArc t w u))) r)))
+            let l : T (black t w && not (P .taken w)) = and-l (black t w && not (P .taken w)) (not (someBelow n (λ u. not (P .taken u) && blackArc t w u))) r in
+            (omega (arith, f .below), subst (λ (x : ℕ). T (inSet left x)) i (subst T (sym (P .still w)) l))
 
-    pub taking-turn : k < n → (v : ℕ) → some v ≡ first n (λ v. inSet left v && not (someBelow 64 (λ u. inSet left u && setsOf rows v u))) → Taking t n (set vars k v) (k + 1) (bitXor left (1 * 2 ^ v % 2 ^ 64)) (k + 1)
-    taking-turn h v e = record {
+    pub taking-turn : k < n → (v w : ℕ) (task′ : List ℕ) → some v ≡ first n (λ v. inSet left v && not (someBelow 64 (λ u. inSet left u && setsOf rows v u)))
+        → w ≡ 2 ^ v → task′ ≡ set task (260 + k) v → Taking t n task₀ task′ (bitXor left w) (k + 1)
+    taking-turn h v w task′ e ew et = rw (ew, et) (record {
       within = omega arith;
-      counted = refl;
       few = P .few;
-      long = length-set vars k v ∙ P .long;
+      room = P .room;
+      long = length-set task (260 + k) v ∙ P .long;
+      kept = λ j l. getD-set-other task (260 + k) j v 0 (λ q. outside j l q) ∙ P .kept j l;
       taken = λ u. eqb u v || P .taken u;
-      still = λ u. rw (one-shl v (omega (arith, taking-found v e .0, P .few)), inSet-xor left (2 ^ v) u, inSet-single v u) (go u (ℕ-discrete u v));
+      still = λ u. rw (inSet-xor left (2 ^ v) u, inSet-single v u) (go u (ℕ-discrete u v));
       so-far =
           let j : n - k ≡ suc (n - (k + 1)) = omega arith in
-          rw (add-one k, take-suc-set vars k v (omega (arith, P .long, P .few)), append-assoc)
-          (sym (ap (λ (l : List ℕ). take k vars ++ l) (takes-one (n - suc k) (P .taken) v (same-first (some v) e)))
-          ∙ (rw (j, add-one k) at (P .so-far)));
-    }
+          rw (slice-more task k v (omega (arith, P .long, P .room, P .few)), append-assoc)
+          (sym (ap (λ (l : List ℕ). slice 260 (260 + k) task ++ l) (takes-one (n - (k + 1)) (P .taken) v (same-first (some v) e)))
+          ∙ (rw j at (P .so-far)));
+    })
       where
+        outside : (j : ℕ) → (j < 260) ⊎ (324 ≤ j) → j ≡ 260 + k → ⊥
+        outside j (inl l) q = omega arith
+        outside j (inr l) q = omega (arith, P .few)
+
         go : (u : ℕ) → Dec (u ≡ v) → xor (inSet left u) (eqb u v) ≡ (black t u && not (eqb u v || P .taken u))
         go u (yes q) = rw (q, eq-eqb v v refl, T→true (inSet left v) (taking-found v e .1)) (sym (and-false′ (black t v)))
           where
@@ -153,11 +176,30 @@ module _ (t : Task) (rows : List ℕ) (n : ℕ) (arcs : setsOf rows ≡ blackArc
             xor-false true = refl
             xor-false false = refl
 
-    pub taking-stop : none ≡ first n (λ v. inSet left v && not (someBelow 64 (λ u. inSet left u && setsOf rows v u))) → take count vars ≡ order t
-    taking-stop e = rw (P .counted) (sym (append-nil (take k vars)) ∙ sym (ap (λ (l : List ℕ). take k vars ++ l) (takes-none (n - k) (P .taken) (same-first none e))) ∙ P .so-far)
+    filled : slice 260 (260 + k) task ≡ order t → (e : t ≡ taskIn task₀) → Filled k task₀ task
+    filled o e = record { few = omega (arith, P .within, P .few); long = P .long; ordered = o ∙ ap order e; kept = P .kept }
 
-    pub taking-end : n ≤ k → take count vars ≡ order t
+    pub taking-stop : none ≡ first n (λ v. inSet left v && not (someBelow 64 (λ u. inSet left u && setsOf rows v u))) → t ≡ taskIn task₀ → Filled k task₀ task
+    taking-stop e = filled
+        (sym (append-nil (slice 260 (260 + k) task))
+        ∙ sym (ap (λ (l : List ℕ). slice 260 (260 + k) task ++ l) (takes-none (n - k) (P .taken) (same-first none e))) ∙ P .so-far)
+
+    pub taking-end : n ≤ k → t ≡ taskIn task₀ → Filled k task₀ task
     unfolding clientsFirst
-    taking-end h =
-        let z : n - k ≡ 0 = omega arith in
-        rw (P .counted) (sym (append-nil (take k vars)) ∙ (rw z at (P .so-far)))
+    taking-end h = let z : n - k ≡ 0 = omega arith in filled (sym (append-nil (slice 260 (260 + k) task)) ∙ (rw z at (P .so-far)))
+
+-- the count is written behind the places
+pub ordered-end : (n : ℕ) (before filled after : List ℕ) → 5444 ≤ length before → Filled n before filled → after ≡ set filled 2 n → Ordered before after
+unfolding orderIn
+ordered-end n before filled after room F e = rw e (record {
+  few = rw count (F .few);
+  long = length-set filled 2 n ∙ F .long;
+  ordered = rw count (place ∙ F .ordered);
+  kept = λ k h l. getD-set-other filled 2 k n 0 h ∙ F .kept k l;
+})
+  where
+    count : cell (set filled 2 n) 0 2 ≡ n
+    count = getD-set-same filled 2 n 0 (omega (arith, F .long))
+
+    place : slice 260 (260 + n) (set filled 2 n) ≡ slice 260 (260 + n) filled
+    place = rw (take-set-lt (260 + n) filled 2 n (omega arith)) (drop-set-lt 260 (take (260 + n) filled) 2 n (omega arith))

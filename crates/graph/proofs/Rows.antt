@@ -2,7 +2,7 @@
 use mathlib.Core.Path.{_≡_, refl, sym, ap, _∙_, fun-ext, subst}
 use mathlib.Core.Bool.{Bool, true, false, not, _&&_, _||_, or-false, or-assoc, and-false}
 use mathlib.Core.List.{List, [], _∷_, _++_}
-use Prim.Native.Nat.{ℕ, zero, suc, _+_, _-_, _*_, _/_, _%_, _^_, _<_, _≤_}
+use Prim.Native.Nat.{ℕ, zero, suc, _+_, _-_, _/_, _^_, _<_, _≤_}
 use native.Mathlib.Numerals.{add-one}
 use native.Mathlib.Omega.{arith}
 use native.Mathlib.Decide.{ℕ-discrete}
@@ -12,17 +12,16 @@ use lib.Dec.{T, eqb}
 use lib.ListN.{length, getD, set, replicate, length-set}
 use lib.Seq.{getD-set-same, getD-set-other}
 use Rattle.planning.specs.Basics.{someBelow}
-use Rattle.planning.specs.Record.{Fact, Task, taskOf}
+use Rattle.planning.specs.Record.{Fact, Action, Task}
 use Rattle.planning.specs.Runs.{touches, actions, act, black}
 use Rattle.planning.specs.Painting.{causalArc, blackArc}
 use Rattle.planning.proofs.Tests.{and-l, and-r, and-i}
-use Rattle.planning.proofs.Formed.{formed-of}
-use Rattle.table.specs.Table.{factOf, factsIn, preAt, effAt, endAt}
-use Rattle.state.specs.Sets.{inSet, setsOf, modeOf, actionOf, Listed}
-use Rattle.state.proofs.Members.{one-shl, inSet-single, inSet-empty, inSet-or, inSet-and}
+use Rattle.task.specs.Task.{factOf, factsIn, preAt, effAt, endAt, actionIn, taskIn}
+use Rattle.state.specs.Sets.{inSet, setsOf, modeOf}
+use Rattle.state.proofs.Members.{inSet-single, inSet-empty, inSet-or, inSet-and}
 use Rattle.state.proofs.Effects.{factsIn-cons, factsIn-none}
-use Rattle.state.proofs.Tabled.{tabled-action, tabled-listed}
-use Rattle.graph.specs.Given.{Given, Facts, Rows, withAction}
+use Rattle.state.proofs.Listed.{Listed}
+use Rattle.graph.specs.Graph.{Facts, Rows, withAction}
 use Rattle.graph.proofs.Bits.{inSet-without}
 use Rattle.graph.proofs.Searches.{both}
 
@@ -41,70 +40,70 @@ unfolding touches
 touches-++ [] gs v = refl
 touches-++ (f ∷ fs) gs v = rw (touches-++ fs gs v) (sym (or-assoc (eqb v (f .var)) (touches fs v) (touches gs v)))
 
-pub fact-variable : (table : List ℕ) (a b : ℕ) → Facts table a b → (k f : ℕ) → a ≤ k → k < b → f ≡ getD table k 0 → f / 64 < 64
-fact-variable table a b F k f p q e = omega (arith, F .small k p q)
+pub fact-variable : (task : List ℕ) (a b : ℕ) → Facts task a b → (k f : ℕ) → a ≤ k → k < b → f ≡ getD task k 0 → f / 64 < 64
+fact-variable task a b F k f p q e = omega (arith, F .small k p q)
 
 -- the places of an action's effects, and of all its facts
-pub listed-effects : (table : List ℕ) (i : ℕ) → Listed table i → (a b : ℕ) → a ≡ effAt table i → b ≡ endAt table i → Facts table a b
-listed-effects table i L a b ea eb = record {
+pub listed-effects : (task : List ℕ) (i : ℕ) → Listed task i → (a b : ℕ) → a ≡ effAt task i → b ≡ endAt task i → Facts task a b
+listed-effects task i L a b ea eb = record {
   rises = omega (arith, L .eff-below);
   within = omega (arith, L .end-below);
   small = λ k p q. L .small k (omega (arith, L .pre-below)) (omega arith);
 }
 
-pub listed-preconditions : (table : List ℕ) (i : ℕ) → Listed table i → (a b : ℕ) → a ≡ preAt table i → b ≡ effAt table i → Facts table a b
-listed-preconditions table i L a b ea eb = record {
+pub listed-preconditions : (task : List ℕ) (i : ℕ) → Listed task i → (a b : ℕ) → a ≡ preAt task i → b ≡ effAt task i → Facts task a b
+listed-preconditions task i L a b ea eb = record {
   rises = omega (arith, L .pre-below);
   within = omega (arith, L .eff-below, L .end-below);
   small = λ k p q. L .small k (omega arith) (omega (arith, L .eff-below));
 }
 
-pub listed-facts : (table : List ℕ) (i : ℕ) → Listed table i → (a b : ℕ) → a ≡ preAt table i → b ≡ endAt table i → Facts table a b
-listed-facts table i L a b ea eb = record {
+pub listed-facts : (task : List ℕ) (i : ℕ) → Listed task i → (a b : ℕ) → a ≡ preAt task i → b ≡ endAt task i → Facts task a b
+listed-facts task i L a b ea eb = record {
   rises = omega (arith, L .pre-below, L .eff-below);
   within = omega (arith, L .end-below);
   small = λ k p q. L .small k (omega arith) (omega arith);
 }
 
 -- the variables of a list of facts, collected in a set
-pub record Touching (table : List ℕ) (a b m k : ℕ) : Type 0 where
+pub record Touching (task : List ℕ) (a b m k : ℕ) : Type 0 where
   pub from : a ≤ k
   pub to : k ≤ b
-  pub so-far : (v : ℕ) → (inSet m v || touches (factsIn table k b) v) ≡ touches (factsIn table a b) v
+  pub so-far : (v : ℕ) → (inSet m v || touches (factsIn task k b) v) ≡ touches (factsIn task a b) v
 
-module _ (table : List ℕ) (a b : ℕ) (F : Facts table a b) where
-  pub touching-start : Touching table a b 0 a
+module _ (task : List ℕ) (a b : ℕ) (F : Facts task a b) where
+  pub touching-start : Touching task a b 0 a
   touching-start = record { from = omega arith; to = F .rises; so-far = λ v. rw (inSet-empty v) refl }
 
-  touches-more : (k : ℕ) → k < b → (v : ℕ) → touches (factsIn table k b) v ≡ (eqb v (getD table k 0 / 64) || touches (factsIn table (k + 1) b) v)
+  touches-more : (k : ℕ) → k < b → (v : ℕ) → touches (factsIn task k b) v ≡ (eqb v (getD task k 0 / 64) || touches (factsIn task (k + 1) b) v)
   unfolding touches factOf
-  touches-more k h v = rw (factsIn-cons table k b h (F .within)) refl
+  touches-more k h v = rw (factsIn-cons task k b h (F .within)) refl
 
-  touches-none : (k : ℕ) → k ≡ b → (v : ℕ) → touches (factsIn table k b) v ≡ false
+  touches-none : (k : ℕ) → k ≡ b → (v : ℕ) → touches (factsIn task k b) v ≡ false
   unfolding touches
-  touches-none k e v = rw (factsIn-none table k b e) refl
+  touches-none k e v = rw (factsIn-none task k b e) refl
 
-  module _ (m k : ℕ) (p : Touching table a b m k) where
-    pub touching-turn : k < b → (f : ℕ) → f ≡ getD table k 0 → Touching table a b (bitOr m (1 * 2 ^ (f / 64) % 2 ^ 64)) (k + 1)
-    touching-turn h f e = record {
+  module _ (m k : ℕ) (p : Touching task a b m k) where
+    pub touching-turn : k < b → (f w : ℕ) → f ≡ getD task k 0 → w ≡ 2 ^ (f / 64) → Touching task a b (bitOr m w) (k + 1)
+    touching-turn h f w e ew = record {
       from = omega (arith, p .from);
       to = omega arith;
       so-far = λ v.
-          rw (one-shl (f / 64) (omega (arith, F .small k (p .from) h)), inSet-or m (2 ^ (f / 64)) v, inSet-single (f / 64) v)
-          (or-assoc (inSet m v) (eqb v (f / 64)) (touches (factsIn table (k + 1) b) v)
+          rw (ew, inSet-or m (2 ^ (f / 64)) v, inSet-single (f / 64) v)
+          (or-assoc (inSet m v) (eqb v (f / 64)) (touches (factsIn task (k + 1) b) v)
           ∙ (rw (touches-more k h v, ← e) at (p .so-far v)));
     }
 
-    pub touching-end : b ≤ k → modeOf m ≡ touches (factsIn table a b)
+    pub touching-end : b ≤ k → modeOf m ≡ touches (factsIn task a b)
     unfolding modeOf
     touching-end h = fun-ext (λ v. sym (or-false (inSet m v)) ∙ (rw (touches-none k (omega (arith, p .to)) v) at (p .so-far v)))
 
 -- one row
-pub joined-row : (row affected u paint : ℕ) → u < 64 → inSet paint u ≡ true
-    → modeOf (bitOr row (bitXor (bitOr affected (1 * 2 ^ u % 2 ^ 64)) (1 * 2 ^ u % 2 ^ 64))) ≡ (λ v. inSet row v || ((inSet paint u && not (eqb u v)) && inSet affected v))
+pub joined-row : (row affected u paint w : ℕ) → w ≡ 2 ^ u → inSet paint u ≡ true
+    → modeOf (bitOr row (bitXor (bitOr affected w) w)) ≡ (λ v. inSet row v || ((inSet paint u && not (eqb u v)) && inSet affected v))
 unfolding modeOf
-joined-row row affected u paint h e = fun-ext (λ v.
-    rw (one-shl u h, e, inSet-or row (bitXor (bitOr affected (2 ^ u)) (2 ^ u)) v, inSet-without affected u v, eqb-swap u v) refl)
+joined-row row affected u paint w h e = fun-ext (λ v.
+    rw (h, e, inSet-or row (bitXor (bitOr affected (2 ^ u)) (2 ^ u)) v, inSet-without affected u v, eqb-swap u v) refl)
   where
     eqb-swap : (u v : ℕ) → eqb v u ≡ eqb u v
     eqb-swap u v = go (ℕ-discrete u v)
@@ -121,34 +120,34 @@ kept-row row affected u paint e = fun-ext (λ v. rw e (sym (or-false (inSet row 
 abbrev arcs : ℕ → ℕ → ℕ → ℕ → Bool
 arcs affected paint u v = (inSet paint u && not (eqb u v)) && inSet affected v
 
-pub record Adding (table : List ℕ) (a b affected paint : ℕ) (rows₀ rows : List ℕ) (k : ℕ) : Type 0 where
+pub record Adding (task : List ℕ) (a b affected paint : ℕ) (rows₀ rows : List ℕ) (k : ℕ) : Type 0 where
   pub from : a ≤ k
   pub to : k ≤ b
   pub long : length rows ≡ 64
-  pub so-far : (u v : ℕ) → (setsOf rows u v || (touches (factsIn table k b) u && arcs affected paint u v)) ≡ (setsOf rows₀ u v || (touches (factsIn table a b) u && arcs affected paint u v))
+  pub so-far : (u v : ℕ) → (setsOf rows u v || (touches (factsIn task k b) u && arcs affected paint u v)) ≡ (setsOf rows₀ u v || (touches (factsIn task a b) u && arcs affected paint u v))
 
 own-turn : (r x t : Bool) → ((r || x) || (t && x)) ≡ (r || x)
 own-turn true x t = refl
 own-turn false true t = refl
 own-turn false false t = and-false t
 
-module _ (table : List ℕ) (a b affected paint : ℕ) (rows₀ : List ℕ) (F : Facts table a b) where
-  pub adding-start : length rows₀ ≡ 64 → Adding table a b affected paint rows₀ rows₀ a
+module _ (task : List ℕ) (a b affected paint : ℕ) (rows₀ : List ℕ) (F : Facts task a b) where
+  pub adding-start : length rows₀ ≡ 64 → Adding task a b affected paint rows₀ rows₀ a
   adding-start n = record { from = omega arith; to = F .rises; long = n; so-far = λ u v. refl }
 
-  module _ (rows : List ℕ) (k : ℕ) (p : Adding table a b affected paint rows₀ rows k) where
-    pub adding-turn : k < b → (f u w : ℕ) → f ≡ getD table k 0 → u ≡ f / 64 → modeOf w ≡ (λ v. inSet (getD rows u 0) v || arcs affected paint u v)
-        → Adding table a b affected paint rows₀ (set rows u w) (k + 1)
+  module _ (rows : List ℕ) (k : ℕ) (p : Adding task a b affected paint rows₀ rows k) where
+    pub adding-turn : k < b → (f u w : ℕ) → f ≡ getD task k 0 → u ≡ f / 64 → modeOf w ≡ (λ v. inSet (getD rows u 0) v || arcs affected paint u v)
+        → Adding task a b affected paint rows₀ (set rows u w) (k + 1)
     unfolding modeOf setsOf
     adding-turn h f u w e eu ew = record {
       from = omega (arith, p .from);
       to = omega arith;
       long = length-set rows u w ∙ p .long;
-      so-far = λ x v. go x v (ℕ-discrete x u) ∙ (rw (touches-more table a b F k h x, ← e, ← eu) at (p .so-far x v));
+      so-far = λ x v. go x v (ℕ-discrete x u) ∙ (rw (touches-more task a b F k h x, ← e, ← eu) at (p .so-far x v));
     }
       where
         rest : ℕ → Bool
-        rest x = touches (factsIn table (k + 1) b) x
+        rest x = touches (factsIn task (k + 1) b) x
 
         go : (x v : ℕ) → Dec (x ≡ u) → (inSet (getD (set rows u w) x 0) v || (rest x && arcs affected paint x v)) ≡ (inSet (getD rows x 0) v || ((eqb x u || rest x) && arcs affected paint x v))
         go x v (yes q) =
@@ -157,13 +156,13 @@ module _ (table : List ℕ) (a b affected paint : ℕ) (rows₀ : List ℕ) (F :
             rw (q, getD-set-same rows u w 0 n, z, eq-eqb u u refl) (own-turn (inSet (getD rows u 0) v) (arcs affected paint u v) (rest u))
         go x v (no q) = rw (getD-set-other rows u x w 0 q, ne-eqb x u q) refl
 
-    pub adding-end : b ≤ k → setsOf rows ≡ (λ u v. setsOf rows₀ u v || (touches (factsIn table a b) u && arcs affected paint u v))
-    adding-end h = fun-ext (λ u. fun-ext (λ v. sym (or-false (setsOf rows u v)) ∙ (rw (touches-none table a b F k (omega (arith, p .to)) u) at (p .so-far u v))))
+    pub adding-end : b ≤ k → setsOf rows ≡ (λ u v. setsOf rows₀ u v || (touches (factsIn task a b) u && arcs affected paint u v))
+    adding-end h = fun-ext (λ u. fun-ext (λ v. sym (or-false (setsOf rows u v)) ∙ (rw (touches-none task a b F k (omega (arith, p .to)) u) at (p .so-far u v))))
 
 -- the arcs that action i gives, from the loop's equation
-module _ (table : List ℕ) (i paint : ℕ) (s : ℕ → ℕ → Bool) (L : Listed table i) (a b c w : ℕ) (ea : a ≡ preAt table i) (eb : b ≡ effAt table i) (ec : c ≡ endAt table i)
-    (touch : modeOf w ≡ touches (factsIn table b c)) where
-  affects : (v : ℕ) → inSet (bitAnd w paint) v ≡ (touches (factsIn table b c) v && inSet paint v)
+module _ (task : List ℕ) (i paint : ℕ) (s : ℕ → ℕ → Bool) (L : Listed task i) (a b c w : ℕ) (ea : a ≡ preAt task i) (eb : b ≡ effAt task i) (ec : c ≡ endAt task i)
+    (touch : modeOf w ≡ touches (factsIn task b c)) where
+  affects : (v : ℕ) → inSet (bitAnd w paint) v ≡ (touches (factsIn task b c) v && inSet paint v)
   unfolding modeOf
   affects v = inSet-and w paint v ∙ ap (λ (x : Bool). x && inSet paint v) (ap (λ (g : ℕ → Bool). g v) touch)
 
@@ -172,23 +171,29 @@ module _ (table : List ℕ) (i paint : ℕ) (s : ℕ → ℕ → Bool) (L : List
       (λ h. let z : T t = subst T e (search and-l) in search (and-i, and-l, and-r))
       (λ h. let z : T r = subst T (sym e) (search and-r) in search (and-i, and-l, and-r))
 
-  pub action-arcs : (λ u v. s u v || (touches (factsIn table a c) u && arcs (bitAnd w paint) paint u v)) ≡ withAction (modeOf paint) (actionOf table i) s
-  unfolding withAction modeOf actionOf
-  action-arcs = fun-ext (λ u. fun-ext (λ v.
+  both-lists : (u : ℕ) → touches (factsIn task a c) u ≡ (touches (factsIn task a b) u || touches (factsIn task b c) u)
+  both-lists u =
+      ap (λ (fs : List Fact). touches fs u) (factsIn-split task (b - a) a b c (omega (arith, L .pre-below)) (omega (arith, L .eff-below)) (omega (arith, L .end-below)))
+      ∙ touches-++ (factsIn task a b) (factsIn task b c) u
+
+  listed-arcs : (λ u v. s u v || (touches (factsIn task a c) u && arcs (bitAnd w paint) paint u v)) ≡ withAction (modeOf paint) (actionIn task i) s
+  unfolding withAction modeOf actionIn
+  listed-arcs = fun-ext (λ u. fun-ext (λ v.
+      let tu : Bool = touches (factsIn task a c) u in
+      let tv : Bool = touches (factsIn task b c) v in
       rw (affects v, ← ea, ← eb, ← ec)
-      (ap (λ (x : Bool). s u v || x) (regroup (touches (factsIn table a c) u) (touches (factsIn table a b) u || touches (factsIn table b c) u) (inSet paint u) (not (eqb u v)) (touches (factsIn table b c) v) (inSet paint v) (both-lists u)))))
-    where
-      both-lists : (u : ℕ) → touches (factsIn table a c) u ≡ (touches (factsIn table a b) u || touches (factsIn table b c) u)
-      both-lists u =
-          ap (λ (fs : List Fact). touches fs u) (factsIn-split table (b - a) a b c (omega (arith, L .pre-below)) (omega (arith, L .eff-below)) (omega (arith, L .end-below)))
-          ∙ touches-++ (factsIn table a b) (factsIn table b c) u
+      (ap (λ (x : Bool). s u v || x)
+      (regroup tu (touches (factsIn task a b) u || touches (factsIn task b c) u) (inSet paint u) (not (eqb u v)) tv (inSet paint v) (both-lists u)))))
+
+  pub action-arcs : (λ u v. s u v || (touches (factsIn task a c) u && arcs (bitAnd w paint) paint u v)) ≡ withAction (modeOf paint) (act (taskIn task) i) s
+  action-arcs = listed-arcs ∙ ap (λ (x : Action). withAction (modeOf paint) x s) (L .states)
 
   -- nothing black is affected
-  pub action-none : bitAnd w paint ≡ 0 → s ≡ withAction (modeOf paint) (actionOf table i) s
+  pub action-none : bitAnd w paint ≡ 0 → s ≡ withAction (modeOf paint) (act (taskIn task) i) s
   action-none e = fun-ext (λ u. fun-ext (λ v. none-at u v)) ∙ action-arcs
     where
-      none-at : (u v : ℕ) → s u v ≡ (s u v || (touches (factsIn table a c) u && arcs (bitAnd w paint) paint u v))
-      none-at u v = rw (e, inSet-empty v, and-false (inSet paint u && not (eqb u v)), and-false (touches (factsIn table a c) u)) (sym (or-false (s u v)))
+      none-at : (u v : ℕ) → s u v ≡ (s u v || (touches (factsIn task a c) u && arcs (bitAnd w paint) paint u v))
+      none-at u v = rw (e, inSet-empty v, and-false (inSet paint u && not (eqb u v)), and-false (touches (factsIn task a c) u)) (sym (or-false (s u v)))
 
 -- the whole graph: arcs of the actions below i
 unfoldable pub arcsBelow : Task → ℕ → ℕ → ℕ → Bool
@@ -205,37 +210,32 @@ arcs-more t i = fun-ext (λ u. fun-ext (λ v. rw add-one
     (one-more (black t u && black t v) (not (eqb u v)) (someBelow i (λ i. touches (act t i .eff) v && (touches (act t i .pre) u || touches (act t i .eff) u)))
     (touches (act t i .eff) v && (touches (act t i .pre) u || touches (act t i .eff) u)))))
 
-pub record Drawing (s : List ℕ) (n : ℕ) (rows : List ℕ) (i : ℕ) : Type 0 where
+pub record Drawing (t : Task) (n : ℕ) (rows : List ℕ) (i : ℕ) : Type 0 where
   pub within : i ≤ n
   pub long : length rows ≡ 64
-  pub drawn : setsOf rows ≡ arcsBelow (taskOf s) i
+  pub drawn : setsOf rows ≡ arcsBelow t i
 
-module _ (s table : List ℕ) (paint n : ℕ) (G : Given s table paint n) where
-  pub given-listed : (i : ℕ) → i < n → Listed table i
-  given-listed i h = tabled-listed (taskOf s) table (formed-of s (G .accepted)) (G .tabled) i (omega (arith, G .all))
+pub drawing-start : (t : Task) (n : ℕ) → Drawing t n (replicate 64 0) 0
+unfolding arcsBelow someBelow setsOf
+drawing-start t n = record {
+  within = omega arith;
+  long = refl;
+  drawn = fun-ext (λ u. fun-ext (λ v. rw (zeros 64 u, inSet-empty v, and-false (not (eqb u v))) (sym (and-false (black t u && black t v)))));
+}
+  where
+    zeros : (n w : ℕ) → _≡_ {A = ℕ} (getD (replicate n 0) w 0) 0
+    zeros zero w = refl
+    zeros (suc n) zero = refl
+    zeros (suc n) (suc w) = zeros n w
 
-  pub given-act : (i : ℕ) → i < n → actionOf table i ≡ act (taskOf s) i
-  given-act i h = tabled-action (taskOf s) table i (G .tabled i (omega (arith, G .all)))
+module _ (t : Task) (n : ℕ) (rows : List ℕ) (i : ℕ) (D : Drawing t n rows i) where
+  pub drawing-turn : i < n → (paint : ℕ) → modeOf paint ≡ black t → (rows′ : List ℕ) → Rows rows′ (withAction (modeOf paint) (act t i) (setsOf rows)) → Drawing t n rows′ (i + 1)
+  drawing-turn h paint m rows′ e = record {
+    within = omega arith;
+    long = e .long;
+    drawn = e .states ∙ rw (m, D .drawn) (arcs-more t i);
+  }
 
-  pub drawing-start : Drawing s n (replicate 64 0) 0
-  unfolding arcsBelow someBelow setsOf
-  drawing-start = record { within = omega arith; long = refl; drawn = fun-ext (λ u. fun-ext (λ v. rw (zeros 64 u, inSet-empty v, and-false (not (eqb u v))) (sym (and-false (black (taskOf s) u && black (taskOf s) v))))) }
-    where
-      zeros : (n w : ℕ) → _≡_ {A = ℕ} (getD (replicate n 0) w 0) 0
-      zeros zero w = refl
-      zeros (suc n) zero = refl
-      zeros (suc n) (suc w) = zeros n w
-
-  module _ (rows : List ℕ) (i : ℕ) (D : Drawing s n rows i) where
-    pub drawing-turn : i < n → (rows′ : List ℕ) → Rows rows′ (withAction (modeOf paint) (actionOf table i) (setsOf rows)) → Drawing s n rows′ (i + 1)
-    drawing-turn h rows′ e = record {
-      within = omega arith;
-      long = e .long;
-      drawn = e .states ∙ rw (G .colours, given-act i h, D .drawn) (arcs-more (taskOf s) i);
-    }
-
-    pub drawing-end : n ≤ i → setsOf rows ≡ blackArc (taskOf s)
-    unfolding arcsBelow blackArc causalArc
-    drawing-end h =
-        let e : i ≡ actions (taskOf s) = omega (arith, D .within, G .all) in
-        D .drawn ∙ rw e refl
+  pub drawing-end : n ≤ i → n ≡ actions t → setsOf rows ≡ blackArc t
+  unfolding arcsBelow blackArc causalArc
+  drawing-end h all = let e : i ≡ actions t = omega (arith, D .within) in D .drawn ∙ rw e refl

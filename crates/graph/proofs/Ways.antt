@@ -5,7 +5,6 @@ use mathlib.Core.Path.{_≡_, refl, sym, ap, _∙_, fun-ext, subst}
 use mathlib.Core.Logic.{_⊎_, inl, inr}
 use mathlib.Core.Bool.{Bool, true, false, _&&_, _||_, or-false}
 use mathlib.Core.List.{List}
-use mathlib.Core.Option.{none}
 use Prim.Native.Nat.{ℕ, zero, suc, pred, _+_, _<_, _≤_}
 use native.Mathlib.Numerals.{add-one}
 use native.Mathlib.Omega.{arith}
@@ -15,17 +14,16 @@ use lib.Dec.{T}
 use lib.ListN.{length, getD, set, length-set}
 use lib.Seq.{getD-set-same, getD-set-other}
 use Rattle.planning.specs.Basics.{someBelow, first, reach}
-use Rattle.planning.specs.Record.{Task, taskOf, recordCheck}
+use Rattle.planning.specs.Record.{Task}
 use Rattle.planning.specs.Runs.{variables}
 use Rattle.planning.specs.Painting.{blackArc, onCycle, cyclic}
 use Rattle.planning.proofs.Tests.{T→true, true→T, F→false, or-l, or-r, or-cases, and-l, and-r, and-i}
 use Rattle.planning.proofs.Below.{below-cases, some-intro, some-elim}
 use Rattle.planning.proofs.Graph.{reach-here, reach-move, reach-cases, reach-zero, reach-bound}
-use Rattle.planning.proofs.Formed.{formed-of}
 use Rattle.planning.proofs.Painting.{black-inside}
 use Rattle.state.specs.Sets.{inSet, setsOf, modeOf}
 use Rattle.state.proofs.Members.{inSet-or}
-use Rattle.graph.specs.Given.{Rows, through, via, StartBelow}
+use Rattle.graph.specs.Graph.{Rows, through, via, StartBelow}
 use Rattle.graph.proofs.Searches.{both, first-same}
 
 -- one row
@@ -157,7 +155,8 @@ module _ (s : ℕ → ℕ → Bool) where
     moves-on zero u w v b a r k x t = (k, rw (reach-zero n s w v r) t)
     moves-on (suc j) u w v b a r k x t = go (reach-cases n s j w v r) (λ e g. moves-on j w e v (ends u w a) g)
       where
-        go : (w ≡ v) ⊎ ((e : ℕ) × (e < n) × T (s w e) × T (reach n s j e v)) → ((e : ℕ) → T (s w e) → T (reach n s j e v) → (k x : ℕ) → T (reach n s k v x) → (m : ℕ) × T (reach n s m e x)) → (m : ℕ) × T (reach n s m w x)
+        go : (w ≡ v) ⊎ ((e : ℕ) × (e < n) × T (s w e) × T (reach n s j e v))
+            → ((e : ℕ) → T (s w e) → T (reach n s j e v) → (k x : ℕ) → T (reach n s k v x) → (m : ℕ) × T (reach n s m e x)) → (m : ℕ) × T (reach n s m w x)
         go (inl e) f = (k, rw e t)
         go (inr r) f = let z = f (r .0) (r .2) (r .3) k x t in (suc (z .0), reach-move n s (z .0) w (r .0) x (r .1) (r .2) (z .1))
 
@@ -166,7 +165,8 @@ module _ (s : ℕ → ℕ → Bool) where
     via-reach zero u v h b t = (v, 0, t, reach-here n s 0 v)
     via-reach (suc k) u v h b t = go (via-cases k u v t) (λ u v b. via-reach k u v (omega arith) b)
       where
-        go : T (via s k u v) ⊎ (T (via s k u k) × T (via s k k v)) → ((u v : ℕ) → u < n → T (via s k u v) → (w : ℕ) × (m : ℕ) × T (s u w) × T (reach n s m w v)) → (w : ℕ) × (m : ℕ) × T (s u w) × T (reach n s m w v)
+        go : T (via s k u v) ⊎ (T (via s k u k) × T (via s k k v))
+            → ((u v : ℕ) → u < n → T (via s k u v) → (w : ℕ) × (m : ℕ) × T (s u w) × T (reach n s m w v)) → (w : ℕ) × (m : ℕ) × T (s u w) × T (reach n s m w v)
         go (inl p) f = f u v b p
         go (inr p) f =
             let x = f u k b (p .0) in
@@ -197,9 +197,6 @@ module _ (s : ℕ → ℕ → Bool) where
         back t =
             let r = some-elim n (λ u. s v u && reach n s (pred n) u v) t in
             reach-via (pred n) v (r .0) v (and-l (s v (r .0)) (reach n s (pred n) (r .0) v) (r .2)) (and-r (s v (r .0)) (reach n s (pred n) (r .0) v) (r .2))
-
-pub few-variables : (s : List ℕ) (n : ℕ) → recordCheck s ≡ none → n ≡ variables (taskOf s) → n ≤ 64
-few-variables s n e q = omega (arith, formed-of s e .variables-max)
 
 -- the black causal graph
 blackArc-ends : (t : Task) (u v : ℕ) → T (blackArc t u v) → (u < variables t) × (v < variables t)

@@ -2,34 +2,25 @@
 // clients-first order.
 ghost use mathlib.Core.Path.{_≡_};
 ghost use mathlib.Core.Bool.{_||_, _&&_, not};
-ghost use mathlib.Core.Option.{none};
-ghost use Prim.Native.Nat.{_+_, _*_, _<_, _≤_};
+ghost use Prim.Native.Nat.{_<_, _≤_};
 ghost use lib.Dec.{eqb};
-ghost use lib.ListN.{length, take};
+ghost use lib.ListN.{length};
 ghost use Rattle.planning.specs.Basics.{someBelow, first};
-ghost use Rattle.planning.specs.Record.{taskOf, recordCheck};
-ghost use Rattle.planning.specs.Runs.{touches, variables, black};
+ghost use Rattle.planning.specs.Runs.{touches, actions, act, black};
 ghost use Rattle.planning.specs.Painting.{blackArc, cyclic};
-ghost use Rattle.planning.specs.Repair.{order};
-ghost use Rattle.table.specs.Table.{factsIn};
-ghost use Rattle.state.specs.Sets.{inSet, setsOf, modeOf, actionOf, Listed};
-ghost use Rattle.graph.specs.Given.{Given, Facts, Rows, foundOf, withAction, through, via, StartBelow};
-
-fn wide(x: u16) -> usize
-    ensures { λ r. ⌜ r ≡ x ⌝ }
-{
-    x as usize
-}
+ghost use Rattle.task.specs.Task.{factsIn, taskIn, Loaded};
+ghost use Rattle.state.specs.Sets.{inSet, setsOf, modeOf};
+ghost use Rattle.graph.specs.Graph.{Facts, Rows, foundOf, withAction, through, via, StartBelow, Filled, Ordered};
 
 // The variables of the facts from place `from` up to `to`, as a set.
-fn touched(table: &[u16], from: usize, to: usize) -> u64
-    requires { ⌜ Facts (now table) from to ⌝ }
-    ensures { λ r. ⌜ modeOf r ≡ touches (factsIn (now (table .entry)) from to) ⌝ }
+fn touched(task: &[u16], from: usize, to: usize) -> u64
+    requires { ⌜ Facts (now task) from to ⌝ }
+    ensures { λ r. ⌜ modeOf r ≡ touches (factsIn (now (task .entry)) from to) ⌝ }
 {
     let mut set: u64 = 0;
     let mut k = from;
     while k < to {
-        set = set | 1 << (wide(table[k]) / 64);
+        set = set | state::single(lists::wide(task[k]) / 64);
         k += 1;
     }
     set
@@ -40,8 +31,8 @@ fn joined(row: u64, affected: u64, u: usize, paint: u64) -> u64
     requires { ⌜ u < 64 ⌝ }
     ensures { λ r. ⌜ modeOf r ≡ (λ v. inSet row v || ((inSet paint u && not (eqb u v)) && inSet affected v)) ⌝ }
 {
-    if (paint >> u) % 2 == 1 {
-        let own = 1 << u;
+    if state::member(paint, u) {
+        let own = state::single(u);
         row | ((affected | own) ^ own)
     } else {
         row
@@ -49,42 +40,41 @@ fn joined(row: u64, affected: u64, u: usize, paint: u64) -> u64
 }
 
 // Arcs from each black variable of the facts from place `from` up to `to`.
-fn add_arcs(rows: &mut [u64; 64], table: &[u16], from: usize, to: usize, affected: u64, paint: u64)
-    requires { ⌜ Facts (now table) from to × (length (now rows) ≡ 64) ⌝ }
-    ensures { λ _. ⌜ Rows (now (rows .exit)) (λ u v. setsOf (now (rows .entry)) u v || (touches (factsIn (now (table .entry)) from to) u && ((inSet paint u && not (eqb u v)) && inSet affected v))) ⌝ }
+fn add_arcs(rows: &mut [u64; 64], task: &[u16], from: usize, to: usize, affected: u64, paint: u64)
+    requires { ⌜ Facts (now task) from to × (length (now rows) ≡ 64) ⌝ }
+    ensures { λ _. ⌜ Rows (now (rows .exit)) (λ u v. setsOf (now (rows .entry)) u v || (touches (factsIn (now (task .entry)) from to) u && ((inSet paint u && not (eqb u v)) && inSet affected v))) ⌝ }
 {
     let mut k = from;
     while k < to {
-        let u = wide(table[k]) / 64;
+        let u = lists::wide(task[k]) / 64;
         rows[u] = joined(rows[u], affected, u, paint);
         k += 1;
     }
 }
 
 // The arcs of action i: from the black variables that it mentions to those that it affects.
-fn add_action(rows: &mut [u64; 64], table: &[u16], i: usize, paint: u64)
-    requires { ⌜ Listed (now table) i × (length (now rows) ≡ 64) ⌝ }
-    ensures { λ _. ⌜ Rows (now (rows .exit)) (withAction (modeOf paint) (actionOf (now (table .entry)) i) (setsOf (now (rows .entry)))) ⌝ }
+fn add_action(rows: &mut [u64; 64], task: &[u16], i: usize, paint: u64)
+    requires { ⌜ Loaded (now task) × (i < actions (taskIn (now task))) × (length (now rows) ≡ 64) ⌝ }
+    ensures { λ _. ⌜ Rows (now (rows .exit)) (withAction (modeOf paint) (act (taskIn (now (task .entry))) i) (setsOf (now (rows .entry)))) ⌝ }
 {
-    let from = wide(table[4 * i + 1]);
-    let mid = wide(table[4 * i + 2]);
-    let to = wide(table[4 * i + 3]);
-    let affected = touched(table, mid, to) & paint;
+    let to = task::eff_end(task, i);
+    let affected = touched(task, task::eff_start(task, i), to) & paint;
     if affected == 0 {
         return;
     }
-    add_arcs(rows, table, from, to, affected, paint);
+    add_arcs(rows, task, task::pre_start(task, i), to, affected, paint);
 }
 
-// The black causal graph.
-pub fn graph(bytes: &[u8], table: &[u16], paint: u64, actions: usize) -> [u64; 64]
-    requires { ⌜ Given (now bytes) (now table) paint actions ⌝ }
-    ensures { λ r. ⌜ setsOf r ≡ blackArc (taskOf (now (bytes .entry))) ⌝ }
+// The black causal graph; `paint` are the black variables.
+pub fn graph(task: &[u16], paint: u64) -> [u64; 64]
+    requires { ⌜ Loaded (now task) × (modeOf paint ≡ black (taskIn (now task))) ⌝ }
+    ensures { λ r. ⌜ setsOf r ≡ blackArc (taskIn (now (task .entry))) ⌝ }
 {
+    let n = task::actions(task);
     let mut rows = [0u64; 64];
     let mut i: usize = 0;
-    while i < actions {
-        add_action(&mut rows, table, i, paint);
+    while i < n {
+        add_action(&mut rows, task, i, paint);
         i += 1;
     }
     rows
@@ -95,7 +85,7 @@ fn extended(row: u64, k: usize, onward: u64) -> u64
     requires { ⌜ k < 64 ⌝ }
     ensures { λ r. ⌜ modeOf r ≡ (λ v. inSet row v || (inSet row k && inSet onward v)) ⌝ }
 {
-    if (row >> k) % 2 == 1 {
+    if state::member(row, k) {
         row | onward
     } else {
         row
@@ -140,7 +130,7 @@ fn lowest_on_cycle(rows: &[u64; 64], n: usize) -> Found
 {
     let mut v: usize = 0;
     while v < n {
-        if (rows[v] >> v) % 2 == 1 {
+        if state::member(rows[v], v) {
             return Found::At(v);
         }
         v += 1;
@@ -149,10 +139,11 @@ fn lowest_on_cycle(rows: &[u64; 64], n: usize) -> Found
 }
 
 // Check 7: the lowest black variable on a cycle.
-pub fn cycle(bytes: &[u8], rows: [u64; 64], n: usize) -> Found
-    requires { ⌜ (recordCheck (now bytes) ≡ none) × (setsOf rows ≡ blackArc (taskOf (now bytes))) × (n ≡ variables (taskOf (now bytes))) ⌝ }
-    ensures { λ r. ⌜ foundOf r ≡ cyclic (taskOf (now (bytes .entry))) ⌝ }
+pub fn cycle(task: &[u16], rows: [u64; 64]) -> Found
+    requires { ⌜ Loaded (now task) × (setsOf rows ≡ blackArc (taskIn (now task))) ⌝ }
+    ensures { λ r. ⌜ foundOf r ≡ cyclic (taskIn (now (task .entry))) ⌝ }
 {
+    let n = task::variables(task);
     let ways = closure(rows, n);
     lowest_on_cycle(&ways, n)
 }
@@ -162,7 +153,7 @@ fn is_ready(row: u64, left: u64, v: usize) -> bool
     requires { ⌜ v < 64 ⌝ }
     ensures { λ r. ⌜ r ≡ (inSet left v && not (someBelow 64 (λ u. inSet left u && inSet row u))) ⌝ }
 {
-    if (left >> v) % 2 == 1 {
+    if state::member(left, v) {
         row & left == 0
     } else {
         false
@@ -184,34 +175,31 @@ fn lowest_ready(rows: &[u64; 64], left: u64, n: usize) -> Found
     Found::Nothing
 }
 
-// Variables in the front of a list.
-pub struct Order {
-    pub vars: [u16; 64],
-    pub count: usize,
+// The black variables in the places of the order, clients first. The answer is their number.
+fn fill_order(task: &mut [u16], rows: &[u64; 64], paint: u64) -> usize
+    requires { ⌜ Loaded (now task) × (setsOf (now rows) ≡ blackArc (taskIn (now task))) × (modeOf paint ≡ black (taskIn (now task))) ⌝ }
+    ensures { λ n. ⌜ Filled n (now (task .entry)) (now (task .exit)) ⌝ }
+{
+    let n = task::variables(task);
+    let mut left = paint;
+    let mut k: usize = 0;
+    while k < n {
+        let f = lowest_ready(rows, left, n);
+        let Found::At(v) = f else {
+            return k;
+        };
+        task::set_order(task, k, v);
+        left = left ^ state::single(v);
+        k += 1;
+    }
+    k
 }
 
-impl Order {
-    // The black variables, clients first.
-    pub fn clients_first(bytes: &[u8], rows: &[u64; 64], paint: u64, n: usize) -> Order
-        requires { ⌜ (recordCheck (now bytes) ≡ none) × (setsOf (now rows) ≡ blackArc (taskOf (now bytes))) × (modeOf paint ≡ black (taskOf (now bytes))) × (n ≡ variables (taskOf (now bytes))) ⌝ }
-        ensures { λ r. ⌜ (r .count ≤ 64) × (take (r .count) (r .vars) ≡ order (taskOf (now (bytes .entry)))) ⌝ }
-    {
-        let mut o = Order {
-            vars: [0; 64],
-            count: 0,
-        };
-        let mut left = paint;
-        let mut k: usize = 0;
-        while k < n {
-            let f = lowest_ready(rows, left, n);
-            let Found::At(v) = f else {
-                return o;
-            };
-            o.vars[k] = v as u16;
-            o.count = k + 1;
-            left = left ^ (1 << v);
-            k += 1;
-        }
-        o
-    }
+// The clients-first order of the black variables.
+pub fn write_order(task: &mut [u16], rows: &[u64; 64], paint: u64)
+    requires { ⌜ Loaded (now task) × (setsOf (now rows) ≡ blackArc (taskIn (now task))) × (modeOf paint ≡ black (taskIn (now task))) ⌝ }
+    ensures { λ _. ⌜ Ordered (now (task .entry)) (now (task .exit)) ⌝ }
+{
+    let n = fill_order(task, rows, paint);
+    task::end_order(task, n);
 }

@@ -1,17 +1,16 @@
 -- The definitions' values for each case of what judging answers.
-use mathlib.Core.Path.{_≡_}
 use mathlib.Core.Bool.{true, false}
 use mathlib.Core.List.{List, [], _∷_}
-use mathlib.Core.Option.{none}
-use Prim.Native.Nat.{ℕ, suc, _≤_}
+use Prim.Native.Nat.{ℕ, suc, _<_, _≤_}
 use lib.Dec.{ltb}
-use lib.ListN.{length}
-use Rattle.planning.specs.Basics.{Answer, refused, done}
-use Rattle.planning.specs.Record.{taskOf, recordCheck}
-use Rattle.planning.specs.Runs.{Judged, Judgement}
-use Rattle.planning.specs.Calls.{entriesCheck}
-use Rattle.bits.specs.declared.Refusal.{Refusal}
-use Rattle.table.specs.Table.{Tabled}
+use lib.ListN.{length, getD}
+use Rattle.planning.specs.Basics.{Check, inOrder, Answer, refused, done, answer}
+use Rattle.planning.specs.Record.{Task}
+use Rattle.planning.specs.Runs.{Judged, Judgement, judgement, actions, act, initial, stepsRun}
+use Rattle.planning.specs.Calls.{lengthCheck, entriesCheck, relaxedCheck}
+use Rattle.answers.specs.declared.Refusal.{Refusal}
+use Rattle.task.specs.Task.{taskIn, Loaded}
+use Rattle.state.specs.Sets.{modeOf}
 use Rattle.judge.specs.declared.Verdict.{Verdict}
 use Rattle.judge.specs.declared.Verdicts.{Verdicts}
 use Rattle.judge.specs.declared.Judging.{Judging}
@@ -23,7 +22,7 @@ judgedOf v = record { steps = v .steps; plan = v .plan }
 abbrev pub judgementOf : Verdicts → Judgement
 judgementOf v = record { relaxed′ = judgedOf (v .relaxed); redBlack = judgedOf (v .«red_black»); real′ = judgedOf (v .real) }
 
--- the paper's number and values for each case
+-- 3.11 and 9.5: number and values for each case
 abbrev pub answerOf : Judging → Answer Judgement
 answerOf (judging.Judged v) = done (judgementOf v)
 answerOf (judging.Refused f) = refused (f .number) (f .place)
@@ -32,12 +31,30 @@ abbrev pub refusalOf : Judging → Refusal
 refusalOf (judging.Judged v) = record { number = 0; place = 0 }
 refusalOf (judging.Refused f) = f
 
--- an accepted record, its table, and a list of its actions
-pub record Ready (s table l : List ℕ) : Type 0 where
-  pub accepted : recordCheck s ≡ none
-  pub tabled : Tabled (taskOf s) table
+-- each entry is an action of the task
+abbrev pub Entries : Task → List ℕ → Type 0
+Entries t l = (k : ℕ) → k < length l → getD l k 0 < actions t
+
+-- a loaded task, and a list of its actions
+pub record Ready (task l : List ℕ) : Type 0 where
+  pub loaded : Loaded task
   pub short : length l ≤ 32768
-  pub entries : entriesCheck (taskOf s) l ≡ none
+  pub entries : Entries (taskIn task) l
+
+-- the first n steps of the list run
+abbrev pub Runs : List ℕ → List ℕ → ℕ → ℕ → Type 0
+Runs task l mode n = n ≤ stepsRun (act (taskIn task)) (modeOf mode) l (initial (taskIn task))
+
+-- the checks of a list of actions, and of a caller's relaxed plan
+abbrev pub listCheck : Task → List ℕ → Check
+listCheck t l = inOrder (lengthCheck l ∷ entriesCheck t l ∷ [])
+
+abbrev pub callerCheck : Task → List ℕ → Check
+callerCheck t l = inOrder (lengthCheck l ∷ relaxedCheck t l ∷ [])
+
+-- the answer once the record has passed
+unfoldable pub judgedList : Task → List ℕ → Answer Judgement
+judgedList t l = answer (listCheck t l) (judgement t l)
 
 -- the entries before the first that is not below n
 unfoldable pub leading : ℕ → List ℕ → ℕ

@@ -1,24 +1,24 @@
-// Judging: for each of the three semantics, the steps of a list that run and whether it is a plan.
-use bits::Read;
-use bits::Refusal;
-use record::Checked;
+// Judging: for each of the three semantics, the steps of a list that run and whether it is a plan. The real run comes first: what it
+// does the others do, so that a real plan needs no other run.
+use answers::Checked;
+use answers::Number;
+use answers::Refusal;
 use state::Goals;
 use state::State;
 ghost use mathlib.Core.Path.{_≡_};
-ghost use mathlib.Core.List.{[], _∷_};
 ghost use mathlib.Core.Option.{none};
 ghost use Prim.Native.Nat.{_<_, _≤_};
 ghost use lib.ListN.{length};
-ghost use Rattle.planning.specs.Basics.{answer, inOrder};
-ghost use Rattle.planning.specs.Record.{taskOf, recordCheck};
+ghost use Rattle.planning.specs.Basics.{answer};
+ghost use Rattle.planning.specs.Record.{recordCheck};
 ghost use Rattle.planning.specs.Runs.{judged, judgement};
-ghost use Rattle.planning.specs.Calls.{lengthCheck, entriesCheck, relaxedCheck, judgeCall};
-ghost use Rattle.bits.specs.Answers.{readOf};
-ghost use Rattle.table.specs.Table.{Tabled};
-ghost use Rattle.state.specs.Sets.{singles, modeOf};
-ghost use Rattle.judge.specs.Answers.{judgedOf, judgementOf, answerOf, refusalOf, Ready, leading};
+ghost use Rattle.planning.specs.Calls.{judgeCall};
+ghost use Rattle.answers.specs.Answers.{valueOf};
+ghost use Rattle.task.specs.Task.{taskIn, Loaded};
+ghost use Rattle.state.specs.Sets.{modeOf};
+ghost use Rattle.judge.specs.Answers.{judgedOf, judgementOf, answerOf, refusalOf, Ready, Runs, leading, listCheck, callerCheck, judgedList};
 
-// Under one semantics: the steps run before the first that does not apply, and whether the list is a plan.
+// Under one semantics (3.11): how many steps run, and whether the list is a plan.
 pub struct Verdict {
     pub steps: u32,
     pub plan: bool,
@@ -30,41 +30,48 @@ pub struct Verdicts {
     pub real: Verdict,
 }
 
-// Variable v acts as black where bit v of `mode` is 1. Each step changes the one state: a state of its own for each would be
-// copied twice.
-pub fn judge_one(masks: &[u64; 64], bytes: &[u8], table: &[u16], list: &[u16], mode: u64) -> Verdict
-    requires { ⌜ Ready (now bytes) (now table) (now list) × (now masks ≡ singles) ⌝ }
-    ensures { λ r. ⌜ judgedOf r ≡ judged (taskOf (now (bytes .entry))) (modeOf mode) (now (list .entry)) ⌝ }
+// Variable v acts as black where bit v of `mode` is 1. The first `known` steps are known to apply, and are not tested.
+pub fn judge_one(task: &[u16], list: &[u16], mode: u64, known: usize) -> Verdict
+    requires { ⌜ Ready (now task) (now list) × Runs (now task) (now list) mode known ⌝ }
+    ensures { λ r. ⌜ judgedOf r ≡ judged (taskIn (now (task .entry))) (modeOf mode) (now (list .entry)) ⌝ }
 {
-    let mut s = State::initial(bytes);
+    let mut s = State::initial(task);
     let mut k: usize = 0;
     while k < list.len() {
         let i = list[k] as usize;
-        if !state::applies(masks, &s.sets, table, i) {
-            let steps = k as u32;
-            return Verdict { steps, plan: false };
+        if known <= k {
+            if !state::applies(&s.sets, task, i) {
+                let steps = k as u32;
+                return Verdict { steps, plan: false };
+            }
         }
-        state::apply(&mut s.sets, table, i, mode);
+        s = s.step(task, i, mode);
         k += 1;
     }
-    let g = Goals::load(bytes);
+    let g = Goals::load(task);
     let n = g.count;
     let steps = k as u32;
     Verdict {
         steps,
-        plan: state::all_hold(masks, &s.sets, &g.facts, 0, n),
+        plan: state::all_hold(&s.sets, &g.facts, 0, n),
     }
 }
 
-pub fn judge_all(bytes: &[u8], table: &[u16], list: &[u16]) -> Verdicts
-    requires { ⌜ Ready (now bytes) (now table) (now list) ⌝ }
-    ensures { λ r. ⌜ judgementOf r ≡ judgement (taskOf (now (bytes .entry))) (now (list .entry)) ⌝ }
+// The three verdicts. The steps that run for real need no test as painted, and those that run as painted none in the relaxed run.
+pub fn judge_all(task: &[u16], list: &[u16]) -> Verdicts
+    requires { ⌜ Ready (now task) (now list) ⌝ }
+    ensures { λ r. ⌜ judgementOf r ≡ judgement (taskIn (now (task .entry))) (now (list .entry)) ⌝ }
 {
-    let masks = state::single_sets();
-    let painted = state::painted(bytes);
-    let relaxed = judge_one(&masks, bytes, table, list, 0);
-    let red_black = judge_one(&masks, bytes, table, list, painted);
-    let real = judge_one(&masks, bytes, table, list, 18446744073709551615);
+    let real = judge_one(task, list, u64::MAX, 0);
+    if real.plan {
+        return Verdicts {
+            relaxed: real,
+            red_black: real,
+            real,
+        };
+    }
+    let red_black = judge_one(task, list, state::painted(task), real.steps as usize);
+    let relaxed = judge_one(task, list, 0, red_black.steps as usize);
     Verdicts {
         relaxed,
         red_black,
@@ -86,45 +93,44 @@ fn leading(list: &[u16], n: usize) -> usize
     k
 }
 
-// The list on its own: 13, then 9.
-pub fn check_list(bytes: &[u8], list: &[u16]) -> Read
-    requires { ⌜ recordCheck (now bytes) ≡ none ⌝ }
-    ensures { λ r. ⌜ readOf r ≡ answer (inOrder (lengthCheck (now (list .entry)) ∷ entriesCheck (taskOf (now (bytes .entry))) (now (list .entry)) ∷ [])) (length (now (list .entry))) ⌝ }
+// A list of actions: 13, then 9.
+pub fn check_list(task: &[u16], list: &[u16]) -> Number
+    requires { ⌜ Loaded (now task) ⌝ }
+    ensures { λ r. ⌜ valueOf r ≡ answer (listCheck (taskIn (now (task .entry))) (now (list .entry))) (length (now (list .entry))) ⌝ }
 {
     if 32768 < list.len() {
-        return Read::Refused(Refusal {
+        return Number::Refused(Refusal {
             number: 13,
             place: 32768,
         });
     }
-    let n = leading(list, table::actions(bytes));
+    let n = leading(list, task::actions(task));
     if n < list.len() {
-        return Read::Refused(Refusal {
+        return Number::Refused(Refusal {
             number: 9,
             place: n as u32,
         });
     }
-    Read::Value(n as u32)
+    Number::Value(n as u32)
 }
 
 // A caller's relaxed plan: 13, then 9. Its entries run up to the first that is not below A.
-pub fn check_relaxed(bytes: &[u8], table: &[u16], list: &[u16]) -> Read
-    requires { ⌜ (recordCheck (now bytes) ≡ none) × Tabled (taskOf (now bytes)) (now table) ⌝ }
-    ensures { λ r. ⌜ readOf r ≡ answer (inOrder (lengthCheck (now (list .entry)) ∷ relaxedCheck (taskOf (now (bytes .entry))) (now (list .entry)) ∷ [])) (length (now (list .entry))) ⌝ }
+pub fn check_relaxed(task: &[u16], list: &[u16]) -> Number
+    requires { ⌜ Loaded (now task) ⌝ }
+    ensures { λ r. ⌜ valueOf r ≡ answer (callerCheck (taskIn (now (task .entry))) (now (list .entry))) (length (now (list .entry))) ⌝ }
 {
     if 32768 < list.len() {
-        return Read::Refused(Refusal {
+        return Number::Refused(Refusal {
             number: 13,
             place: 32768,
         });
     }
-    let n = leading(list, table::actions(bytes));
-    let masks = state::single_sets();
-    let v = judge_one(&masks, bytes, table, &list[..n], 0);
+    let n = leading(list, task::actions(task));
+    let v = judge_one(task, &list[..n], 0, 0);
     if v.plan && n == list.len() {
-        return Read::Value(n as u32);
+        return Number::Value(n as u32);
     }
-    Read::Refused(Refusal {
+    Number::Refused(Refusal {
         number: 9,
         place: v.steps,
     })
@@ -149,32 +155,31 @@ pub fn refusal_of(j: Judging) -> Refusal
     f
 }
 
-// An accepted record and a list of its actions. A byte of the record makes at most 4 / 3 numbers of the table, so that a small
-// record does with a small one.
-fn judge_loaded(bytes: &[u8], list: &[u16]) -> Verdicts
-    requires { ⌜ (recordCheck (now bytes) ≡ none) × (length (now list) ≤ 32768) × (entriesCheck (taskOf (now bytes)) (now list) ≡ none) ⌝ }
-    ensures { λ r. ⌜ judgementOf r ≡ judgement (taskOf (now (bytes .entry))) (now (list .entry)) ⌝ }
+// Checks 13 and 9 of a list, then the verdicts.
+fn judge_loaded(task: &[u16], list: &[u16]) -> Judging
+    requires { ⌜ Loaded (now task) ⌝ }
+    ensures { λ r. ⌜ answerOf r ≡ judgedList (taskIn (now (task .entry))) (now (list .entry)) ⌝ }
 {
-    if bytes.len() <= 3072 {
-        let mut numbers = [0u16; 4096];
-        table::load(bytes, &mut numbers);
-        return judge_all(bytes, &numbers, list);
-    }
-    let mut numbers = [0u16; 34816];
-    table::load(bytes, &mut numbers);
-    judge_all(bytes, &numbers, list)
+    let l = check_list(task, list);
+    let Number::Refused(f) = l else {
+        return Judging::Judged(judge_all(task, list));
+    };
+    Judging::Refused(f)
 }
 
-// Checks 13 and 9, then the verdicts.
+// The same from an accepted record. A byte makes at most 4 / 3 numbers, so that a small record does with a small list.
 fn judge_accepted(bytes: &[u8], list: &[u16]) -> Judging
     requires { ⌜ recordCheck (now bytes) ≡ none ⌝ }
     ensures { λ r. ⌜ answerOf r ≡ judgeCall (now (bytes .entry)) (now (list .entry)) ⌝ }
 {
-    let l = check_list(bytes, list);
-    let Read::Refused(f) = l else {
-        return Judging::Judged(judge_loaded(bytes, list));
-    };
-    Judging::Refused(f)
+    if task::is_short(bytes) {
+        let mut small = [0u16; task::SHORT];
+        task::load(bytes, &mut small);
+        return judge_loaded(&small, list);
+    }
+    let mut large = [0u16; task::LONG];
+    task::load(bytes, &mut large);
+    judge_loaded(&large, list)
 }
 
 // A list of actions judged: checks 1 to 6, 13, 9.

@@ -1,23 +1,21 @@
 // Reads a record on standard input and writes its listing. A record has at most 49,315 bytes, so one byte more tells a longer
-// input from it: its refusal depends on no byte behind (crates/planning/proofs/Longest.antt). Where a read or a write fails, one line on
+// input from it: its listing depends on no byte behind (crates/planning/proofs/Listing.antt). Where a read or a write fails, one line on
 // standard error says so; after a failed read nothing is listed.
 use libc::STDERR_FILENO;
 use report::Input;
 
-fn list(bytes: &mut [u8], plan: &mut [u16], work: &mut [u16]) {
+fn list(bytes: &mut [u8]) {
     let input = report::read(bytes);
     let Input::Bytes(n) = input else {
         io::write_all(STDERR_FILENO, b"listing: reading failed\n");
         return;
     };
-    if !report::report(&bytes[..n], plan, work) {
+    if !report::print(&bytes[..n]) {
         io::write_all(STDERR_FILENO, b"listing: writing failed\n");
     }
 }
 
 fn main() {
     let mut bytes = [0u8; 49316];
-    let mut plan = [0u16; 16384];
-    let mut work = [0u16; 16384];
-    list(&mut bytes, &mut plan, &mut work);
+    list(&mut bytes);
 }

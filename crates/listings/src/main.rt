@@ -24,7 +24,7 @@ fn read_count() -> usize {
 }
 
 // Whether there was one more record, whole, and its listing is written.
-fn list_next(bytes: &mut [u8], plan: &mut [u16], work: &mut [u16]) -> bool {
+fn list_next(bytes: &mut [u8]) -> bool {
     let n = read_count();
     if bytes.len() < n {
         return false;
@@ -33,20 +33,18 @@ fn list_next(bytes: &mut [u8], plan: &mut [u16], work: &mut [u16]) -> bool {
     let Input::Bytes(m) = input else {
         return false;
     };
-    m == n && report::report(&bytes[..n], plan, work)
+    m == n && report::print(&bytes[..n])
 }
 
 // A loop has to end: no input has more records than this.
-fn list_all(bytes: &mut [u8], plan: &mut [u16], work: &mut [u16]) {
+fn list_all(bytes: &mut [u8]) {
     let mut left = u64::MAX;
-    while 0 < left && list_next(bytes, plan, work) {
+    while 0 < left && list_next(bytes) {
         left -= 1;
     }
 }
 
 fn main() {
     let mut bytes = [0u8; 49316];
-    let mut plan = [0u16; 16384];
-    let mut work = [0u16; 16384];
-    list_all(&mut bytes, &mut plan, &mut work);
+    list_all(&mut bytes);
 }

@@ -7,7 +7,7 @@ use Prim.Native.Nat.{ℕ}
 use Rattle.planning.specs.Basics.{refuse, answer, code, Answer, refused, done}
 use Rattle.planning.specs.Record.{recordCheck}
 use Rattle.planning.specs.Runs.{Judgement}
-use Rattle.bits.specs.declared.Refusal.{Refusal}
+use Rattle.answers.specs.declared.Refusal.{Refusal}
 use Rattle.judge.specs.declared.Judging.{Judging}
 use Rattle.judge.specs.declared.Judging.the-variants.{Judged, Refused}
 use Rattle.judge.specs.declared.Verdicts.{Verdicts}

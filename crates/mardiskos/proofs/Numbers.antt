@@ -11,7 +11,7 @@ use Rattle.planning.specs.Basics.{Check, check, refuse, andThen, inOrder, Answe
 use Rattle.planning.specs.Record.{fieldCheck, headerChecks, variableChecks, variablesChecks, factChecks, factsChecks, actionChecks, actionsChecks, recordChecks, recordCheck, taskOf}
 use Rattle.planning.specs.Painting.{acyclicCheck, returnCheck}
 use Rattle.planning.specs.Calls.{lengthCheck, relaxedCheck, roomCheck, goalsCheck, Planned, planCall, repairCall}
-use Rattle.bits.proofs.Stages.{answer-refused}
+use Rattle.answers.proofs.Stages.{answer-refused}
 use Rattle.mardiskos.specs.Plans.{planResultOf, answerIn}
 
 Numbered : Check → Type 0

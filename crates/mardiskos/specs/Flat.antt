@@ -1,4 +1,4 @@
--- What C is handed of an answer: "0 for accepted, else 32 × place + the number", and the verdicts, zero after a refusal.
+-- What C gets of the judge's answer (3.11): its code (9.4), and the verdicts, 0 after a refusal (9.3).
 use mathlib.Core.Bool.{false}
 use Prim.Native.Nat.{_+_, _*_}
 use Rattle.planning.specs.Basics.{Answer, refused, done}

@@ -1,4 +1,4 @@
--- What C reads of the planner's answer: its code, and the result's numbers, 0 after a refusal.
+-- What C reads of the planner's answer (9.2): its code (9.4), and the result's numbers, 0 after a refusal (9.3).
 use Prim.Native.Nat.{_+_, _*_, _/_, _%_}
 use mathlib.Core.Bool.{true, false}
 use lib.Dec.{eqb}

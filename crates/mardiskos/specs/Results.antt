@@ -1,4 +1,4 @@
--- What C gets of an answer beside its number: the result, and 0 after a refusal.
+-- What C gets of a sheet's answer beside its code: the result, and 0 after a refusal (9.3).
 use Prim.Native.Nat.{ℕ}
 use mathlib.Core.Bool.{false}
 use Rattle.planning.specs.Basics.{Answer, refused, done}

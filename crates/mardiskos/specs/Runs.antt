@@ -1,4 +1,4 @@
--- What C reads of an answer: its code, and the result's numbers, 0 after a refusal.
+-- What C reads of an answer of forward run and relaxed plan: its code (9.4), and the result's numbers, 0 after a refusal (9.3).
 use Prim.Native.Nat.{ℕ, _+_, _*_}
 use Rattle.planning.specs.Basics.{Answer, refused, done}
 use Rattle.planning.specs.Calls.{Forward}

@@ -3,13 +3,15 @@ mod plans;
 mod runs;
 mod sheets;
 
-use bits::Refusal;
+use answers::Checked;
+use answers::Number;
+use answers::Refusal;
 use judge::Judging;
-use record::Checked;
 ghost use mathlib.Core.Path.{_≡_};
 ghost use Prim.Native.Nat.{ℕ};
 ghost use Rattle.planning.specs.Basics.{code, refused};
 ghost use Rattle.planning.specs.Calls.{checkCode, judgeCall};
+ghost use Rattle.answers.specs.Answers.{valueOf};
 ghost use Rattle.mardiskos.specs.Flat.{flatOf};
 
 // The code of a refusal.
@@ -17,6 +19,16 @@ fn code_of(f: Refusal) -> u64
     ensures { λ r. ⌜ r ≡ code {A = ℕ} (refused (f .number) (f .place)) ⌝ }
 {
     32 * (f.place as u64) + (f.number as u64)
+}
+
+// The code of a number, or of its refusal.
+fn number_code(a: Number) -> u64
+    ensures { λ r. ⌜ r ≡ code (valueOf a) ⌝ }
+{
+    let Number::Refused(f) = a else {
+        return 0;
+    };
+    code_of(f)
 }
 
 // The check of a record: 0 for accepted, else 32 times the place and the number.

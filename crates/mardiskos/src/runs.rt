@@ -1,14 +1,14 @@
 // The forward run and the relaxed plan as C calls them. The code is 0, or 32 times the place and the number; after a refusal
 // the other fields are 0.
 use crate::code_of;
+use crate::number_code;
+use answers::Number;
 use forward::Found;
-use relax::Relaxed;
 ghost use mathlib.Core.Path.{_≡_};
 ghost use lib.ListN.{length};
 ghost use Rattle.planning.specs.Basics.{code};
 ghost use Rattle.planning.specs.Calls.{forwardCall, forwardList, relaxCall, relaxList};
 ghost use Rattle.forward.specs.Answers.{foundOf};
-ghost use Rattle.relax.specs.Answers.{relaxedOf};
 ghost use Rattle.mardiskos.specs.Runs.{forwardRunOf, relaxedPlanOf};
 
 #[repr(C)]
@@ -53,24 +53,15 @@ pub extern "C" fn mardiskos_forward(bytes: &[u8], plan: &mut [u16]) -> ForwardRu
     }
 }
 
-fn relaxed_code(a: Relaxed) -> u64
-    ensures { λ r. ⌜ r ≡ code (relaxedOf a) ⌝ }
-{
-    let Relaxed::Refused(f) = a else {
-        return 0;
-    };
-    code_of(f)
-}
-
 // The relaxed plan of a record in the front of the list, or the refusal by 1 to 6, 10, 11.
 #[no_mangle]
 pub extern "C" fn mardiskos_relax(bytes: &[u8], plan: &mut [u16]) -> RelaxedPlan
     ensures { λ r. ⌜ (r ≡ relaxedPlanOf (relaxCall (now (bytes .entry)) (length (now (plan .entry))))) × (now (plan .exit) ≡ relaxList (now (bytes .entry)) (length (now (plan .entry)))) ⌝ }
 {
     let a = relax::relax(bytes, plan);
-    let Relaxed::Steps(steps) = a else {
+    let Number::Value(steps) = a else {
         return RelaxedPlan {
-            code: relaxed_code(a),
+            code: number_code(a),
             steps: 0,
         };
     };

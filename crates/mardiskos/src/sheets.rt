@@ -1,23 +1,15 @@
 // Sheets as C calls them.
 use crate::code_of;
+use crate::number_code;
+use answers::Number;
 use sheet::Reading;
-use sheet::Written;
 ghost use mathlib.Core.Path.{_≡_};
 ghost use lib.ListN.{length, take};
 ghost use Rattle.planning.specs.Basics.{code};
 ghost use Rattle.planning.specs.Calls.{writeCall, writeBytes, readCall, readList};
-ghost use Rattle.sheet.specs.Answers.{sheet, writtenAs, readingAs};
+ghost use Rattle.sheet.specs.Answers.{sheet, readingAs};
 ghost use Rattle.sheet.specs.Again.{ReadsAs, WritesAs};
 ghost use Rattle.mardiskos.specs.Results.{sizeIn, headingIn};
-
-fn written_code(a: Written) -> u64
-    ensures { λ r. ⌜ r ≡ code (writtenAs a) ⌝ }
-{
-    let Written::Refused(f) = a else {
-        return 0;
-    };
-    code_of(f)
-}
 
 // Writing a sheet: 0 and the count of bytes, or 32 times the place and the number.
 #[repr(C)]
@@ -40,9 +32,9 @@ pub extern "C" fn mardiskos_write_sheet(
     ensures { λ r. ⌜ (r .code ≡ 0 → ReadsAs (take (r .bytes) (now (bytes .exit))) (sheet (now (list .entry)) cost real)) ⌝ }
 {
     let a = sheet::write(list, cost, real, bytes);
-    let Written::Size(n) = a else {
+    let Number::Value(n) = a else {
         return SheetSize {
-            code: written_code(a),
+            code: number_code(a),
             bytes: 0,
         };
     };

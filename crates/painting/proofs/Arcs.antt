@@ -1,6 +1,5 @@
 -- The arcs of one action: from the value that it needs or from every value, and what is left marked for the next action.
-use mathlib.Core.Path.{_≡_, refl, sym, ap, _∙_, subst}
-use mathlib.Core.Logic.{_⊎_, inl, inr}
+use mathlib.Core.Path.{_≡_, refl, sym, ap, _∙_}
 use mathlib.Core.Bool.{Bool, true, false, not, _&&_, _||_}
 use mathlib.Core.List.{List, _++_}
 use mathlib.Core.Option.{Option, none, some}
@@ -9,23 +8,26 @@ use native.Mathlib.Omega.{arith}
 use native.Mathlib.Decide.{ℕ-discrete}
 use lib.Dec.{T, eqb}
 use Rattle.planning.specs.Basics.{Refusal, Check, someBelow, first, refuseAt, andThen}
-use Rattle.planning.specs.Record.{Fact, Task, taskOf, recordCheck}
+use Rattle.planning.specs.Record.{Task}
 use Rattle.planning.specs.Runs.{State, has, look, variables, actions, act, black, count}
 use Rattle.planning.specs.Painting.{blackArc, onCycle, cyclic, lacksReturn, unreturned, acyclicCheck, returnCheck}
 use Rattle.planning.proofs.Below.{First?, first-is}
-use Rattle.planning.proofs.Facts.{look-some}
-use Rattle.planning.proofs.Formed.{Formed, formed-of, sorted-has}
-use Rattle.table.specs.Table.{factsIn, preAt, effAt, endAt}
-use Rattle.state.specs.Sets.{modeOf, Listed}
-use Rattle.state.proofs.Tabled.{tabled-action}
-use Rattle.graph.proofs.Rows.{factsIn-split}
+use Rattle.planning.proofs.Formed.{Formed}
+use Rattle.task.specs.Task.{taskIn}
+use Rattle.planning.specs.Repair.{order}
+use Rattle.task.specs.Links.{Chained, Relinked}
+use Rattle.task.proofs.Relinking.{relinked-task, relinked-none, relinked-trans}
+use Rattle.answers.specs.declared.Checked.{Checked}
+use Rattle.answers.specs.Answers.{checkOf}
+use Rattle.state.specs.Sets.{setsOf, Asked}
+use Rattle.graph.specs.Graph.{Ordered}
 use Rattle.graph.proofs.Searches.{some-found, some-lacks, Searched, searched-start, searched-turn, searched-hit, searched-end}
-use Rattle.painting.specs.Chains.{moveOf}
-use Rattle.painting.specs.Returns.{markAll, marked, Unmarked, returned, unreturnedFrom, arcsBy, lacksBy, lacks, asked, Ground, Moved, Lacking}
-use Rattle.painting.proofs.Chains.{Move, NoMove, move-is}
-use Rattle.painting.proofs.Walks.{move-of-act}
+use Rattle.painting.specs.Chains.{Acyclic, Linked}
+use Rattle.painting.specs.Returns.{markAll, marked, Unmarked, returned, unreturnedFrom, arcsBy, lacksBy, lacks, Lacking}
+use Rattle.painting.specs.Answers.{Readied}
+use Rattle.painting.proofs.Chains.{Move, NoMove, acyclic-relinked, ordered-chained, ordered-relinked}
 use Rattle.painting.proofs.Marks.{Allows, marks-allow, unmarked-all, unmarked-more}
-use Rattle.painting.proofs.Returns.{has-right, facts-small, lacks-is, lacks-none, ground-listed, ground-pre}
+use Rattle.painting.proofs.Returns.{has-right, facts-small, lacks-is, lacks-none}
 
 -- the fact of the same variable with the value d
 module _ (f d : ℕ) (b : d < 64) where
@@ -72,80 +74,43 @@ module _ (t : Task) (m : State) (v e from to : ℕ) where
     trying-end h = sym (some-lacks (to - from) (λ k. not (eqb (from + k) e) && not (returned t m v (from + k))) (λ k b. R .passed k (omega (arith, R .low))))
 
 -- which values are tried
-module _ (s table head chain : List ℕ) (G : Ground s table head chain) (m : State) (i v e d : ℕ) (h : i < actions (taskOf s)) (a b : ℕ) (ea : a ≡ preAt table i) (eb : b ≡ effAt table i)
-    (ed : d ≡ asked (look (factsIn table a b) v)) where
-  asks : d ≡ asked (look (act (taskOf s) i .pre) v)
-  asks = ed ∙ ap (λ (fs : List Fact). asked (look fs v)) (ground-pre s table head chain G i a b h ea eb)
-
-  pub asked-one : d < 64 → unreturnedFrom (taskOf s) m v e d (d + 1 - d) ≡ lacksBy (taskOf s) m i v e
-  unfolding lacksBy asked
-  asked-one l = let z : d + 1 - d ≡ 1 = omega arith in rw z (go (look (act (taskOf s) i .pre) v) asks)
+module _ (t : Task) (m : State) (i v e d : ℕ) (q : Asked (look (act t i .pre) v) d) where
+  pub asked-one : d < 64 → unreturnedFrom t m v e d (d + 1 - d) ≡ lacksBy t m i v e
+  unfolding lacksBy
+  asked-one l = let z : d + 1 - d ≡ 1 = omega arith in rw z (go (look (act t i .pre) v) q)
     where
-      go : (o : Option ℕ) → d ≡ asked o → unreturnedFrom (taskOf s) m v e d 1 ≡ arcsBy o (taskOf s) m v e
+      go : (o : Option ℕ) → Asked o d → unreturnedFrom t m v e d 1 ≡ arcsBy o t m v e
       go none q = absurd (omega arith)
-      go (some x) q = rw q refl
+      go (some x) q = rw (q .0) refl
 
-  pub asked-all : 64 ≤ d → (n : ℕ) → n ≡ count (taskOf s) v → unreturnedFrom (taskOf s) m v e 0 (n - 0) ≡ lacksBy (taskOf s) m i v e
-  unfolding lacksBy asked
-  asked-all l n q = let z : n - 0 ≡ count (taskOf s) v = omega arith in rw z (go (look (act (taskOf s) i .pre) v) refl asks)
+  pub asked-all : 64 ≤ d → (n : ℕ) → n ≡ count t v → unreturnedFrom t m v e 0 (n - 0) ≡ lacksBy t m i v e
+  unfolding lacksBy
+  asked-all l n y = let z : n - 0 ≡ count t v = omega arith in rw z (go (look (act t i .pre) v) q)
     where
-      go : (o : Option ℕ) → look (act (taskOf s) i .pre) v ≡ o → d ≡ asked o → unreturnedFrom (taskOf s) m v e 0 (count (taskOf s) v) ≡ arcsBy o (taskOf s) m v e
-      go none y q = refl
-      go (some x) y q =
-          let F = formed-of s (G .accepted) in
-          let I = sorted-has (variables (taskOf s)) (count (taskOf s)) 0 (act (taskOf s) i .pre) (F .pre-sorted i) v x (look-some (act (taskOf s) i .pre) v x y) in
-          absurd (omega (arith, I .val-below, F .count-max v))
+      go : (o : Option ℕ) → Asked o d → unreturnedFrom t m v e 0 (count t v) ≡ arcsBy o t m v e
+      go none q = refl
+      go (some x) q = absurd (omega (arith, q .0, q .1))
 
-pub few-values : (s : List ℕ) (v n : ℕ) → recordCheck s ≡ none → n ≡ count (taskOf s) v → n ≤ 64
-few-values s v n e q = omega (arith, formed-of s e .count-max v)
+pub few-values : (t : Task) → Formed t → (v n : ℕ) → n ≡ count t v → n ≤ 64
+few-values t F v n e = omega (arith, F .count-max v)
 
 -- one action
-module _ (s table : List ℕ) (paint : ℕ) (head chain : List ℕ) (M : Moved s table paint head chain) (i : ℕ) (h : i < actions (taskOf s)) (marks : List ℕ) (U : Unmarked i marks)
-    (a b c f : ℕ) (ea : a ≡ preAt table i) (eb : b ≡ effAt table i) (ec : c ≡ endAt table i) (ef : f ≡ moveOf (modeOf paint) (factsIn table b c)) where
-  F : Formed (taskOf s)
-  F = formed-of s (M .ground .accepted)
+module _ (t : Task) (F : Formed t) (i : ℕ) (h : i < actions t) (marks : List ℕ) (U : Unmarked i marks) where
+  pub lacking-none : NoMove (black t) (act t i .eff) → Lacking t i marks false
+  lacking-none n = record { answer = sym (lacks-none t F i n); unmarked = unmarked-more i marks U }
 
-  L : Listed table i
-  L = ground-listed s table head chain (M .ground) i h
-
-  moves : f ≡ moveOf (black (taskOf s)) (act (taskOf s) i .eff)
-  moves = move-of-act paint table i L b c f eb ec ef ∙ rw (M .colours, tabled-action (taskOf s) table i (M .ground .tabled i h)) refl
-
-  kind : ((f ≡ 65535) × NoMove (black (taskOf s)) (act (taskOf s) i .eff)) ⊎ Move (black (taskOf s)) (act (taskOf s) i .eff) f
-  kind = subst (λ (g : ℕ). ((g ≡ 65535) × NoMove (black (taskOf s)) (act (taskOf s) i .eff)) ⊎ Move (black (taskOf s)) (act (taskOf s) i .eff) g) (sym moves)
-      (move-is (black (taskOf s)) (variables (taskOf s)) (count (taskOf s)) (F .variables-max) (F .count-max) 0 (act (taskOf s) i .eff) (F .eff-sorted i))
-
-  pub the-move : (f ≡ 65535 → ⊥) → Move (black (taskOf s)) (act (taskOf s) i .eff) f
-  the-move n = elim kind [ inl q ↦ absurd (n (q .0)) | inr q ↦ q ]
-
-  pub lacking-none : f ≡ 65535 → Lacking (taskOf s) i marks false
-  lacking-none e = elim kind [
-    | inl q ↦ record { answer = sym (lacks-none (taskOf s) F i (q .1)); unmarked = unmarked-more i marks U }
-    | inr q ↦ absurd (omega (arith, q .small))
-  ]
-
-  all-facts : factsIn table a c ≡ act (taskOf s) i .pre ++ act (taskOf s) i .eff
-  all-facts =
-      let r = M .ground .tabled i h in
-      factsIn-split table (b - a) a b c (omega (arith, r .pre-below)) (omega (arith, r .eff-below)) (omega (arith, r .end-below)) ∙ rw (ea, eb, ec, r .pre, r .eff) refl
-
-  pub lacking-move : (f ≡ 65535 → ⊥) → (marks′ : List ℕ) → marks′ ≡ markAll i f (factsIn table a c) marks → (r : Bool) → r ≡ lacksBy (taskOf s) (marked i marks′) i (f / 64) (f % 64) → Lacking (taskOf s) i marks′ r
-  lacking-move n marks′ em r er = record {
-    answer = er ∙ lacks-is (taskOf s) F i (f / 64) (f % 64) (marked i marks′) (K .states) allows h (M .acyclic) (K .on);
-    unmarked = rw same (unmarked-all i f (K .small) (act (taskOf s) i .pre ++ act (taskOf s) i .eff) marks (facts-small (taskOf s) F i) (unmarked-more i marks U));
+  pub lacking-move : cyclic t ≡ none → (f : ℕ) → Move (black t) (act t i .eff) f → (marks′ : List ℕ) → marks′ ≡ markAll i f (act t i .pre ++ act t i .eff) marks
+      → (r : Bool) → r ≡ lacksBy t (marked i marks′) i (f / 64) (f % 64) → Lacking t i marks′ r
+  lacking-move Y f K marks′ same r er = record {
+    answer = er ∙ lacks-is t F i (f / 64) (f % 64) (marked i marks′) (K .states) allows h Y (K .on);
+    unmarked = rw same (unmarked-all i f (K .small) (act t i .pre ++ act t i .eff) marks (facts-small t F i) (unmarked-more i marks U));
   }
     where
-      K : Move (black (taskOf s)) (act (taskOf s) i .eff) f
-      K = the-move n
+      states : T (has (act t i .pre ++ act t i .eff) (f / 64) (f % 64))
+      states = has-right (act t i .pre) (act t i .eff) (f / 64) (f % 64) (K .states)
 
-      same : marks′ ≡ markAll i f (act (taskOf s) i .pre ++ act (taskOf s) i .eff) marks
-      same = em ∙ ap (λ (fs : List Fact). markAll i f fs marks) all-facts
-
-      states : T (has (act (taskOf s) i .pre ++ act (taskOf s) i .eff) (f / 64) (f % 64))
-      states = has-right (act (taskOf s) i .pre) (act (taskOf s) i .eff) (f / 64) (f % 64) (K .states)
-
-      allows : Allows (f / 64) (f % 64) (act (taskOf s) i .pre ++ act (taskOf s) i .eff) (marked i marks′)
-      allows = rw same (marks-allow i f (act (taskOf s) i .pre ++ act (taskOf s) i .eff) marks (K .small) (facts-small (taskOf s) F i) (omega (arith, F .actions-max)) U states)
+      allows : Allows (f / 64) (f % 64) (act t i .pre ++ act t i .eff) (marked i marks′)
+      allows = rw same (marks-allow i f (act t i .pre ++ act t i .eff) marks (K .small) (facts-small t F i) (omega (arith, F .actions-max)) U states)
 
 -- all actions in turn
 pub record Scanning (t : Task) (n : ℕ) (marks : List ℕ) (i : ℕ) : Type 0 where
@@ -195,15 +160,57 @@ refuseAt-none n (some p) e = let z : _≡_ {A = ℕ} 0 1 = cc in absurd (omega a
 pub seven-passes : (t : Task) (c : Check) (o : Option ℕ) → c ≡ refuseAt 7 o → o ≡ cyclic t → c ≡ none → cyclic t ≡ none
 seven-passes t c o e q z = sym q ∙ refuseAt-none 7 o (sym e ∙ z)
 
-pub seven-refuses : (t : Task) (c : Check) (o : Option ℕ) (f : Refusal) → c ≡ refuseAt 7 o → o ≡ cyclic t → c ≡ some f → (c ≡ andThen (acyclicCheck t) (returnCheck t)) × (cyclic t ≡ none → ⊥)
+seven-refuses : (t : Task) (c : Check) (o : Option ℕ) (f : Refusal) → c ≡ refuseAt 7 o → o ≡ cyclic t → c ≡ some f → c ≡ andThen (acyclicCheck t) (returnCheck t)
 unfolding acyclicCheck andThen refuseAt
 seven-refuses t c o f e q z =
     let a : refuseAt 7 (cyclic t) ≡ some f = ap (refuseAt 7) (sym q) ∙ sym e ∙ z in
-    (z ∙ rw (a) refl, λ y. clash (rw y at a))
-  where
-    clash : refuseAt 7 none ≡ some f → ⊥
-    clash w = let z : _≡_ {A = ℕ} 0 1 = cc in omega arith
+    z ∙ rw a refl
 
-pub eight-follows : (t : Task) (c : Check) (o : Option ℕ) → cyclic t ≡ none → c ≡ refuseAt 8 o → o ≡ unreturned t → c ≡ andThen (acyclicCheck t) (returnCheck t)
+eight-follows : (t : Task) (c : Check) (o : Option ℕ) → cyclic t ≡ none → c ≡ refuseAt 8 o → o ≡ unreturned t → c ≡ andThen (acyclicCheck t) (returnCheck t)
 unfolding acyclicCheck returnCheck andThen refuseAt
 eight-follows t c o y e q = e ∙ rw (q, y) refl
+
+-- where 7 refuses, nothing is written
+pub readied-seven : (task : List ℕ) (r : Checked) (f : Refusal) (o : Option ℕ) → checkOf r ≡ refuseAt 7 o → o ≡ cyclic (taskIn task) → checkOf r ≡ some f → Readied task r task
+readied-seven task r f o e q z = record {
+  answer = seven-refuses (taskIn task) (checkOf r) o f e q z;
+  same = refl;
+  relinked = relinked-none task;
+  prepared = λ y. let c : _≡_ {A = ℕ} 0 1 = cc in absurd (omega arith);
+}
+
+-- where 7 passes: the chains, then the order, then 8
+module _ (before linked : List ℕ) (paint : ℕ) (A : Acyclic before paint) (L : Linked before linked) where
+  pub linked-acyclic : Acyclic linked paint
+  linked-acyclic = acyclic-relinked before linked paint A (L .relinked)
+
+  pub linked-rows : (rows : List ℕ) → setsOf rows ≡ blackArc (taskIn before) → setsOf rows ≡ blackArc (taskIn linked)
+  linked-rows rows e = e ∙ ap blackArc (sym (relinked-task before linked (A .loaded) (L .relinked)))
+
+module _ (before linked after : List ℕ) (paint : ℕ) (A : Acyclic before paint) (L : Linked before linked) (O : Ordered linked after) where
+  all : Relinked before after
+  all = relinked-trans before linked after (L .relinked) (ordered-relinked linked after O)
+
+  same : taskIn after ≡ taskIn before
+  same = relinked-task before after (A .loaded) all
+
+  pub readied-chained : Chained (taskIn after) after
+  readied-chained = rw same (ordered-chained (taskIn before) linked after O (L .chained))
+
+  pub readied-acyclic : Acyclic after paint
+  readied-acyclic = acyclic-relinked before after paint A all
+
+  pub readied-eight : (r : Checked) (o : Option ℕ) → checkOf r ≡ refuseAt 8 o → o ≡ unreturned (taskIn after) → Readied before r after
+  readied-eight r o e q = record {
+    answer = eight-follows (taskIn before) (checkOf r) o (A .acyclic) e (q ∙ ap unreturned same);
+    same = same;
+    relinked = all;
+    prepared = λ z. record {
+      loaded = readied-acyclic .loaded;
+      acyclic = readied-acyclic .acyclic;
+      returns = sym q ∙ refuseAt-none 8 o (sym e ∙ z);
+      chained = readied-chained;
+      few = O .few;
+      ordered = O .ordered ∙ ap order (relinked-task before linked (A .loaded) (L .relinked) ∙ sym same);
+    };
+  }

@@ -1,29 +1,27 @@
--- The chains, built from the last action to the first: at action i, `head` has the first action from i on that sets each black
+-- The chains, built from the last action to the first: at action i the heads have the first action from i on that sets each black
 -- fact. An action has one move at most, since 7 passes, so that it stands in one chain.
-use mathlib.Core.Path.{_≡_, refl, sym, _∙_, subst}
+use mathlib.Core.Path.{_≡_, refl, sym, ap, _∙_, subst}
 use mathlib.Core.Logic.{_⊎_, inl, inr}
 use mathlib.Core.Bool.{Bool, true, false}
 use mathlib.Core.List.{List, [], _∷_}
-use mathlib.Core.Option.{none}
 use Prim.Native.Nat.{ℕ, _+_, _-_, _*_, _/_, _%_, _<_, _≤_}
 use native.Mathlib.Omega.{arith}
-use native.Mathlib.Decide.{ℕ-discrete}
+use native.Mathlib.Decide.{ℕ-discrete, decLt}
 use borrow.Author.Tests.{eq-eqb, ne-eqb}
-use lib.Dec.{T, eqb}
-use lib.ListN.{length, getD, set, replicate, length-set, length-replicate, getD-replicate}
-use lib.Seq.{getD-set-same, getD-set-other}
-use Rattle.planning.specs.Record.{Fact, Task, taskOf}
+use lib.Dec.{T}
+use lib.ListN.{length}
+use Rattle.planning.specs.Record.{Fact, Task}
 use Rattle.planning.specs.Runs.{Mode, has, variables, actions, act, black, count}
-use Rattle.planning.specs.Painting.{cyclic}
 use Rattle.planning.proofs.Facts.{has-here, has-there, has-cases, has→touches}
-use Rattle.planning.proofs.Formed.{Formed, Sorted, formed-of, sorted-func}
-use Rattle.planning.proofs.Painting.{one-black}
-use Rattle.state.specs.Sets.{modeOf, actionOf}
-use Rattle.graph.specs.Given.{Given}
-use Rattle.graph.proofs.Rows.{given-act}
+use Rattle.planning.proofs.Formed.{Formed, Sorted, sorted-func}
+use Rattle.planning.proofs.Painting.{black-inside, one-black}
+use Rattle.task.specs.Task.{taskIn, Loaded}
+use Rattle.task.specs.Links.{headAt, nextAt, linked, Next, Sets, Chained, Link, Relinked, Unlinked}
+use Rattle.task.proofs.Relinking.{relinked-task, relinked-loaded, relinked-none, relinked-link, relinked-trans, head-new, head-old, next-new, next-old}
+use Rattle.state.specs.Sets.{modeOf}
+use Rattle.graph.specs.Graph.{Ordered}
 use Rattle.graph.proofs.Searches.{false-not}
-use Rattle.state.specs.Chains.{Next, Sets, Chained}
-use Rattle.painting.specs.Chains.{moveOf, Linked}
+use Rattle.painting.specs.Chains.{moveOf, linkedMove, Acyclic, Linked}
 
 -- f is a fact of the list on a variable of m
 pub record Move (m : Mode) (fs : List Fact) (f : ℕ) : Type 0 where
@@ -76,55 +74,80 @@ module _ (n : ℕ) (P : ℕ → Type 0) where
       go j (yes e) l k m p = absent (subst P e p)
       go j (no e) l k m p = N .least j (omega arith) k m p
 
-pub record Linking (s : List ℕ) (head chain : List ℕ) (i : ℕ) : Type 0 where
-  pub within : i ≤ actions (taskOf s)
-  pub facts : length head ≡ 4096
-  pub acts : length chain ≡ 1024
-  pub heads : (v e : ℕ) → v < 64 → e < 64 → T (black (taskOf s) v) → Next (actions (taskOf s)) (Sets (taskOf s) v e) i (getD head (64 * v + e) 0)
-  pub links : (v e j : ℕ) → T (black (taskOf s) v) → i ≤ j → j < actions (taskOf s) → Sets (taskOf s) v e j → Next (actions (taskOf s)) (Sets (taskOf s) v e) (j + 1) (getD chain j 0)
+-- a task with other links is the same task
+pub acyclic-relinked : (before after : List ℕ) (paint : ℕ) → Acyclic before paint → Relinked before after → Acyclic after paint
+acyclic-relinked before after paint A R =
+    let e = relinked-task before after (A .loaded) R in
+    record { loaded = relinked-loaded before after (A .loaded) R; colours = rw e (A .colours); acyclic = rw e (A .acyclic) }
 
-module _ (s table : List ℕ) (paint n : ℕ) (G : Given s table paint n) (Y : cyclic (taskOf s) ≡ none) where
-  t : Task
-  t = taskOf s
+-- the move of an action
+module _ (m : Mode) (t : Task) (F : Formed t) (i : ℕ) where
+  pub formed-move : ((moveOf m (act t i .eff) ≡ 65535) × NoMove m (act t i .eff)) ⊎ Move m (act t i .eff) (moveOf m (act t i .eff))
+  formed-move = move-is m (variables t) (count t) (F .variables-max) (F .count-max) 0 (act t i .eff) (F .eff-sorted i)
 
-  pub linking-start : (head chain : List ℕ) (i : ℕ) → head ≡ replicate 4096 65535 → length chain ≡ 1024 → i ≡ n → Linking s head chain i
-  linking-start head chain i eh ec ei = record {
-    within = omega (arith, G .all);
-    facts = rw eh (length-replicate {A = ℕ} 4096 65535);
-    acts = ec;
-    heads = λ v e vb eb o. rw (eh, getD-replicate {A = ℕ} 4096 (64 * v + e) 65535 0 (omega arith)) (next-none (actions (taskOf s)) (Sets (taskOf s) v e) i (omega (arith, G .all)));
-    links = λ v e j o l k h. absurd (omega (arith, G .all));
-  }
+  pub the-move : (f : ℕ) → f ≡ moveOf m (act t i .eff) → (f ≡ 65535 → ⊥) → Move m (act t i .eff) f
+  the-move f e n = elim formed-move [ inl q ↦ absurd (n (e ∙ q .0)) | inr q ↦ rw e q ]
+
+  pub no-move : (f : ℕ) → f ≡ moveOf m (act t i .eff) → f ≡ 65535 → NoMove m (act t i .eff)
+  no-move f e n = elim formed-move [ inl q ↦ q .1 | inr q ↦ absurd (omega (arith, q .small)) ]
+
+pub colour-move : (task : List ℕ) (paint : ℕ) → Acyclic task paint → (f : ℕ) (fs : List Fact) → f ≡ moveOf (modeOf paint) fs → f ≡ moveOf (black (taskIn task)) fs
+colour-move task paint A f fs e = e ∙ ap (λ (m : Mode). moveOf m fs) (A .colours)
+
+pub link-none : (f g i : ℕ) (task : List ℕ) → f ≡ g → f ≡ 65535 → task ≡ linkedMove g i task
+unfolding linkedMove
+link-none f g i task q e = rw (← q, eq-eqb f 65535 e) refl
+
+pub link-one : (f g i : ℕ) (task task′ : List ℕ) → f ≡ g → (f ≡ 65535 → ⊥) → task′ ≡ linked f i task → task′ ≡ linkedMove g i task
+unfolding linkedMove
+link-one f g i task task′ q n e = rw (← q, ne-eqb f 65535 n) e
+
+-- the chains of the actions from i on
+pub record Linking (task₀ task : List ℕ) (i : ℕ) : Type 0 where
+  pub relinked : Relinked task₀ task
+  pub within : i ≤ actions (taskIn task₀)
+  pub heads : (v e : ℕ) → v < 64 → e < 64 → T (black (taskIn task₀) v) → Next (actions (taskIn task₀)) (Sets (taskIn task₀) v e) i (headAt task (64 * v + e))
+  pub links : (v e j : ℕ) → T (black (taskIn task₀) v) → i ≤ j → j < actions (taskIn task₀) → Sets (taskIn task₀) v e j
+      → Next (actions (taskIn task₀)) (Sets (taskIn task₀) v e) (j + 1) (nextAt task j)
+
+module _ (task₀ : List ℕ) (paint : ℕ) (A : Acyclic task₀ paint) where
+  F : Formed (taskIn task₀)
+  F = A .loaded .formed
 
   -- two black facts that one action sets are the same
-  one-move : (i v e w x : ℕ) → i < actions (taskOf s) → T (black (taskOf s) v) → T (black (taskOf s) w) → Sets (taskOf s) v e i → Sets (taskOf s) w x i → (v ≡ w) × (e ≡ x)
+  one-move : (i v e w x : ℕ) → i < actions (taskIn task₀) → T (black (taskIn task₀) v) → T (black (taskIn task₀) w) → Sets (taskIn task₀) v e i → Sets (taskIn task₀) w x i → (v ≡ w) × (e ≡ x)
   one-move i v e w x b ov ow h g =
-      let F = formed-of s (G .accepted) in
-      let q : v ≡ w = one-black (taskOf s) F Y i v w b (has→touches (act (taskOf s) i .eff) v e h) (has→touches (act (taskOf s) i .eff) w x g) ov ow in
-      (q, sorted-func (variables (taskOf s)) (count (taskOf s)) 0 (act (taskOf s) i .eff) (F .eff-sorted i) w e x (subst (λ (y : ℕ). T (has (act (taskOf s) i .eff) y e)) q h) g)
+      let q : v ≡ w = one-black (taskIn task₀) F (A .acyclic) i v w b (has→touches (act (taskIn task₀) i .eff) v e h) (has→touches (act (taskIn task₀) i .eff) w x g) ov ow in
+      let k : T (has (act (taskIn task₀) i .eff) w e) = subst (λ (y : ℕ). T (has (act (taskIn task₀) i .eff) y e)) q h in
+      (q, sorted-func (variables (taskIn task₀)) (count (taskIn task₀)) 0 (act (taskIn task₀) i .eff) (F .eff-sorted i) w e x k g)
 
-  module _ (head chain : List ℕ) (i : ℕ) (L : Linking s head chain (i + 1)) where
-    below : i < actions (taskOf s)
+  module _ (task : List ℕ) (i : ℕ) (L : Linking task₀ task (i + 1)) where
+    below : i < actions (taskIn task₀)
     below = omega (arith, L .within)
 
-    linked-none : NoMove (black (taskOf s)) (act (taskOf s) i .eff) → Linking s head chain i
+    near : i < 1024
+    near = omega (arith, below, F .actions-max)
+
+    room : 5444 ≤ length task
+    room = omega (arith, A .loaded .head, L .relinked .long)
+
+    linked-none : NoMove (black (taskIn task₀)) (act (taskIn task₀) i .eff) → Linking task₀ task i
     linked-none absent = record {
+      relinked = L .relinked;
       within = omega (arith, L .within);
-      facts = L .facts;
-      acts = L .acts;
-      heads = λ v e vb eb o. next-skip (actions (taskOf s)) (Sets (taskOf s) v e) i (getD head (64 * v + e) 0) (absent v e o) (L .heads v e vb eb o);
+      heads = λ v e vb eb o. next-skip (actions (taskIn task₀)) (Sets (taskIn task₀) v e) i (headAt task (64 * v + e)) (absent v e o) (L .heads v e vb eb o);
       links = λ v e j o l k h. go v e j (ℕ-discrete j i) o l k h;
     }
       where
-        go : (v e j : ℕ) → Dec (j ≡ i) → T (black (taskOf s) v) → i ≤ j → j < actions (taskOf s) → Sets (taskOf s) v e j → Next (actions (taskOf s)) (Sets (taskOf s) v e) (j + 1) (getD chain j 0)
-        go v e j (yes q) o l k h = absurd (absent v e o (subst (λ (y : ℕ). T (has (act (taskOf s) y .eff) v e)) q h))
+        go : (v e j : ℕ) → Dec (j ≡ i) → T (black (taskIn task₀) v) → i ≤ j → j < actions (taskIn task₀) → Sets (taskIn task₀) v e j
+            → Next (actions (taskIn task₀)) (Sets (taskIn task₀) v e) (j + 1) (nextAt task j)
+        go v e j (yes q) o l k h = absurd (absent v e o (subst (λ (y : ℕ). T (has (act (taskIn task₀) y .eff) v e)) q h))
         go v e j (no q) o l k h = L .links v e j o (omega arith) k h
 
-    linked-move : (f : ℕ) → Move (black (taskOf s)) (act (taskOf s) i .eff) f → Linking s (set head f i) (set chain i (getD head f 0)) i
+    linked-move : (f : ℕ) → Move (black (taskIn task₀)) (act (taskIn task₀) i .eff) f → Linking task₀ (linked f i task) i
     linked-move f M = record {
+      relinked = relinked-link task₀ task f i (M .small) near (L .relinked);
       within = omega (arith, L .within);
-      facts = length-set head f i ∙ L .facts;
-      acts = length-set chain i (getD head f 0) ∙ L .acts;
       heads = λ v e vb eb o. front v e vb eb o (ℕ-discrete (64 * v + e) f);
       links = λ v e j o l k h. behind v e j (ℕ-discrete j i) o l k h;
     }
@@ -132,56 +155,95 @@ module _ (s table : List ℕ) (paint n : ℕ) (G : Given s table paint n) (Y : c
         number : 64 * (f / 64) + f % 64 ≡ f
         number = omega arith
 
-        front : (v e : ℕ) → v < 64 → e < 64 → T (black (taskOf s) v) → Dec (64 * v + e ≡ f) → Next (actions (taskOf s)) (Sets (taskOf s) v e) i (getD (set head f i) (64 * v + e) 0)
+        front : (v e : ℕ) → v < 64 → e < 64 → T (black (taskIn task₀) v) → Dec (64 * v + e ≡ f) → Next (actions (taskIn task₀)) (Sets (taskIn task₀) v e) i (headAt (linked f i task) (64 * v + e))
         front v e vb eb o (yes q) =
             let a : f / 64 ≡ v = omega arith in
             let c : f % 64 ≡ e = omega arith in
-            let p : Sets (taskOf s) v e i = rw (a, c) at (M .states) in
-            rw (q, getD-set-same head f i 0 (omega (arith, L .facts, M .small))) (next-here (actions (taskOf s)) (Sets (taskOf s) v e) i below p)
+            let p : Sets (taskIn task₀) v e i = rw (a, c) at (M .states) in
+            rw (q, head-new task f i (M .small) near room) (next-here (actions (taskIn task₀)) (Sets (taskIn task₀) v e) i below p)
         front v e vb eb o (no q) =
-            rw (getD-set-other head f (64 * v + e) i 0 q)
-            (next-skip (actions (taskOf s)) (Sets (taskOf s) v e) i (getD head (64 * v + e) 0)
+            rw (head-old task f i (M .small) near room (64 * v + e) (omega arith) q)
+            (next-skip (actions (taskIn task₀)) (Sets (taskIn task₀) v e) i (headAt task (64 * v + e))
             (λ h. let r = one-move i v e (f / 64) (f % 64) below o (M .on) h (M .states) in q (rw (r .0, r .1) number)) (L .heads v e vb eb o))
 
-        behind : (v e j : ℕ) → Dec (j ≡ i) → T (black (taskOf s) v) → i ≤ j → j < actions (taskOf s) → Sets (taskOf s) v e j → Next (actions (taskOf s)) (Sets (taskOf s) v e) (j + 1) (getD (set chain i (getD head f 0)) j 0)
+        behind : (v e j : ℕ) → Dec (j ≡ i) → T (black (taskIn task₀) v) → i ≤ j → j < actions (taskIn task₀) → Sets (taskIn task₀) v e j
+            → Next (actions (taskIn task₀)) (Sets (taskIn task₀) v e) (j + 1) (nextAt (linked f i task) j)
         behind v e j (yes q) o l k h =
-            let F = formed-of s (G .accepted) in
-            let g : Sets (taskOf s) v e i = subst (λ (y : ℕ). T (has (act (taskOf s) y .eff) v e)) q h in
+            let g : Sets (taskIn task₀) v e i = subst (λ (y : ℕ). T (has (act (taskIn task₀) y .eff) v e)) q h in
             let r = one-move i v e (f / 64) (f % 64) below o (M .on) g (M .states) in
             let z : f ≡ 64 * v + e = rw (r .0, r .1) (sym number) in
-            rw (q, getD-set-same chain i (getD head f 0) 0 (omega (arith, L .acts, F .actions-max)), z)
-            (L .heads v e (omega (arith, r .0, M .small)) (omega (arith, r .1)) o)
-        behind v e j (no q) o l k h = rw (getD-set-other chain i j (getD head f 0) 0 q) (L .links v e j o (omega arith) k h)
+            rw (q, next-new task f i (M .small) near room, z) (L .heads v e (omega (arith, r .0, M .small)) (omega (arith, r .1)) o)
+        behind v e j (no q) o l k h = rw (next-old task f i (M .small) near room j q) (L .links v e j o (omega arith) k h)
 
-    linking-turn : (head′ chain′ : List ℕ) → i < n → Linked (moveOf (modeOf paint) (actionOf table i .eff)) i head chain head′ chain′ → Linking s head′ chain′ i
-    linking-turn head′ chain′ h K = go (moveOf (black (taskOf s)) (act (taskOf s) i .eff)) moved
-        (move-is (black (taskOf s)) (variables (taskOf s)) (count (taskOf s)) (F .variables-max) (F .count-max) 0 (act (taskOf s) i .eff) (F .eff-sorted i))
+    linking-turn : (task′ : List ℕ) → task′ ≡ linkedMove (moveOf (black (taskIn task₀)) (act (taskIn task₀) i .eff)) i task → Linking task₀ task′ i
+    linking-turn task′ K = go (moveOf (black (taskIn task₀)) (act (taskIn task₀) i .eff)) K (formed-move (black (taskIn task₀)) (taskIn task₀) F i)
       where
-        F : Formed (taskOf s)
-        F = formed-of s (G .accepted)
+        go : (f : ℕ) → task′ ≡ linkedMove f i task
+            → ((f ≡ 65535) × NoMove (black (taskIn task₀)) (act (taskIn task₀) i .eff)) ⊎ Move (black (taskIn task₀)) (act (taskIn task₀) i .eff) f → Linking task₀ task′ i
+        go f K (inl r) = rw (K ∙ sym (link-none f f i task refl (r .0))) (linked-none (r .1))
+        go f K (inr M) = rw (K ∙ sym (link-one f f i task (linked f i task) refl (λ q. omega (arith, M .small)) refl)) (linked-move f M)
 
-        moved : Linked (moveOf (black (taskOf s)) (act (taskOf s) i .eff)) i head chain head′ chain′
-        moved = rw (G .colours, given-act s table paint n G i h) at K
+-- from the heads that are cleared to the chains
+module _ (entry task₀ : List ℕ) (paint : ℕ) (A : Acyclic entry paint) (n : ℕ) (U : Unlinked (64 * n) entry task₀) where
+  A₀ : Acyclic task₀ paint
+  A₀ = acyclic-relinked entry task₀ paint A (U .relinked)
 
-        go : (f : ℕ) → Linked f i head chain head′ chain′ → ((f ≡ 65535) × NoMove (black (taskOf s)) (act (taskOf s) i .eff)) ⊎ Move (black (taskOf s)) (act (taskOf s) i .eff) f → Linking s head′ chain′ i
-        go f K (inl r) =
-            let a : head′ ≡ head = K .heads ∙ rw (eq-eqb f 65535 (r .0)) refl in
-            let c : chain′ ≡ chain = K .links ∙ rw (eq-eqb f 65535 (r .0)) refl in
-            rw (a, c) (linked-none (r .1))
-        go f K (inr M) =
-            let o : eqb f 65535 ≡ false = ne-eqb f 65535 (λ q. omega (arith, M .small)) in
-            let a : head′ ≡ set head f i = K .heads ∙ rw o refl in
-            let c : chain′ ≡ set chain i (getD head f 0) = K .links ∙ rw o refl in
-            rw (a, c) (linked-move f M)
+  same₀ : taskIn task₀ ≡ taskIn entry
+  same₀ = relinked-task entry task₀ (A .loaded) (U .relinked)
 
-  pub linking-back : (head chain : List ℕ) (i : ℕ) → Linking s head chain i → 0 < i → (head′ chain′ : List ℕ) → Linked (moveOf (modeOf paint) (actionOf table (i - 1) .eff)) (i - 1) head chain head′ chain′ → Linking s head′ chain′ (i - 1)
-  linking-back head chain i L h head′ chain′ K =
-      linking-turn head chain (i - 1) (subst (Linking s head chain) (omega arith) L) head′ chain′ (omega (arith, L .within, G .all)) K
-
-  pub linking-end : (head chain : List ℕ) (i : ℕ) → Linking s head chain i → i ≤ 0 → Chained (taskOf s) head chain
-  linking-end head chain i L h =
-      let z : i ≡ 0 = omega arith in
+  pub linking-start : (i : ℕ) → n ≡ variables (taskIn entry) → i ≡ actions (taskIn entry) → Linking task₀ task₀ i
+  linking-start i en ei =
+      let last : actions (taskIn task₀) ≡ i = ap actions same₀ ∙ sym ei in
       record {
-        heads = λ v e vb eb o. subst (λ (y : ℕ). Next (actions (taskOf s)) (Sets (taskOf s) v e) y (getD head (64 * v + e) 0)) z (L .heads v e vb eb o);
-        links = λ v e j o k h. L .links v e j o (omega arith) k h;
+        relinked = relinked-none task₀;
+        within = omega (arith, last);
+        heads = λ v e vb eb o.
+            let h = U .heads (64 * v + e) (omega (arith, en, ap variables same₀, black-inside (taskIn task₀) v o)) in
+            rw h (next-none (actions (taskIn task₀)) (Sets (taskIn task₀) v e) i (omega (arith, last)));
+        links = λ v e j o l k h. absurd (omega (arith, last));
       }
+
+  module _ (task : List ℕ) (i : ℕ) (L : Linking task₀ task i) where
+    same : taskIn task ≡ taskIn task₀
+    same = relinked-task task₀ task (A₀ .loaded) (L .relinked)
+
+    pub linking-loaded : Loaded task
+    linking-loaded = relinked-loaded task₀ task (A₀ .loaded) (L .relinked)
+
+    pub linking-below : 0 < i → i - 1 < actions (taskIn task)
+    linking-below h = omega (arith, L .within, ap actions same)
+
+    pub linking-back : 0 < i → (task′ : List ℕ) → task′ ≡ linkedMove (moveOf (modeOf paint) (act (taskIn task) (i - 1) .eff)) (i - 1) task → Linking task₀ task′ (i - 1)
+    linking-back h task′ K = linking-turn task₀ paint A₀ task (i - 1) (subst (Linking task₀ task) (omega arith) L) task′ (rw (same, A₀ .colours) at K)
+
+    pub linking-long : length task ≡ length entry
+    linking-long = L .relinked .long ∙ U .relinked .long
+
+    pub linking-end : i ≤ 0 → Linked entry task
+    linking-end h =
+        let z : i ≡ 0 = omega arith in
+        record {
+          relinked = relinked-trans entry task₀ task (U .relinked) (L .relinked);
+          chained = rw (← same₀) (record {
+            heads = λ v e vb eb o. subst (λ (y : ℕ). Next (actions (taskIn task₀)) (Sets (taskIn task₀) v e) y (headAt task (64 * v + e))) z (L .heads v e vb eb o);
+            links = λ v e j o k h. L .links v e j o (omega arith) k h;
+          });
+        }
+
+-- the order stands outside of the chains, and both outside of the task
+pub ordered-chained : (t : Task) (before after : List ℕ) → Ordered before after → Chained t before → Chained t after
+ordered-chained t before after O C = record {
+  heads = λ v e vb eb o. rw (O .kept (324 + (64 * v + e)) (λ q. omega arith) (inr (omega arith))) (C .heads v e vb eb o);
+  links = λ v e i o b h. rw (O .kept (4420 + i) (λ q. omega arith) (inr (omega arith))) (C .links v e i o b h);
+}
+
+pub ordered-relinked : (before after : List ℕ) → Ordered before after → Relinked before after
+ordered-relinked before after O = record { long = O .long; kept = λ k h. O .kept k (λ q. h (inl q)) (go k h (decLt k 260)) }
+  where
+    go : (k : ℕ) → (Link k → ⊥) → Dec (k < 260) → (k < 260) ⊎ (324 ≤ k)
+    go k h (yes l) = inl l
+    go k h (no l) = inr (far (decLt k 5444))
+      where
+        far : Dec (k < 5444) → 324 ≤ k
+        far (yes m) = absurd (h (inr (omega arith, m)))
+        far (no m) = omega arith

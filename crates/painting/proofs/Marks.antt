@@ -1,6 +1,6 @@
 -- Marks: after action i has marked its facts, marked i are exactly those that a return of its move v = e may need: v = e itself,
 -- and its own facts on other variables.
-use mathlib.Core.Path.{_≡_, refl, sym, _∙_, subst}
+use mathlib.Core.Path.{_≡_, refl, sym, ap, _∙_, subst}
 use mathlib.Core.Logic.{_⊎_, inl, inr, _≢_}
 use mathlib.Core.Bool.{Bool, true, false, _||_}
 use mathlib.Core.List.{List, [], _∷_}
@@ -15,10 +15,11 @@ use Rattle.planning.specs.Record.{Fact}
 use Rattle.planning.specs.Runs.{State, has}
 use Rattle.planning.proofs.Tests.{or-l, or-r, or-cases}
 use Rattle.planning.proofs.Facts.{has-here, has-there, has-nil, has-cases}
-use Rattle.table.specs.Table.{factOf, factsIn}
+use Rattle.task.specs.Task.{factOf, factsIn}
 use Rattle.state.proofs.Effects.{factsIn-cons, factsIn-none}
-use Rattle.graph.specs.Given.{Facts}
+use Rattle.graph.specs.Graph.{Facts}
 use Rattle.painting.specs.Returns.{place, markAll, marked, Unmarked}
+use Rattle.painting.proofs.Walks.{number, facts-rest}
 
 pub place-own : (f g : ℕ) → g / 64 ≡ f / 64 → place f g ≡ f
 unfolding place
@@ -35,34 +36,29 @@ place-small f g a b = go (ℕ-discrete (g / 64) (f / 64))
     go (yes e) = rw (place-own f g e) a
     go (no n) = rw (place-other f g n) b
 
--- the loop
-pub record Marking (table : List ℕ) (a b f i : ℕ) (marks₀ marks : List ℕ) (k : ℕ) : Type 0 where
-  pub from : a ≤ k
-  pub to : k ≤ b
-  pub so-far : markAll i f (factsIn table a b) marks₀ ≡ markAll i f (factsIn table k b) marks
+-- the loop: marks so far with those of the facts from place k on are the marks of all
+pub record Marking (fs : List Fact) (task : List ℕ) (b f i : ℕ) (marks₀ marks : List ℕ) (k : ℕ) : Type 0 where
+  pub facts : Facts task k b
+  pub so-far : markAll i f fs marks₀ ≡ markAll i f (factsIn task k b) marks
 
-module _ (table : List ℕ) (a b f i : ℕ) (marks₀ : List ℕ) (F : Facts table a b) where
-  pub marking-start : Marking table a b f i marks₀ marks₀ a
-  marking-start = record { from = omega arith; to = F .rises; so-far = refl }
+module _ (fs : List Fact) (task : List ℕ) (b f i : ℕ) (marks₀ : List ℕ) where
+  pub marking-start : (k : ℕ) → Facts task k b → factsIn task k b ≡ fs → Marking fs task b f i marks₀ marks₀ k
+  marking-start k F e = record { facts = F; so-far = ap (λ (gs : List Fact). markAll i f gs marks₀) (sym e) }
 
-  module _ (marks : List ℕ) (k : ℕ) (M : Marking table a b f i marks₀ marks k) where
-    pub marking-small : k < b → f < 4096 → (g p : ℕ) → g ≡ getD table k 0 → p ≡ place f g → p < 4096
-    marking-small h l g p e q = rw q (place-small f g l (omega (arith, F .small k (M .from) h)))
+  module _ (marks : List ℕ) (k : ℕ) (M : Marking fs task b f i marks₀ marks k) where
+    pub marking-small : k < b → f < 4096 → (g p : ℕ) → g ≡ getD task k 0 → p ≡ place f g → p < 4096
+    marking-small h l g p e q = rw q (place-small f g l (omega (arith, M .facts .small k (omega arith) h)))
 
-    pub marking-turn : k < b → (g p : ℕ) → g ≡ getD table k 0 → p ≡ place f g → Marking table a b f i marks₀ (set marks p i) (k + 1)
+    pub marking-turn : k < b → (g p : ℕ) → g ≡ getD task k 0 → p ≡ place f g → Marking fs task b f i marks₀ (set marks p i) (k + 1)
     unfolding markAll factOf
     marking-turn h g p e q = record {
-      from = omega (arith, M .from);
-      to = omega arith;
-      so-far = M .so-far ∙ rw (factsIn-cons table k b h (F .within), markAll, number (getD table k 0), ← e, ← q) refl;
+      facts = facts-rest task k b (M .facts) h;
+      so-far = M .so-far ∙ rw (factsIn-cons task k b h (M .facts .within), markAll, number (getD task k 0), ← e, ← q) refl;
     }
-      where
-        number : (w : ℕ) → 64 * (w / 64) + w % 64 ≡ w
-        number w = omega arith
 
-    pub marking-end : b ≤ k → marks ≡ markAll i f (factsIn table a b) marks₀
+    pub marking-end : b ≤ k → marks ≡ markAll i f fs marks₀
     unfolding markAll
-    marking-end h = sym (M .so-far ∙ rw (factsIn-none table k b (omega (arith, M .to))) refl)
+    marking-end h = sym (M .so-far ∙ rw (factsIn-none task k b (omega (arith, M .facts .rises))) refl)
 
 -- variables and values below 64
 abbrev pub Small : List Fact → Type 0
@@ -105,7 +101,9 @@ module _ (i f : ℕ) (l : f < 4096) where
       hit x false z e = e
 
       go : Dec (p ≡ q) → (placed f gs p || eqb (getD (set marks q i) p 0) i) ≡ ((eqb p q || placed f gs p) || eqb (getD marks p 0) i)
-      go (yes e) = rw (e, getD-set-same marks q i 0 (omega (arith, n, place-small f (64 * g .var + g .val) l (omega (arith, S .0, S .1)))), eq-eqb q q refl) (hit (eqb i i) (placed f gs q) (eqb (getD marks q 0) i) (eq-eqb i i refl))
+      go (yes e) =
+          let b : q < length marks = omega (arith, n, place-small f (64 * g .var + g .val) l (omega (arith, S .0, S .1))) in
+          rw (e, getD-set-same marks q i 0 b, eq-eqb q q refl) (hit (eqb i i) (placed f gs q) (eqb (getD marks q 0) i) (eq-eqb i i refl))
       go (no e) = rw (ne-eqb p q e, getD-set-other marks q p i 0 e) refl
 
 -- what is marked
@@ -115,7 +113,8 @@ module _ (f : ℕ) where
   placed-elim [] p h = absurd h
   placed-elim (g ∷ gs) p h = go (or-cases (eqb p (place f (64 * g .var + g .val))) (placed f gs p) h) (placed-elim gs p)
     where
-      go : T (eqb p (place f (64 * g .var + g .val))) ⊎ T (placed f gs p) → (T (placed f gs p) → (u : ℕ) × (x : ℕ) × T (has gs u x) × (p ≡ place f (64 * u + x))) → (u : ℕ) × (x : ℕ) × T (has (g ∷ gs) u x) × (p ≡ place f (64 * u + x))
+      go : T (eqb p (place f (64 * g .var + g .val))) ⊎ T (placed f gs p)
+          → (T (placed f gs p) → (u : ℕ) × (x : ℕ) × T (has gs u x) × (p ≡ place f (64 * u + x))) → (u : ℕ) × (x : ℕ) × T (has (g ∷ gs) u x) × (p ≡ place f (64 * u + x))
       go (inl e) k = (g .var, g .val, has-here g gs, eqb→eq p (place f (64 * g .var + g .val)) e)
       go (inr e) k = let r = k e in (r .0, r .1, has-there g gs (r .0) (r .1) (r .2), r .3)
 
@@ -124,8 +123,11 @@ module _ (f : ℕ) where
   placed-intro [] u x h = absurd (has-nil u x h)
   placed-intro (g ∷ gs) u x h = go (has-cases g gs u x h) (placed-intro gs u x)
     where
-      go : ((u ≡ g .var) × (x ≡ g .val)) ⊎ T (has gs u x) → (T (has gs u x) → T (placed f gs (place f (64 * u + x)))) → T (eqb (place f (64 * u + x)) (place f (64 * g .var + g .val)) || placed f gs (place f (64 * u + x)))
-      go (inl e) k = rw (e .0, e .1) (or-l (eqb (place f (64 * g .var + g .val)) (place f (64 * g .var + g .val))) (placed f gs (place f (64 * g .var + g .val))) (eqb-refl (place f (64 * g .var + g .val))))
+      go : ((u ≡ g .var) × (x ≡ g .val)) ⊎ T (has gs u x) → (T (has gs u x) → T (placed f gs (place f (64 * u + x))))
+          → T (eqb (place f (64 * u + x)) (place f (64 * g .var + g .val)) || placed f gs (place f (64 * u + x)))
+      go (inl e) k =
+          let q : ℕ = place f (64 * g .var + g .val) in
+          rw (e .0, e .1) (or-l (eqb q q) (placed f gs q) (eqb-refl q))
       go (inr e) k = or-r (eqb (place f (64 * u + x)) (place f (64 * g .var + g .val))) (placed f gs (place f (64 * u + x))) (k e)
 
 small-has : (fs : List Fact) → Small fs → (u x : ℕ) → T (has fs u x) → (u < 64) × (x < 64)
@@ -139,7 +141,8 @@ pub record Allows (v e : ℕ) (fs : List Fact) (m : State) : Type 0 where
   pub other : (u x : ℕ) → u ≢ v → T (has fs u x) → T (m u x)
   pub others : (u x : ℕ) → u < 64 → x < 64 → u ≢ v → T (m u x) → T (has fs u x)
 
-pub marks-allow : (i f : ℕ) (fs : List Fact) (marks : List ℕ) → f < 4096 → Small fs → i < 65535 → Unmarked i marks → T (has fs (f / 64) (f % 64)) → Allows (f / 64) (f % 64) fs (marked i (markAll i f fs marks))
+pub marks-allow : (i f : ℕ) (fs : List Fact) (marks : List ℕ) → f < 4096 → Small fs → i < 65535 → Unmarked i marks → T (has fs (f / 64) (f % 64))
+    → Allows (f / 64) (f % 64) fs (marked i (markAll i f fs marks))
 unfolding marked
 marks-allow i f fs marks l S b U h = record {
   own = mark-of (f / 64) (f % 64) (subst (λ (p : ℕ). T (placed f fs p)) own-place (placed-intro f fs (f / 64) (f % 64) h));

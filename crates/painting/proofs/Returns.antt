@@ -1,6 +1,6 @@
 -- Check 8 by chains and marks. An action with the move v = e gives arcs of v alone, since 7 passes; its arc from d has its
 -- return exactly if some action sets v = d and needs marked facts alone.
-use mathlib.Core.Path.{_≡_, refl, sym, ap, _∙_, subst}
+use mathlib.Core.Path.{_≡_, refl, sym, _∙_, subst}
 use mathlib.Core.Logic.{_⊎_, inl, inr, _≢_}
 use mathlib.Core.Bool.{Bool, true, false, not, _&&_}
 use mathlib.Core.List.{List, [], _∷_, _++_}
@@ -8,24 +8,23 @@ use mathlib.Core.Option.{Option, none, some}
 use Prim.Native.Nat.{ℕ, _+_, _*_, _/_, _%_, _<_, _≤_}
 use native.Mathlib.Omega.{arith}
 use native.Mathlib.Decide.{ℕ-discrete, decLt}
+use borrow.Author.Tests.{eq-eqb, ne-eqb}
 use lib.Dec.{T, T-not, not-T, eqb, eqb→eq, eqb-refl}
-use lib.ListN.{getD}
 use Rattle.planning.specs.Basics.{someBelow}
-use Rattle.planning.specs.Record.{Fact, Task, taskOf}
+use Rattle.planning.specs.Record.{Fact, Task}
 use Rattle.planning.specs.Runs.{State, has, look, holds, variables, actions, act, black, count}
 use Rattle.planning.specs.Painting.{arcFrom, target, orZero, outside, returnBy, lacksReturn, cyclic}
 use Rattle.planning.proofs.Tests.{T→true, true→T, F→false, and-l, and-r, and-i}
 use Rattle.planning.proofs.Below.{some-intro, some-elim}
 use Rattle.planning.proofs.Facts.{has-cases, has-here, has-there, has-nil, has-++, holds→sub, sub→holds, has→touches, Func, look-some, look-none, look-is}
 use Rattle.planning.proofs.Arcs.{Arc, arcFrom-elim, arcFrom-intro}
-use Rattle.planning.proofs.Formed.{Formed, Sorted, formed-of, sorted-func, sorted-has}
+use Rattle.planning.proofs.Formed.{Formed, Sorted, sorted-func, sorted-has}
 use Rattle.planning.proofs.Painting.{black-inside, has-outside, outside-has, one-black}
-use Rattle.table.specs.Table.{factsIn, preAt, effAt}
-use Rattle.state.specs.Sets.{Listed}
-use Rattle.state.proofs.Tabled.{tabled-listed}
+use Rattle.task.specs.Task.{taskIn}
+use Rattle.task.specs.Links.{headAt, nextAt, Next, Sets}
+use Rattle.state.specs.Sets.{Asked}
 use Rattle.graph.proofs.Searches.{both, false-not, some-same, some-found, some-lacks}
-use Rattle.state.specs.Chains.{Next, Sets, Chained}
-use Rattle.painting.specs.Returns.{returned, unreturnedFrom, arcsBy, lacksBy, lacks, Ground}
+use Rattle.painting.specs.Returns.{returnsBy, returned, unreturnedFrom, arcsBy, lacksBy, lacks, OnChain, InChain, Serves}
 use Rattle.painting.proofs.Chains.{NoMove}
 use Rattle.painting.proofs.Marks.{Small, Allows}
 
@@ -108,7 +107,8 @@ module _ (t : Task) (F : Formed t) where
     unfolding returnBy union
     return-is d n j = both (returnBy t v d i j) (has (act t j .eff) v d && holds m (act t j .pre)) there back
       where
-        there : T ((arcFrom (act t) v (target (act t) v i) j && eqb (target (act t) v j) d) && holds (has (outside v (act t i .pre) ++ outside v (act t i .eff))) (outside v (act t j .pre))) → T (has (act t j .eff) v d && holds m (act t j .pre))
+        there : T ((arcFrom (act t) v (target (act t) v i) j && eqb (target (act t) v j) d) && holds (has (outside v (act t i .pre) ++ outside v (act t i .eff))) (outside v (act t j .pre)))
+            → T (has (act t j .eff) v d && holds m (act t j .pre))
         there h =
             let a : T (arcFrom (act t) v (target (act t) v i) j) = search (and-l, and-r) in
             let q : target (act t) v j ≡ d = eqb→eq (target (act t) v j) d (search (and-l, and-r)) in
@@ -125,7 +125,8 @@ module _ (t : Task) (F : Formed t) where
             need u y g (no z) x o =
                 A .other u y z (of-union u y (holds→sub (has (outside v (act t i .pre) ++ outside v (act t i .eff))) (outside v (act t j .pre)) o u y (has-outside v (act t j .pre) u y z g)))
 
-        back : T (has (act t j .eff) v d && holds m (act t j .pre)) → T ((arcFrom (act t) v (target (act t) v i) j && eqb (target (act t) v j) d) && holds (has (outside v (act t i .pre) ++ outside v (act t i .eff))) (outside v (act t j .pre)))
+        back : T (has (act t j .eff) v d && holds m (act t j .pre))
+            → T ((arcFrom (act t) v (target (act t) v i) j && eqb (target (act t) v j) d) && holds (has (outside v (act t i .pre) ++ outside v (act t i .eff))) (outside v (act t j .pre)))
         back h =
             let s : T (has (act t j .eff) v d) = search (and-l, and-r) in
             let p : T (holds m (act t j .pre)) = search (and-l, and-r) in
@@ -136,7 +137,8 @@ module _ (t : Task) (F : Formed t) where
             }) in
             let q : T (eqb (target (act t) v j) d) = rw (r .1) (eqb-refl d) in
             let a : T (arcFrom (act t) v (target (act t) v i) j) = r .0 in
-            let o : T (holds (has (outside v (act t i .pre) ++ outside v (act t i .eff))) (outside v (act t j .pre))) = sub→holds (has (outside v (act t i .pre) ++ outside v (act t i .eff))) (outside v (act t j .pre)) (λ u x g.
+            let o : T (holds (has (outside v (act t i .pre) ++ outside v (act t i .eff))) (outside v (act t j .pre))) =
+            sub→holds (has (outside v (act t i .pre) ++ outside v (act t i .eff))) (outside v (act t j .pre)) (λ u x g.
             let z = outside-not v (act t j .pre) u x g in
             let k = outside-has v (act t j .pre) u x g in
             in-union u x z (A .others u x (pre-small j u x k .0) (pre-small j u x k .1) z (holds→sub m (act t j .pre) p u x k))) in
@@ -145,7 +147,7 @@ module _ (t : Task) (F : Formed t) where
 
     returned-is : (d : ℕ) → d ≢ e → someBelow (actions t) (returnBy t v d i) ≡ returned t m v d
     unfolding returned
-    returned-is d n = some-same (actions t) (returnBy t v d i) (λ j. has (act t j .eff) v d && holds m (act t j .pre)) (λ j _. return-is d n j)
+    returned-is d n = some-same (actions t) (returnBy t v d i) (returnsBy t m v d) (λ j _. return-is d n j)
 
     module _ (ib : i < actions t) (Y : cyclic t ≡ none) (bv : T (black t v)) where
       vb : v < variables t
@@ -180,7 +182,8 @@ module _ (t : Task) (F : Formed t) where
 
       from-in : (a n k : ℕ) → k < n → a + k ≢ e → T (not (returned t m v (a + k))) → T (unreturnedFrom t m v e a n)
       unfolding unreturnedFrom
-      from-in a n k b z r = some-intro n (λ k. not (eqb (a + k) e) && not (returned t m v (a + k))) k b (and-i (not (eqb (a + k) e)) (not (returned t m v (a + k))) (not-T (eqb (a + k) e) (λ q. z (eqb→eq (a + k) e q))) r)
+      from-in a n k b z r = some-intro n (λ k. not (eqb (a + k) e) && not (returned t m v (a + k))) k b
+          (and-i (not (eqb (a + k) e)) (not (returned t m v (a + k))) (not-T (eqb (a + k) e) (λ q. z (eqb→eq (a + k) e q))) r)
 
       from-out : (a n : ℕ) → T (unreturnedFrom t m v e a n) → (k : ℕ) × (k < n) × (a + k ≢ e) × T (not (returned t m v (a + k)))
       unfolding unreturnedFrom
@@ -234,81 +237,98 @@ module _ (t : Task) (F : Formed t) where
       let o : T (black t v) = search (and-l, and-r) in
       absent v (target (act t) v i) o (arcFrom-elim (act t) v d i (pre-func i) a .into))))
 
--- the chain of v = d, gone through up to action j
-pub record Chasing (t : Task) (m : State) (v d j : ℕ) : Type 0 where
-  pub valid : (j ≡ 65535) ⊎ ((j < actions t) × Sets t v d j)
-  pub passed : (k : ℕ) → k < actions t → k < j → (has (act t k .eff) v d && holds m (act t k .pre)) ≡ false
+-- an action is in the chain of v = d where the value that its effects ask of v is d
+pub asked-chain : (t : Task) (j v d x : ℕ) → Asked (look (act t j .eff) v) x → d < 64 → x ≡ d → j < actions t → InChain t v d j
+asked-chain t j v d x q b e h = inr (h, go (look (act t j .eff) v) refl q)
+  where
+    go : (o : Option ℕ) → look (act t j .eff) v ≡ o → Asked o x → T (has (act t j .eff) v d)
+    go none y q = absurd (omega arith)
+    go (some z) y q = let k : z ≡ d = sym (q .0) ∙ e in look-some (act t j .eff) v d (y ∙ rw k refl)
 
-module _ (t : Task) (m : State) (v d : ℕ) (head chain : List ℕ) (C : Chained t head chain) (o : T (black t v)) (few : actions t ≤ 1024) where
-  unset : (k : ℕ) → (Sets t v d k → ⊥) → (has (act t k .eff) v d && holds m (act t k .pre)) ≡ false
-  unset k n = F→false (has (act t k .eff) v d && holds m (act t k .pre)) (λ h. n (and-l (has (act t k .eff) v d) (holds m (act t k .pre)) h))
+-- the chain of v = d, gone through from a up to action j
+pub record Chasing (t : Task) (m : State) (v d a j : ℕ) : Type 0 where
+  pub valid : (j ≡ 65535) ⊎ ((a ≤ j) × (j < actions t) × Sets t v d j)
+  pub passed : (k : ℕ) → a ≤ k → k < actions t → k < j → T (returnsBy t m v d k) → ⊥
 
-  chasing-start : (j : ℕ) → v < 64 → d < 64 → j ≡ getD head (64 * v + d) 0 → Chasing t m v d j
-  chasing-start j vb db e =
-      let N : Next (actions t) (Sets t v d) 0 j = subst (Next (actions t) (Sets t v d) 0) (sym e) (C .heads v d vb db o) in
-      record {
-        valid = elim (N .found) [ inl q ↦ inl q | inr q ↦ inr (q .1, q .2) ];
-        passed = λ k b l. unset k (N .least k (omega arith) b l);
-      }
+pub chasing-start : (t : Task) (m : State) (v d j : ℕ) → InChain t v d j → Chasing t m v d j j
+chasing-start t m v d j h = record {
+  valid = elim h [ inl q ↦ inl q | inr q ↦ inr (omega arith, q .0, q .1) ];
+  passed = λ k a b l _. omega arith;
+}
 
-  module _ (j : ℕ) (J : Chasing t m v d j) where
-    pub chasing-at : (j ≡ 65535 → ⊥) → (j < actions t) × Sets t v d j
-    chasing-at n = elim (J .valid) [ inl q ↦ absurd (n q) | inr q ↦ q ]
+module _ (task : List ℕ) (f : ℕ) (O : OnChain task f) (m : State) (a j : ℕ) (J : Chasing (taskIn task) m (f / 64) (f % 64) a j) where
+  pub chasing-at : (j ≡ 65535 → ⊥) → (a ≤ j) × (j < actions (taskIn task)) × Sets (taskIn task) (f / 64) (f % 64) j
+  chasing-at n = elim (J .valid) [ inl q ↦ absurd (n q) | inr q ↦ q ]
 
-    pub chasing-turn : (j ≡ 65535 → ⊥) → (x : ℕ) → x ≡ getD chain j 0 → holds m (act t j .pre) ≡ false → Chasing t m v d x × (j < x)
-    chasing-turn n x e f = (
-      record { valid = elim (N .found) [ inl q ↦ inl q | inr q ↦ inr (q .1, q .2) ]; passed = λ k b l. go k b l (ℕ-discrete k j) },
-      elim (N .found) [ inl q ↦ omega (arith, chasing-at n .0) | inr q ↦ omega (arith, q .0) ],
-    )
+  pub chasing-near : (j ≡ 65535 → ⊥) → j < 1024
+  chasing-near n = omega (arith, chasing-at n .1, O .loaded .formed .actions-max)
+
+  pub chasing-turn : (j ≡ 65535 → ⊥) → (x : ℕ) → x ≡ nextAt task j → holds m (act (taskIn task) j .pre) ≡ false → Chasing (taskIn task) m (f / 64) (f % 64) a x × (j < x)
+  chasing-turn n x e z = (
+    record {
+      valid = elim (N .found) [ inl q ↦ inl q | inr q ↦ inr (omega (arith, chasing-at n .0, q .0), q .1, q .2) ];
+      passed = λ k l b h. go k l b h (ℕ-discrete k j) (decLt k j);
+    },
+    elim (N .found) [ inl q ↦ omega (arith, chasing-near n) | inr q ↦ omega (arith, q .0) ],
+  )
+    where
+      N : Next (actions (taskIn task)) (Sets (taskIn task) (f / 64) (f % 64)) (j + 1) x
+      N = subst (Next (actions (taskIn task)) (Sets (taskIn task) (f / 64) (f % 64)) (j + 1)) (sym e)
+          (O .chained .links (f / 64) (f % 64) j (O .on) (chasing-at n .1) (chasing-at n .2))
+
+      go : (k : ℕ) → a ≤ k → k < actions (taskIn task) → k < x → Dec (k ≡ j) → Dec (k < j) → T (returnsBy (taskIn task) m (f / 64) (f % 64) k) → ⊥
+      go k l b h (yes y) w r =
+          let p : T (holds m (act (taskIn task) k .pre)) = and-r (has (act (taskIn task) k .eff) (f / 64) (f % 64)) (holds m (act (taskIn task) k .pre)) r in
+          false-not (holds m (act (taskIn task) j .pre)) z (subst (λ (i : ℕ). T (holds m (act (taskIn task) i .pre))) y p)
+      go k l b h (no y) (yes w) r = J .passed k l b w r
+      go k l b h (no y) (no w) r = N .least k (omega arith) b h (and-l (has (act (taskIn task) k .eff) (f / 64) (f % 64)) (holds m (act (taskIn task) k .pre)) r)
+
+  pub chasing-hit : (j ≡ 65535 → ⊥) → holds m (act (taskIn task) j .pre) ≡ true → Next (actions (taskIn task)) (λ k. T (returnsBy (taskIn task) m (f / 64) (f % 64) k)) a j
+  chasing-hit n e =
+      let p = and-i (has (act (taskIn task) j .eff) (f / 64) (f % 64)) (holds m (act (taskIn task) j .pre)) (chasing-at n .2) (true→T (holds m (act (taskIn task) j .pre)) e) in
+      record { least = λ k l b h r. J .passed k l b h r; found = inr (chasing-at n .0, chasing-at n .1, p) }
+
+  pub chasing-end : j ≡ 65535 → Next (actions (taskIn task)) (λ k. T (returnsBy (taskIn task) m (f / 64) (f % 64) k)) a j
+  chasing-end e = record { least = λ k l b h r. J .passed k l b h r; found = inl e }
+
+-- what is found from any action on serves
+pub next-serves : (t : Task) (m : State) (v d a j : ℕ) → Next (actions t) (λ k. T (returnsBy t m v d k)) a j → Serves t m v d j
+next-serves t m v d a j N = elim (N .found) [ inl q ↦ inl q | inr q ↦ inr (q .1, q .2) ]
+
+module _ (task : List ℕ) (f : ℕ) (O : OnChain task f) where
+  head-next : Next (actions (taskIn task)) (Sets (taskIn task) (f / 64) (f % 64)) 0 (headAt task f)
+  head-next =
+      let q : 64 * (f / 64) + f % 64 ≡ f = omega arith in
+      subst (λ (g : ℕ). Next (actions (taskIn task)) (Sets (taskIn task) (f / 64) (f % 64)) 0 (headAt task g)) q
+      (O .chained .heads (f / 64) (f % 64) (omega (arith, O .small)) (omega arith) (O .on))
+
+  -- the head stands in its chain
+  pub head-chain : (h : ℕ) → h ≡ headAt task f → InChain (taskIn task) (f / 64) (f % 64) h
+  head-chain h e = rw e (elim (head-next .found) [ inl q ↦ inl q | inr q ↦ inr (q .1, q .2) ])
+
+  module _ (m : State) (j : ℕ) where
+    pub serves-near : Serves (taskIn task) m (f / 64) (f % 64) j → j < 65536
+    serves-near S = elim S [ inl q ↦ omega arith | inr q ↦ omega (arith, q .0, O .loaded .formed .actions-max) ]
+
+    -- whether one was found is whether there is one
+    pub served : Serves (taskIn task) m (f / 64) (f % 64) j → (j ≡ 65535 → ⊥) → not (eqb j 65535) ≡ returned (taskIn task) m (f / 64) (f % 64)
+    unfolding returned
+    served S n = elim S [
+      | inl q ↦ absurd (n q)
+      | inr q ↦ rw (ne-eqb j 65535 n) (sym (some-found (actions (taskIn task)) (returnsBy (taskIn task) m (f / 64) (f % 64)) j (q .0) (T→true (returnsBy (taskIn task) m (f / 64) (f % 64) j) (q .1))))
+    ]
+
+    pub served-first : (h : ℕ) → h ≡ headAt task f → Next (actions (taskIn task)) (λ k. T (returnsBy (taskIn task) m (f / 64) (f % 64) k)) h j
+        → not (eqb j 65535) ≡ returned (taskIn task) m (f / 64) (f % 64)
+    unfolding returned
+    served-first h e N = go (ℕ-discrete j 65535)
       where
-        N : Next (actions t) (Sets t v d) (j + 1) x
-        N = subst (Next (actions t) (Sets t v d) (j + 1)) (sym e) (C .links v d j o (chasing-at n .0) (chasing-at n .1))
+        none-serves : j ≡ 65535 → (k : ℕ) → k < actions (taskIn task) → Dec (k < h) → T (returnsBy (taskIn task) m (f / 64) (f % 64) k) → ⊥
+        none-serves q k b (yes l) r =
+            head-next .least k (omega arith) b (omega arith) (and-l (has (act (taskIn task) k .eff) (f / 64) (f % 64)) (holds m (act (taskIn task) k .pre)) r)
+        none-serves q k b (no l) r = N .least k (omega arith) b (omega (arith, O .loaded .formed .actions-max)) r
 
-        later : (k : ℕ) → k < actions t → k < x → k ≢ j → Dec (k < j) → (has (act t k .eff) v d && holds m (act t k .pre)) ≡ false
-        later k b l z (yes y) = J .passed k b y
-        later k b l z (no y) = unset k (N .least k (omega arith) b l)
-
-        go : (k : ℕ) → k < actions t → k < x → Dec (k ≡ j) → (has (act t k .eff) v d && holds m (act t k .pre)) ≡ false
-        go k b l (yes z) = F→false (has (act t k .eff) v d && holds m (act t k .pre)) (λ h. false-not (holds m (act t j .pre)) f (subst (λ (y : ℕ). T (holds m (act t y .pre))) z (and-r (has (act t k .eff) v d) (holds m (act t k .pre)) h)))
-        go k b l (no z) = later k b l z (decLt k j)
-
-    pub chasing-hit : (j ≡ 65535 → ⊥) → holds m (act t j .pre) ≡ true → true ≡ returned t m v d
-    unfolding returned
-    chasing-hit n e = sym (some-found (actions t) (λ j. has (act t j .eff) v d && holds m (act t j .pre)) j (chasing-at n .0)
-        (T→true (has (act t j .eff) v d && holds m (act t j .pre)) (and-i (has (act t j .eff) v d) (holds m (act t j .pre)) (chasing-at n .1) (true→T (holds m (act t j .pre)) e))))
-
-    pub chasing-end : j ≡ 65535 → false ≡ returned t m v d
-    unfolding returned
-    chasing-end e = sym (some-lacks (actions t) (λ j. has (act t j .eff) v d && holds m (act t j .pre)) (λ k b. J .passed k b (omega arith)))
-
-pub chasing-first : (t : Task) (m : State) (f : ℕ) (head chain : List ℕ) → Chained t head chain → T (black t (f / 64)) → actions t ≤ 1024 → f < 4096 → (j : ℕ) → j ≡ getD head f 0 → Chasing t m (f / 64) (f % 64) j
-chasing-first t m f head chain C o few l j e =
-    let q : f ≡ 64 * (f / 64) + f % 64 = omega arith in
-    chasing-start t m (f / 64) (f % 64) head chain C o few j (omega arith) (omega arith) (e ∙ ap (λ (g : ℕ). getD head g 0) q)
-
--- the row of an action of the chain
-module _ (s table head chain : List ℕ) (G : Ground s table head chain) where
-  pub ground-few : actions (taskOf s) ≤ 1024
-  ground-few = formed-of s (G .accepted) .actions-max
-
-  pub ground-listed : (j : ℕ) → j < actions (taskOf s) → Listed table j
-  ground-listed j b = tabled-listed (taskOf s) table (formed-of s (G .accepted)) (G .tabled) j b
-
-  pub ground-pre : (j a b : ℕ) → j < actions (taskOf s) → a ≡ preAt table j → b ≡ effAt table j → factsIn table a b ≡ act (taskOf s) j .pre
-  ground-pre j a b h ea eb = rw (ea, eb) (G .tabled j h .pre)
-
-  pub chasing-row : (m : State) (v d j : ℕ) → Chasing (taskOf s) m v d j → (j ≡ 65535 → ⊥) → (j < 1024) × Listed table j
-  chasing-row m v d j J n =
-      let b : j < actions (taskOf s) = elim (J .valid) [ inl q ↦ absurd (n q) | inr q ↦ q .0 ] in
-      (omega (arith, ground-few), ground-listed j b)
-
-  pub chasing-on : (m : State) (v d j : ℕ) → Chasing (taskOf s) m v d j → T (black (taskOf s) v) → (n : j ≡ 65535 → ⊥) → (a b : ℕ) → a ≡ preAt table j → b ≡ effAt table j → holds m (factsIn table a b) ≡ false → (x : ℕ) → x ≡ getD chain j 0
-      → Chasing (taskOf s) m v d x × (j < x)
-  chasing-on m v d j J o n a b ea eb f x e =
-      let h = chasing-at (taskOf s) m v d head chain (G .chained) o ground-few j J n in
-      chasing-turn (taskOf s) m v d head chain (G .chained) o ground-few j J n x e (ap (holds m) (sym (ground-pre j a b (h .0) ea eb)) ∙ f)
-
-  pub chasing-found : (m : State) (v d j : ℕ) → Chasing (taskOf s) m v d j → T (black (taskOf s) v) → (n : j ≡ 65535 → ⊥) → (a b : ℕ) → a ≡ preAt table j → b ≡ effAt table j → holds m (factsIn table a b) ≡ true → true ≡ returned (taskOf s) m v d
-  chasing-found m v d j J o n a b ea eb f =
-      let h = chasing-at (taskOf s) m v d head chain (G .chained) o ground-few j J n in
-      chasing-hit (taskOf s) m v d head chain (G .chained) o ground-few j J n (ap (holds m) (sym (ground-pre j a b (h .0) ea eb)) ∙ f)
+        go : Dec (j ≡ 65535) → not (eqb j 65535) ≡ someBelow (actions (taskIn task)) (returnsBy (taskIn task) m (f / 64) (f % 64))
+        go (no n) = served (next-serves (taskIn task) m (f / 64) (f % 64) h j N) n
+        go (yes q) = rw (eq-eqb j 65535 q)
+            (sym (some-lacks (actions (taskIn task)) (returnsBy (taskIn task) m (f / 64) (f % 64)) (λ k b. F→false (returnsBy (taskIn task) m (f / 64) (f % 64) k) (none-serves q k b (decLt k h)))))

@@ -1,25 +1,18 @@
--- The paper's number and place for each case of the answer.
+-- What the check of a painting answers and leaves.
 use mathlib.Core.Path.{_≡_}
 use mathlib.Core.List.{List}
-use Prim.Native.Nat.{ℕ}
-use Rattle.planning.specs.Basics.{Check, refuse, andThen}
-use Rattle.planning.specs.Record.{Task}
-use Rattle.planning.specs.Painting.{cyclic, acyclicCheck, returnCheck}
-use Rattle.state.specs.Chains.{Chained}
 use mathlib.Core.Option.{none}
-use Rattle.bits.specs.declared.Refusal.{Refusal}
-use Rattle.painting.specs.declared.Painted.{Painted}
-use Rattle.painting.specs.declared.Painted.the-variants.{Accepted, Refused}
+use Prim.Native.Nat.{ℕ}
+use Rattle.planning.specs.Basics.{andThen}
+use Rattle.planning.specs.Painting.{acyclicCheck, returnCheck}
+use Rattle.answers.specs.declared.Checked.{Checked}
+use Rattle.answers.specs.Answers.{checkOf}
+use Rattle.task.specs.Task.{taskIn}
+use Rattle.task.specs.Links.{Prepared, Relinked}
 
-abbrev pub paintedOf : Painted → Check
-paintedOf Accepted = none
-paintedOf (Refused f) = refuse (f .number) (f .place)
-
-abbrev pub refusalOf : Painted → Refusal
-refusalOf Accepted = record { number = 0; place = 0 }
-refusalOf (Refused f) = f
-
--- the answer of the check of a painting, and the chains, where 7 passes
-pub record Checked (t : Task) (r : Painted) (head chain : List ℕ) : Type 0 where
-  pub answer : paintedOf r ≡ andThen (acyclicCheck t) (returnCheck t)
-  pub chained : cyclic t ≡ none → Chained t head chain
+-- 7, then 8; the task is the same, and where both pass it is prepared
+pub record Readied (before : List ℕ) (r : Checked) (after : List ℕ) : Type 0 where
+  pub answer : checkOf r ≡ andThen (acyclicCheck (taskIn before)) (returnCheck (taskIn before))
+  pub same : taskIn after ≡ taskIn before
+  pub relinked : Relinked before after
+  pub prepared : checkOf r ≡ none → Prepared after

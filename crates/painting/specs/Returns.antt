@@ -5,15 +5,14 @@ use mathlib.Core.Bool.{Bool, true, false, not, _&&_}
 use mathlib.Core.List.{List, [], _∷_}
 use mathlib.Core.Option.{Option, none, some}
 use Prim.Native.Nat.{ℕ, _+_, _*_, _/_, _<_}
-use lib.Dec.{eqb}
+use lib.Dec.{T, eqb}
 use lib.ListN.{length, getD, set}
 use Rattle.planning.specs.Basics.{someBelow}
-use Rattle.planning.specs.Record.{Fact, Task, taskOf, recordCheck}
+use Rattle.planning.specs.Record.{Fact, Task}
 use Rattle.planning.specs.Runs.{State, has, look, holds, variables, actions, act, black, count}
-use Rattle.planning.specs.Painting.{cyclic, lacksReturn}
-use Rattle.table.specs.Table.{Tabled}
-use Rattle.state.specs.Sets.{modeOf}
-use Rattle.state.specs.Chains.{Chained}
+use Rattle.planning.specs.Painting.{lacksReturn}
+use Rattle.task.specs.Task.{taskIn, Loaded}
+use Rattle.task.specs.Links.{Sets, Chained}
 
 abbrev pub pickPlace : Bool → ℕ → ℕ → ℕ
 pickPlace true g f = f
@@ -37,9 +36,13 @@ pub record Unmarked (i : ℕ) (marks : List ℕ) : Type 0 where
   pub long : length marks ≡ 4096
   pub before : (g : ℕ) → g < 4096 → (getD marks g 0 < i) ⊎ (getD marks g 0 ≡ 65535)
 
--- some action sets v = d and needs marked facts only
+-- action j sets v = d and needs marked facts only
+abbrev pub returnsBy : Task → State → ℕ → ℕ → ℕ → Bool
+returnsBy t m v d j = has (act t j .eff) v d && holds m (act t j .pre)
+
+-- some action does
 unfoldable pub returned : Task → State → ℕ → ℕ → Bool
-returned t m v d = someBelow (actions t) (λ j. has (act t j .eff) v d && holds m (act t j .pre))
+returned t m v d = someBelow (actions t) (returnsBy t m v d)
 
 -- for some d from a on, of n, other than e, none does
 unfoldable pub unreturnedFrom : Task → State → ℕ → ℕ → ℕ → ℕ → Bool
@@ -49,11 +52,6 @@ unreturnedFrom t m v e a n = someBelow n (λ k. not (eqb (a + k) e) && not (retu
 unfoldable pub lacks : Task → ℕ → Bool
 lacks t i = someBelow (variables t) (λ v. someBelow (count t v) (lacksReturn t i v))
 
--- the value asked, 64 if none is
-unfoldable pub asked : Option ℕ → ℕ
-asked none = 64
-asked (some d) = d
-
 -- of action i, which sets v = e, the arc from the value needed, or the arcs from every value
 abbrev pub arcsBy : Option ℕ → Task → State → ℕ → ℕ → Bool
 arcsBy none t m v e = unreturnedFrom t m v e 0 (count t v)
@@ -62,17 +60,20 @@ arcsBy (some d) t m v e = unreturnedFrom t m v e d 1
 unfoldable pub lacksBy : Task → State → ℕ → ℕ → ℕ → Bool
 lacksBy t m i v e = arcsBy (look (act t i .pre) v) t m v e
 
--- what the search for a return stands on
-pub record Ground (s table head chain : List ℕ) : Type 0 where
-  pub accepted : recordCheck s ≡ none
-  pub tabled : Tabled (taskOf s) table
-  pub chained : Chained (taskOf s) head chain
+-- f is a fact of a black variable of a loaded task with its chains
+pub record OnChain (task : List ℕ) (f : ℕ) : Type 0 where
+  pub loaded : Loaded task
+  pub chained : Chained (taskIn task) task
+  pub small : f < 4096
+  pub on : T (black (taskIn task) (f / 64))
 
--- and with it that 7 passes, so that an action has one move at most
-pub record Moved (s table : List ℕ) (paint : ℕ) (head chain : List ℕ) : Type 0 where
-  pub ground : Ground s table head chain
-  pub colours : modeOf paint ≡ black (taskOf s)
-  pub acyclic : cyclic (taskOf s) ≡ none
+-- action j sets v = d; or it is 65,535, which ends a chain
+abbrev pub InChain : Task → ℕ → ℕ → ℕ → Type 0
+InChain t v d j = (j ≡ 65535) ⊎ ((j < actions t) × Sets t v d j)
+
+-- action j sets v = d and needs marked facts only; or it is 65,535
+abbrev pub Serves : Task → State → ℕ → ℕ → ℕ → Type 0
+Serves t m v d j = (j ≡ 65535) ⊎ ((j < actions t) × T (returnsBy t m v d j))
 
 -- the answer r for action i, and the marks left for the next one
 pub record Lacking (t : Task) (i : ℕ) (marks : List ℕ) (r : Bool) : Type 0 where

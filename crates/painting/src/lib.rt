@@ -1,41 +1,37 @@
-// The check of a painting, 7 then 8, and the chains of actions by the black fact that they set. Once the black causal graph
-// has no cycle, an action sets one black fact at most: its move. The return of an arc is looked for in the chain of the fact
-// that it has to set, with what the first action allows marked.
-use bits::Refusal;
+// The check of a painting, 7 then 8, and what it leaves in the loaded task: the chains of actions by the black fact that they set,
+// and the clients-first order. Once the black causal graph has no cycle, an action sets one black fact at most: its move. The return
+// of an arc is looked for in the chain of the fact that it has to set, with what the first action allows marked.
+use answers::Checked;
+use answers::Refusal;
 use graph::Found;
 ghost use mathlib.Core.Path.{_≡_};
-ghost use mathlib.Core.Option.{none, some};
-ghost use mathlib.Core.Bool.{true, _||_};
-ghost use Prim.Native.Nat.{ℕ, _+_, _-_, _*_, _/_, _%_, _<_, _≤_};
+ghost use mathlib.Core.Option.{some};
+ghost use mathlib.Core.Bool.{_||_};
+ghost use mathlib.Core.List.{_++_};
+ghost use Prim.Native.Nat.{ℕ, _-_, _/_, _%_, _<_, _≤_};
 ghost use lib.Dec.{T, eqb};
-ghost use lib.ListN.{length, replicate};
 ghost use Rattle.planning.specs.Basics.{refuseAt};
-ghost use Rattle.planning.specs.Record.{taskOf};
-ghost use Rattle.planning.specs.Runs.{look, holds, variables, actions, black, count};
-ghost use Rattle.planning.specs.Painting.{blackArc, cyclic, unreturned};
-ghost use Rattle.table.specs.Table.{factsIn};
-ghost use Rattle.state.specs.Sets.{modeOf, setsOf, actionOf, Listed};
-ghost use Rattle.graph.specs.Given.{Given, Facts, foundOf};
-ghost use Rattle.state.specs.Chains.{Chained};
-ghost use Rattle.painting.specs.Chains.{Linked, moveOf};
-ghost use Rattle.painting.specs.Returns.{place, markAll, marked, Unmarked, returned, unreturnedFrom, lacksBy, asked, Ground, Moved, Lacking};
-ghost use Rattle.painting.specs.Answers.{paintedOf, refusalOf, Checked};
+ghost use Rattle.planning.specs.Runs.{holds, actions, act};
+ghost use Rattle.planning.specs.Painting.{blackArc, unreturned};
+ghost use Rattle.answers.specs.Answers.{checkOf};
+ghost use Rattle.task.specs.Task.{taskIn, Loaded};
+ghost use Rattle.task.specs.Links.{Next, Chained};
+ghost use Rattle.state.specs.Sets.{modeOf, setsOf};
+ghost use Rattle.graph.specs.Graph.{foundOf};
+ghost use Rattle.painting.specs.Chains.{moveOf, linkedMove, Acyclic, Linked};
+ghost use Rattle.painting.specs.Returns.{place, markAll, marked, Unmarked, returnsBy, returned, unreturnedFrom, lacksBy, OnChain, InChain, Serves, Lacking};
+ghost use Rattle.painting.specs.Answers.{Readied};
 
-fn wide(x: u16) -> usize
-    ensures { λ r. ⌜ r ≡ x ⌝ }
+// The first black fact that action i sets; 65,535 if there is none.
+fn move_of(task: &[u16], i: usize, paint: u64) -> usize
+    requires { ⌜ Loaded (now task) × (i < actions (taskIn (now task))) ⌝ }
+    ensures { λ r. ⌜ r ≡ moveOf (modeOf paint) (act (taskIn (now (task .entry))) i .eff) ⌝ }
 {
-    x as usize
-}
-
-// The first fact from place `from` up to `to` whose variable is black; 65,535 if there is none.
-fn move_of(table: &[u16], from: usize, to: usize, paint: u64) -> usize
-    requires { ⌜ Facts (now table) from to ⌝ }
-    ensures { λ r. ⌜ r ≡ moveOf (modeOf paint) (factsIn (now (table .entry)) from to) ⌝ }
-{
-    let mut k = from;
-    while k < to {
-        let f = wide(table[k]);
-        if (paint >> (f / 64)) % 2 == 1 {
+    let end = task::eff_end(task, i);
+    let mut k = task::eff_start(task, i);
+    while k < end {
+        let f = lists::wide(task[k]);
+        if state::member(paint, f / 64) {
             return f;
         }
         k += 1;
@@ -44,36 +40,28 @@ fn move_of(table: &[u16], from: usize, to: usize, paint: u64) -> usize
 }
 
 // Action i in front of the chain of its move, if it has one.
-fn link(table: &[u16], i: usize, paint: u64, head: &mut [u16; 4096], chain: &mut [u16; 1024])
-    requires { ⌜ Listed (now table) i × (i < 1024) ⌝ }
-    ensures { λ _. ⌜ Linked (moveOf (modeOf paint) (actionOf (now (table .entry)) i .eff)) i (now (head .entry)) (now (chain .entry)) (now (head .exit)) (now (chain .exit)) ⌝ }
+fn link(task: &mut [u16], i: usize, paint: u64)
+    requires { ⌜ Loaded (now task) × (i < actions (taskIn (now task))) ⌝ }
+    ensures { λ _. ⌜ now (task .exit) ≡ linkedMove (moveOf (modeOf paint) (act (taskIn (now (task .entry))) i .eff)) i (now (task .entry)) ⌝ }
 {
-    let from = wide(table[4 * i + 2]);
-    let to = wide(table[4 * i + 3]);
-    let f = move_of(table, from, to, paint);
+    let f = move_of(task, i, paint);
     if f == 65535 {
         return;
     }
-    chain[i] = head[f];
-    head[f] = i as u16;
+    task::link(task, f, i);
 }
 
-// The chains, from the last action to the first, so that each rises. `head` comes filled with 65,535.
-pub fn link_all(
-    bytes: &[u8],
-    table: &[u16],
-    paint: u64,
-    acts: usize,
-    head: &mut [u16; 4096],
-    chain: &mut [u16; 1024],
-)
-    requires { ⌜ Given (now bytes) (now table) paint acts × (cyclic (taskOf (now bytes)) ≡ none) × (now head ≡ replicate 4096 65535) × (length (now chain) ≡ 1024) ⌝ }
-    ensures { λ _. ⌜ Chained (taskOf (now (bytes .entry))) (now (head .exit)) (now (chain .exit)) ⌝ }
+// The chains, from the last action to the first, so that each rises.
+fn link_all(task: &mut [u16], paint: u64)
+    requires { ⌜ Acyclic (now task) paint ⌝ }
+    ensures { λ _. ⌜ Linked (now (task .entry)) (now (task .exit)) ⌝ }
 {
-    let mut i = acts;
+    let mut i = task::actions(task);
+    let n = task::variables(task);
+    task::unlink(task, 64 * n);
     while 0 < i {
         i -= 1;
-        link(table, i, paint, head, chain);
+        link(task, i, paint);
     }
 }
 
@@ -84,26 +72,29 @@ fn place_of(f: usize, g: usize) -> usize
     if g / 64 == f / 64 { f } else { g }
 }
 
-// The marks of an action i that sets f, for its facts from place `from` up to `to`.
-fn mark(table: &[u16], from: usize, to: usize, f: usize, marks: &mut [u16; 4096], i: u16)
-    requires { ⌜ Facts (now table) from to × (f < 4096) ⌝ }
-    ensures { λ _. ⌜ now (marks .exit) ≡ markAll i f (factsIn (now (table .entry)) from to) (now (marks .entry)) ⌝ }
+// The marks of action i, which sets f.
+fn mark(task: &[u16], i: usize, f: usize, marks: &mut [u16; 4096])
+    requires { ⌜ Loaded (now task) × (i < actions (taskIn (now task))) × (f < 4096) ⌝ }
+    ensures { λ _. ⌜ now (marks .exit) ≡ markAll i f (act (taskIn (now (task .entry))) i .pre ++ act (taskIn (now (task .entry))) i .eff) (now (marks .entry)) ⌝ }
 {
-    let mut k = from;
-    while k < to {
-        marks[place_of(f, wide(table[k]))] = i;
+    let own = i as u16;
+    let end = task::eff_end(task, i);
+    let mut k = task::pre_start(task, i);
+    while k < end {
+        marks[place_of(f, lists::wide(task[k]))] = own;
         k += 1;
     }
 }
 
-// Each fact from place `from` up to `to` is marked i.
-fn all_marked(table: &[u16], from: usize, to: usize, marks: &[u16; 4096], i: u16) -> bool
-    requires { ⌜ Facts (now table) from to ⌝ }
-    ensures { λ r. ⌜ r ≡ holds (marked i (now (marks .entry))) (factsIn (now (table .entry)) from to) ⌝ }
+// Each precondition of action j is marked i.
+fn all_marked(task: &[u16], j: usize, marks: &[u16; 4096], i: u16) -> bool
+    requires { ⌜ Loaded (now task) × (j < actions (taskIn (now task))) ⌝ }
+    ensures { λ r. ⌜ r ≡ holds (marked i (now (marks .entry))) (act (taskIn (now (task .entry))) j .pre) ⌝ }
 {
-    let mut k = from;
-    while k < to {
-        if marks[wide(table[k])] != i {
+    let end = task::eff_start(task, j);
+    let mut k = task::pre_start(task, j);
+    while k < end {
+        if marks[lists::wide(task[k])] != i {
             return false;
         }
         k += 1;
@@ -111,85 +102,90 @@ fn all_marked(table: &[u16], from: usize, to: usize, marks: &[u16; 4096], i: u16
     true
 }
 
-// The value that the facts from place `from` up to `to` state for v; 64 if they state none.
-fn asked_of(table: &[u16], from: usize, to: usize, v: usize) -> usize
-    requires { ⌜ Facts (now table) from to ⌝ }
-    ensures { λ r. ⌜ r ≡ asked (look (factsIn (now (table .entry)) from to) v) ⌝ }
+// The first action from j on that sets the black fact f and needs facts that are marked i alone; 65,535 if there is none. The walk goes
+// along the chain of f, in which j stands.
+fn first_return(task: &[u16], marks: &[u16; 4096], i: u16, f: usize, j: usize) -> usize
+    requires { ⌜ OnChain (now task) f × InChain (taskIn (now task)) (f / 64) (f % 64) j ⌝ }
+    ensures { λ r. ⌜ Next (actions (taskIn (now (task .entry)))) (λ k. T (returnsBy (taskIn (now (task .entry))) (marked i (now (marks .entry))) (f / 64) (f % 64) k)) j r ⌝ }
 {
-    let mut k = from;
-    while k < to {
-        let f = wide(table[k]);
-        if f / 64 == v {
-            return f % 64;
+    let mut k = j;
+    while k != 65535 {
+        if all_marked(task, k, marks, i) {
+            return k;
         }
-        k += 1;
+        k = task::next_setter(task, k);
     }
-    64
+    k
 }
 
-// Some action sets the black fact f and needs facts that are marked i alone.
-fn is_returned(
-    bytes: &[u8],
-    table: &[u16],
-    head: &[u16; 4096],
-    chain: &[u16; 1024],
-    marks: &[u16; 4096],
-    i: u16,
-    f: usize,
-) -> bool
-    requires { ⌜ Ground (now bytes) (now table) (now head) (now chain) × (f < 4096) × T (black (taskOf (now bytes)) (f / 64)) ⌝ }
-    ensures { λ r. ⌜ r ≡ returned (taskOf (now (bytes .entry))) (marked i (now (marks .entry))) (f / 64) (f % 64) ⌝ }
+// The same from h on, which may be any number; 65,535 also if h does not set f.
+fn later_return(task: &[u16], marks: &[u16; 4096], i: u16, f: usize, h: usize) -> usize
+    requires { ⌜ OnChain (now task) f ⌝ }
+    ensures { λ r. ⌜ Serves (taskIn (now (task .entry))) (marked i (now (marks .entry))) (f / 64) (f % 64) r ⌝ }
 {
-    let mut j = wide(head[f]);
-    while j != 65535 {
-        let from = wide(table[4 * j + 1]);
-        let to = wide(table[4 * j + 2]);
-        if all_marked(table, from, to, marks, i) {
-            return true;
-        }
-        j = wide(chain[j]);
+    if task::actions(task) <= h {
+        return 65535;
     }
-    false
+    let d = state::asked(
+        task,
+        task::eff_start(task, h),
+        task::eff_end(task, h),
+        f / 64,
+    );
+    if d != f % 64 {
+        return 65535;
+    }
+    first_return(task, marks, i, f, h)
+}
+
+// Some action sets the black fact f and needs facts that are marked i alone. The walk starts at the one that was found last for f, and
+// then at the first.
+fn is_returned(task: &[u16], marks: &[u16; 4096], i: u16, f: usize, last: &mut [u16; 4096]) -> bool
+    requires { ⌜ OnChain (now task) f ⌝ }
+    ensures { λ r. ⌜ r ≡ returned (taskIn (now (task .entry))) (marked i (now (marks .entry))) (f / 64) (f % 64) ⌝ }
+{
+    let mut j = later_return(task, marks, i, f, lists::wide(last[f]));
+    if j == 65535 {
+        j = first_return(task, marks, i, f, task::first_setter(task, f));
+    }
+    last[f] = j as u16;
+    j != 65535
 }
 
 // An action that sets f from d, where that is an arc, has its return.
 fn arc_returned(
-    bytes: &[u8],
-    table: &[u16],
-    head: &[u16; 4096],
-    chain: &[u16; 1024],
+    task: &[u16],
     marks: &[u16; 4096],
     i: u16,
     f: usize,
     d: usize,
+    last: &mut [u16; 4096],
 ) -> bool
-    requires { ⌜ Ground (now bytes) (now table) (now head) (now chain) × (f < 4096) × T (black (taskOf (now bytes)) (f / 64)) × (d < 64) ⌝ }
-    ensures { λ r. ⌜ r ≡ (eqb d (f % 64) || returned (taskOf (now (bytes .entry))) (marked i (now (marks .entry))) (f / 64) d) ⌝ }
+    requires { ⌜ OnChain (now task) f × (d < 64) ⌝ }
+    ensures { λ r. ⌜ r ≡ (eqb d (f % 64) || returned (taskIn (now (task .entry))) (marked i (now (marks .entry))) (f / 64) d) ⌝ }
 {
     if d == f % 64 {
         return true;
     }
-    is_returned(bytes, table, head, chain, marks, i, f / 64 * 64 + d)
+    is_returned(task, marks, i, f / 64 * 64 + d, last)
 }
 
 // For some d from `from` up to `to` it has none.
 fn lacks_between(
-    bytes: &[u8],
-    table: &[u16],
-    head: &[u16; 4096],
-    chain: &[u16; 1024],
+    task: &[u16],
     marks: &[u16; 4096],
     i: u16,
     f: usize,
     from: usize,
     to: usize,
+    last: &mut [u16; 4096],
 ) -> bool
-    requires { ⌜ Ground (now bytes) (now table) (now head) (now chain) × (f < 4096) × T (black (taskOf (now bytes)) (f / 64)) × (from ≤ to) × (to ≤ 64) ⌝ }
-    ensures { λ r. ⌜ r ≡ unreturnedFrom (taskOf (now (bytes .entry))) (marked i (now (marks .entry))) (f / 64) (f % 64) from (to - from) ⌝ }
+    requires { ⌜ OnChain (now task) f × (from ≤ to) × (to ≤ 64) ⌝ }
+    ensures { λ r. ⌜ r ≡ unreturnedFrom (taskIn (now (task .entry))) (marked i (now (marks .entry))) (f / 64) (f % 64) from (to - from) ⌝ }
 {
     let mut d = from;
     while d < to {
-        if !arc_returned(bytes, table, head, chain, marks, i, f, d) {
+        if !arc_returned(task, marks, i, f, d, last) {
             return true;
         }
         d += 1;
@@ -199,67 +195,58 @@ fn lacks_between(
 
 // Some arc of action i, which sets f, lacks its return: the arc from the value that it needs, or from every value.
 fn lacks_marked(
-    bytes: &[u8],
-    table: &[u16],
-    head: &[u16; 4096],
-    chain: &[u16; 1024],
+    task: &[u16],
     marks: &[u16; 4096],
     i: usize,
     f: usize,
+    last: &mut [u16; 4096],
 ) -> bool
-    requires { ⌜ Ground (now bytes) (now table) (now head) (now chain) × (f < 4096) × T (black (taskOf (now bytes)) (f / 64)) × (i < actions (taskOf (now bytes))) ⌝ }
-    ensures { λ r. ⌜ r ≡ lacksBy (taskOf (now (bytes .entry))) (marked i (now (marks .entry))) i (f / 64) (f % 64) ⌝ }
+    requires { ⌜ OnChain (now task) f × (i < actions (taskIn (now task))) ⌝ }
+    ensures { λ r. ⌜ r ≡ lacksBy (taskIn (now (task .entry))) (marked i (now (marks .entry))) i (f / 64) (f % 64) ⌝ }
 {
-    let from = wide(table[4 * i + 1]);
-    let to = wide(table[4 * i + 2]);
-    let d = asked_of(table, from, to, f / 64);
+    let own = i as u16;
+    let d = state::asked(
+        task,
+        task::pre_start(task, i),
+        task::eff_start(task, i),
+        f / 64,
+    );
     if d < 64 {
-        return lacks_between(bytes, table, head, chain, marks, i as u16, f, d, d + 1);
+        return lacks_between(task, marks, own, f, d, d + 1, last);
     }
-    let count = table::count(bytes, f / 64);
-    lacks_between(bytes, table, head, chain, marks, i as u16, f, 0, count)
+    lacks_between(task, marks, own, f, 0, task::count(task, f / 64), last)
 }
 
 // Action i has an arc that lacks its return.
 fn is_lacking(
-    bytes: &[u8],
-    table: &[u16],
+    task: &[u16],
     paint: u64,
-    head: &[u16; 4096],
-    chain: &[u16; 1024],
-    marks: &mut [u16; 4096],
     i: usize,
+    marks: &mut [u16; 4096],
+    last: &mut [u16; 4096],
 ) -> bool
-    requires { ⌜ Moved (now bytes) (now table) paint (now head) (now chain) × (i < actions (taskOf (now bytes))) × Unmarked i (now marks) ⌝ }
-    ensures { λ r. ⌜ Lacking (taskOf (now (bytes .entry))) i (now (marks .exit)) r ⌝ }
+    requires { ⌜ Acyclic (now task) paint × Chained (taskIn (now task)) (now task) × (i < actions (taskIn (now task))) × Unmarked i (now marks) ⌝ }
+    ensures { λ r. ⌜ Lacking (taskIn (now (task .entry))) i (now (marks .exit)) r ⌝ }
 {
-    let from = wide(table[4 * i + 1]);
-    let mid = wide(table[4 * i + 2]);
-    let to = wide(table[4 * i + 3]);
-    let f = move_of(table, mid, to, paint);
+    let f = move_of(task, i, paint);
     if f == 65535 {
         return false;
     }
-    mark(table, from, to, f, marks, i as u16);
-    lacks_marked(bytes, table, head, chain, marks, i, f)
+    mark(task, i, f, marks);
+    lacks_marked(task, marks, i, f, last)
 }
 
 // Check 8: the lowest action with an arc that lacks its return.
-pub fn lowest_lacking(
-    bytes: &[u8],
-    table: &[u16],
-    paint: u64,
-    acts: usize,
-    head: &[u16; 4096],
-    chain: &[u16; 1024],
-) -> Found
-    requires { ⌜ Moved (now bytes) (now table) paint (now head) (now chain) × (acts ≡ actions (taskOf (now bytes))) ⌝ }
-    ensures { λ r. ⌜ foundOf r ≡ unreturned (taskOf (now (bytes .entry))) ⌝ }
+fn lowest_lacking(task: &[u16], paint: u64) -> Found
+    requires { ⌜ Acyclic (now task) paint × Chained (taskIn (now task)) (now task) ⌝ }
+    ensures { λ r. ⌜ foundOf r ≡ unreturned (taskIn (now (task .entry))) ⌝ }
 {
+    let n = task::actions(task);
     let mut marks = [65535u16; 4096];
+    let mut last = [65535u16; 4096];
     let mut i: usize = 0;
-    while i < acts {
-        if is_lacking(bytes, table, paint, head, chain, &mut marks, i) {
+    while i < n {
+        if is_lacking(task, paint, i, &mut marks, &mut last) {
             return Found::At(i);
         }
         i += 1;
@@ -267,56 +254,40 @@ pub fn lowest_lacking(
     Found::Nothing
 }
 
-pub enum Painted {
-    Accepted,
-    Refused(Refusal),
-}
-
-// The refusal of an answer that has one.
-pub fn refusal_of(p: Painted) -> Refusal
-    ensures { λ f. ⌜ f ≡ refusalOf p ⌝ }
-{
-    let Painted::Refused(f) = p else {
-        return Refusal {
-            number: 0,
-            place: 0,
-        };
-    };
-    f
-}
-
 // What was found is refused with its place.
-fn refused_at(number: u8, found: Found) -> Painted
+fn refused_at(number: u8, found: Found) -> Checked
     requires { ⌜ ((p : ℕ) → foundOf found ≡ some p → p < 65536) ⌝ }
-    ensures { λ r. ⌜ paintedOf r ≡ refuseAt number (foundOf found) ⌝ }
+    ensures { λ r. ⌜ checkOf r ≡ refuseAt number (foundOf found) ⌝ }
 {
     let Found::At(place) = found else {
-        return Painted::Accepted;
+        return Checked::Accepted;
     };
-    Painted::Refused(Refusal {
+    Checked::Refused(Refusal {
         number,
         place: place as u32,
     })
 }
 
-// The check of a painting: 7, then 8. Where 7 passes, the chains are left.
-pub fn check_painting(
-    bytes: &[u8],
-    table: &[u16],
-    paint: u64,
-    vars: usize,
-    acts: usize,
-    rows: [u64; 64],
-    head: &mut [u16; 4096],
-    chain: &mut [u16; 1024],
-) -> Painted
-    requires { ⌜ Given (now bytes) (now table) paint acts × (vars ≡ variables (taskOf (now bytes))) × (setsOf rows ≡ blackArc (taskOf (now bytes))) × (now head ≡ replicate 4096 65535) × (length (now chain) ≡ 1024) ⌝ }
-    ensures { λ r. ⌜ Checked (taskOf (now (bytes .entry))) r (now (head .exit)) (now (chain .exit)) ⌝ }
+// Check 8 of a task of which 7 passes, with its chains and its order.
+fn prepare_acyclic(task: &mut [u16], rows: &[u64; 64], paint: u64) -> Checked
+    requires { ⌜ Acyclic (now task) paint × (setsOf (now rows) ≡ blackArc (taskIn (now task))) ⌝ }
+    ensures { λ r. ⌜ Readied (now (task .entry)) r (now (task .exit)) ⌝ }
 {
-    let seven = refused_at(7, graph::cycle(bytes, rows, vars));
-    let Painted::Accepted = seven else {
+    link_all(task, paint);
+    graph::write_order(task, rows, paint);
+    refused_at(8, lowest_lacking(task, paint))
+}
+
+// The check of a painting: 7, then 8. Where both pass, the task has its chains and its order.
+pub fn prepare(task: &mut [u16]) -> Checked
+    requires { ⌜ Loaded (now task) ⌝ }
+    ensures { λ r. ⌜ Readied (now (task .entry)) r (now (task .exit)) ⌝ }
+{
+    let paint = state::painted(task);
+    let rows = graph::graph(task, paint);
+    let seven = refused_at(7, graph::cycle(task, rows));
+    let Checked::Accepted = seven else {
         return seven;
     };
-    link_all(bytes, table, paint, acts, head, chain);
-    refused_at(8, lowest_lacking(bytes, table, paint, acts, head, chain))
+    prepare_acyclic(task, &rows, paint)
 }

@@ -207,8 +207,7 @@ fn prepare(task: &[u16], ever: &[u64; 64], memo: &mut [u16], v: usize, d: usize)
     memo[4096 + d] = (v + 1) as u16;
 }
 
-// The shortest path of v from c to d along usable arcs, of several the least by the numbers of its actions in turn: written into the
-// list from place `at` on.
+// The path of v from c to d (6.7), written into the list from place `at` on.
 pub fn path(
     task: &[u16],
     ever: &[u64; 64],

@@ -16,7 +16,7 @@ use Rattle.planning.proofs.Demand3.{demand3}
 use Rattle.planner.specs.declared.Planned.{Planned}
 use Rattle.planner.specs.declared.Planned.the-variants.{Plan, Refused}
 use Rattle.planner.specs.Answers.{answerOf, stepsOf}
-use Rattle.planner.specs.Drafts.{Drafted}
+use Rattle.planner.proofs.Drafts.{Ended}
 
 pub finished : (a : Planned) (n : ℕ) (l l′ : List ℕ) → n ≡ stepsOf a → l′ ≡ take n l ++ replicate (length l - n) 65535 → l′ ≡ lent (answerOf a) (length l) (planIn (answerOf a) l)
 unfolding lent planIn
@@ -32,14 +32,14 @@ pub blanked : (w : ℕ) (l : List ℕ) → l ≡ replicate w 65535 → l ≡ wor
 unfolding workList
 blanked w l e = e
 
--- the list of a draft that was finished
+-- its lists once they are filled
 module _ (a : Answer Result) (l plan : List ℕ) (n : ℕ) (en : length plan ≡ n) where
-  pub settled-list : (r : Planned) → Drafted a l plan r → (plan′ : List ℕ) → plan′ ≡ lent (answerOf r) (length plan) (planIn (answerOf r) plan) → plan′ ≡ lent a n l
+  pub settled-list : (r : Planned) → Ended a l plan r → (plan′ : List ℕ) → plan′ ≡ lent (answerOf r) (length plan) (planIn (answerOf r) plan) → plan′ ≡ lent a n l
   unfolding lent planIn
   settled-list (Plan s c k v) D plan′ e = rw (← (D .answer)) (e ∙ rw (D .front .1, en) refl)
   settled-list (Refused f) D plan′ e = rw (← (D .answer)) (e ∙ rw en refl)
 
-  pub settled-front : (r : Planned) → Drafted a l plan r → (plan′ : List ℕ) → plan′ ≡ lent (answerOf r) (length plan) (planIn (answerOf r) plan) → ReturnsPlan (answerOf r) → planIn (answerOf r) plan′ ≡ l
+  pub settled-front : (r : Planned) → Ended a l plan r → (plan′ : List ℕ) → plan′ ≡ lent (answerOf r) (length plan) (planIn (answerOf r) plan) → ReturnsPlan (answerOf r) → planIn (answerOf r) plan′ ≡ l
   unfolding lent planIn
   settled-front (Plan s c k v) D plan′ e z =
       let q : length (take s plan) ≡ s = length-take-le s plan (D .front .0) in
@@ -61,7 +61,7 @@ complete-same t n w r l l′ e C =
       finds = C .finds;
     }
 
-pub plan-settled : (s : List ℕ) (n w : ℕ) (plan : List ℕ) → length plan ≡ n → (r : Planned) → Drafted (planCall s n w) (planOf (taskOf s)) plan r → (plan′ : List ℕ) → plan′ ≡ lent (answerOf r) (length plan) (planIn (answerOf r) plan)
+pub plan-settled : (s : List ℕ) (n w : ℕ) (plan : List ℕ) → length plan ≡ n → (r : Planned) → Ended (planCall s n w) (planOf (taskOf s)) plan r → (plan′ : List ℕ) → plan′ ≡ lent (answerOf r) (length plan) (planIn (answerOf r) plan)
     → (plan′ ≡ planList s n w) × Demand3 s n w (answerOf r) (planIn (answerOf r) plan′) × Bounded s (relaxedPlan (taskOf s)) (answerOf r) (planIn (answerOf r) plan′)
 unfolding planList
 plan-settled s n w plan en r D plan′ e =
@@ -72,7 +72,7 @@ plan-settled s n w plan en r D plan′ e =
     )
 
 -- the same of a caller's repair
-pub repair-settled : (s k : List ℕ) (n w : ℕ) (plan : List ℕ) → length plan ≡ n → (r : Planned) → Drafted (repairCall s k n w) (repaired (taskOf s) k) plan r → (plan′ : List ℕ) → plan′ ≡ lent (answerOf r) (length plan) (planIn (answerOf r) plan)
+pub repair-settled : (s k : List ℕ) (n w : ℕ) (plan : List ℕ) → length plan ≡ n → (r : Planned) → Ended (repairCall s k n w) (repaired (taskOf s) k) plan r → (plan′ : List ℕ) → plan′ ≡ lent (answerOf r) (length plan) (planIn (answerOf r) plan)
     → (plan′ ≡ repairList s k n w) × Bounded s k (answerOf r) (planIn (answerOf r) plan′)
 unfolding repairList
 repair-settled s k n w plan en r D plan′ e = (

@@ -1,4 +1,4 @@
--- The paper's number, place and values for each case of the planner's answer.
+-- 9.2 and 9.5: number, place and values for each case of the planner's answer.
 use Prim.Native.Nat.{ℕ}
 use Rattle.planning.specs.Basics.{Answer, refused, done}
 use Rattle.planning.specs.Calls.{Planned as Result}

@@ -1,36 +1,51 @@
--- What the repair of a list stands on, and what it leaves before the rest of the lists is blanked.
+-- One way for both calls: the relaxed plan to repair is the task's own, or the caller's list; then come its checks and its repair.
 use mathlib.Core.Path.{_≡_}
-use mathlib.Core.List.{List}
-use mathlib.Core.Option.{none}
+use mathlib.Core.Bool.{Bool, true, false}
+use mathlib.Core.List.{List, [], _∷_, _++_}
 use Prim.Native.Nat.{ℕ, _≤_}
 use lib.ListN.{length, take}
-use Rattle.planning.specs.Basics.{Answer}
-use Rattle.planning.specs.Record.{taskOf, recordCheck}
-use Rattle.planning.specs.Runs.{black}
-use Rattle.planning.specs.Painting.{blackArc, cyclic, unreturned}
-use Rattle.planning.specs.Calls.{Planned as Result}
-use Rattle.table.specs.Table.{Tabled}
-use Rattle.state.specs.Sets.{setsOf, modeOf}
-use Rattle.state.specs.Chains.{Chained}
+use Rattle.planning.specs.Basics.{Check, andThen, inOrder, Answer, answer}
+use Rattle.planning.specs.Record.{Task, taskOf, recordCheck}
+use Rattle.planning.specs.Relaxed.{relaxedPlan}
+use Rattle.planning.specs.Painting.{acyclicCheck, returnCheck}
+use Rattle.planning.specs.Repair.{repaired}
+use Rattle.planning.specs.Calls.{capacityOf, lengthCheck, relaxedCheck, goalsCheck, roomCheck, planned, Planned as Result}
 use Rattle.planner.specs.declared.Planned.{Planned}
 use Rattle.planner.specs.declared.Planned.the-variants.{Plan, Refused}
 use Rattle.planner.specs.Answers.{answerOf}
 
--- an accepted record whose painting passed, with its table, the chains, the black variables and their graph
-pub record Grounded (s table head chain : List ℕ) (paint : ℕ) (rows : List ℕ) : Type 0 where
-  pub accepted : recordCheck s ≡ none
-  pub tabled : Tabled (taskOf s) table
-  pub acyclic : cyclic (taskOf s) ≡ none
-  pub returns : unreturned (taskOf s) ≡ none
-  pub chained : Chained (taskOf s) head chain
-  pub colours : modeOf paint ≡ black (taskOf s)
-  pub arcs : setsOf rows ≡ blackArc (taskOf s)
+-- the relaxed plan to repair: the list l where it is given, else the task's own; and what is asked of it
+unfoldable pub source : Bool → Task → List ℕ → List ℕ
+source true t l = l
+source false t l = relaxedPlan t
+
+unfoldable pub sourceCheck : Bool → Task → List ℕ → Check
+sourceCheck true t l = inOrder (lengthCheck l ∷ relaxedCheck t l ∷ [])
+sourceCheck false t l = goalsCheck t
+
+unfoldable pub paintingCheck : Task → Check
+paintingCheck t = andThen (acyclicCheck t) (returnCheck t)
 
 -- after success the list l stands in the front of the plan list
 abbrev pub InFront : List ℕ → List ℕ → Planned → Type 0
 InFront l plan (Plan n c k v) = (n ≤ length plan) × (take n plan ≡ l)
 InFront l plan (Refused f) = Unit {0}
 
-pub record Drafted (a : Answer Result) (l plan : List ℕ) (r : Planned) : Type 0 where
-  pub answer : answerOf r ≡ a
-  pub front : InFront l plan r
+-- the answer r by the checks cs, then 11 in the given room, and the list k repaired in the front of the plan list
+pub record Drafted (t : Task) (cs : List Check) (k : List ℕ) (room : ℕ) (plan : List ℕ) (r : Planned) : Type 0 where
+  pub answer′ : answerOf r ≡ answer (inOrder (cs ++ (roomCheck (length (repaired t k)) room ∷ []))) (planned t (repaired t k))
+  pub front : InFront (repaired t k) plan r
+
+-- the same of a call: with the list l where `given`, from the checks of the relaxed plan on, from the painting on, from the record on
+abbrev pub Sourced : Bool → Task → List ℕ → ℕ → List ℕ → Planned → Type 0
+Sourced given t l room = Drafted t (sourceCheck given t l ∷ []) (source given t l) room
+
+abbrev pub Painted : Bool → Task → List ℕ → ℕ → List ℕ → Planned → Type 0
+Painted given t l room = Drafted t (paintingCheck t ∷ sourceCheck given t l ∷ []) (source given t l) room
+
+abbrev pub Called : Bool → List ℕ → List ℕ → ℕ → List ℕ → Planned → Type 0
+Called given s l room = Drafted (taskOf s) (recordCheck s ∷ paintingCheck (taskOf s) ∷ sourceCheck given (taskOf s) l ∷ []) (source given (taskOf s) l) room
+
+-- what both lists lend
+abbrev pub roomIn : List ℕ → List ℕ → ℕ
+roomIn plan work = capacityOf (length plan) (length work)

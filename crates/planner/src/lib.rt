@@ -1,30 +1,26 @@
-// The planner: from a record to a repaired plan, and the repair of a caller's relaxed plan. Each check is asked for in the paper's
-// order; the plan stands in the front of the plan list from the repair on, and what is behind it is blanked at the end.
-use bits::Read;
-use bits::Refusal;
-use graph::Order;
-use painting::Painted;
-use record::Checked;
-use relax::Kept;
-use repair::Repaired;
+// The planner: from a record to a repaired plan, and the repair of a caller's relaxed plan. Both are one way: the record, the painting, the
+// relaxed plan, the repair, each check in the table's order. The plan stands in the front of the plan list from the repair on, and what
+// is behind it is blanked at the end.
+use answers::Checked;
+use answers::Number;
+use answers::Refusal;
 ghost use mathlib.Core.Path.{_≡_};
 ghost use mathlib.Core.Bool.{true};
+ghost use mathlib.Core.List.{[]};
 ghost use mathlib.Core.Option.{none};
 ghost use Prim.Native.Nat.{_*_, _≤_};
 ghost use lib.ListN.{length};
-ghost use Rattle.planning.specs.Basics.{answer, done};
+ghost use Rattle.planning.specs.Basics.{done};
 ghost use Rattle.planning.specs.Record.{taskOf, recordCheck};
 ghost use Rattle.planning.specs.Runs.{relaxed, isPlan, costOf};
 ghost use Rattle.planning.specs.Relaxed.{relaxedPlan};
-ghost use Rattle.planning.specs.Repair.{repaired};
-ghost use Rattle.planning.specs.Calls.{capacityOf, roomCheck, planned, planOf, planCall, planList, repairCall, repairList, workList, planIn, runnable, lent};
+ghost use Rattle.planning.specs.Calls.{planned, planCall, planList, repairCall, repairList, workList, planIn, runnable, lent};
 ghost use Rattle.planning.specs.Existence.{Demand3, Bounded};
-ghost use Rattle.table.specs.Table.{Tabled};
-ghost use Rattle.state.specs.Sets.{singles};
+ghost use Rattle.task.specs.Task.{taskIn, Loaded};
+ghost use Rattle.task.specs.Links.{Prepared};
 ghost use Rattle.judge.specs.Answers.{Ready};
-ghost use Rattle.passes.specs.Passes.{Entries};
 ghost use Rattle.planner.specs.Answers.{answerOf, stepsOf};
-ghost use Rattle.planner.specs.Drafts.{Drafted, Grounded};
+ghost use Rattle.planner.specs.Drafts.{Drafted, Sourced, Painted, Called, roomIn};
 
 // A plan with its steps, its cost, the steps that run for real, and whether it is a plan in a real run; or the refusal.
 pub enum Planned {
@@ -37,40 +33,27 @@ pub enum Planned {
     Refused(Refusal),
 }
 
-fn wide(x: u16) -> usize
-    ensures { λ r. ⌜ r ≡ x ⌝ }
-{
-    x as usize
-}
-
 // The cost of a list: the sum over its steps.
-fn cost(bytes: &[u8], table: &[u16], list: &[u16]) -> u64
-    requires { ⌜ (recordCheck (now bytes) ≡ none) × Tabled (taskOf (now bytes)) (now table) × Entries (taskOf (now bytes)) (now list) × (length (now list) ≤ 32768) ⌝ }
-    ensures { λ r. ⌜ (r ≡ costOf (taskOf (now (bytes .entry))) (now (list .entry))) × (r ≤ 65535 * length (now (list .entry))) ⌝ }
+fn cost(task: &[u16], list: &[u16]) -> u64
+    requires { ⌜ Ready (now task) (now list) ⌝ }
+    ensures { λ r. ⌜ (r ≡ costOf (taskIn (now (task .entry))) (now (list .entry))) × (r ≤ 65535 * length (now (list .entry))) ⌝ }
 {
     let mut sum: u64 = 0;
     let mut k: usize = 0;
     while k < list.len() {
-        sum += wide(table[4 * wide(list[k])]) as u64;
+        sum += task::cost(task, lists::wide(list[k])) as u64;
         k += 1;
     }
     sum
 }
 
-// The array of an order, which alone can be lent in part.
-fn order_of(o: Order) -> [u16; 64]
-    ensures { λ r. ⌜ (r ≡ o .vars) × (length r ≡ 64) ⌝ }
-{
-    o.vars
-}
-
 // A list of actions that fits: its steps, its cost, and how far it runs for real.
-fn assess(bytes: &[u8], table: &[u16], masks: &[u64; 64], list: &[u16]) -> Planned
-    requires { ⌜ Ready (now bytes) (now table) (now list) × (now masks ≡ singles) ⌝ }
-    ensures { λ r. ⌜ answerOf r ≡ done (planned (taskOf (now (bytes .entry))) (now (list .entry))) ⌝ }
+fn assess(task: &[u16], list: &[u16]) -> Planned
+    requires { ⌜ Ready (now task) (now list) ⌝ }
+    ensures { λ r. ⌜ answerOf r ≡ done (planned (taskIn (now (task .entry))) (now (list .entry))) ⌝ }
 {
-    let sum = cost(bytes, table, list) as u32;
-    let v = judge::judge_one(masks, bytes, table, list, u64::MAX);
+    let sum = cost(task, list) as u32;
+    let v = judge::judge_one(task, list, u64::MAX, 0);
     Planned::Plan {
         steps: list.len() as u32,
         cost: sum,
@@ -80,158 +63,97 @@ fn assess(bytes: &[u8], table: &[u16], masks: &[u64; 64], list: &[u16]) -> Plann
 }
 
 // The repair of a relaxed plan in the front of the plan list, and its assessment; 11 if it is longer than the capacity.
-fn draft(
-    bytes: &[u8],
-    table: &[u16],
-    head: &[u16; 4096],
-    chain: &[u16; 1024],
-    paint: u64,
-    rows: &[u64; 64],
-    list: &[u16],
-    plan: &mut [u16],
-    work: &mut [u16],
-) -> Planned
-    requires { ⌜ Grounded (now bytes) (now table) (now head) (now chain) paint (now rows) × (isPlan (taskOf (now bytes)) relaxed (now list) ≡ true) ⌝ }
-    ensures { λ r. ⌜ Drafted (answer (roomCheck (length (repaired (taskOf (now (bytes .entry))) (now (list .entry)))) (capacityOf (length (now (plan .entry))) (length (now (work .entry))))) (planned (taskOf (now (bytes .entry))) (repaired (taskOf (now (bytes .entry))) (now (list .entry))))) (repaired (taskOf (now (bytes .entry))) (now (list .entry))) (now (plan .exit)) r ⌝ }
+fn draft(task: &[u16], list: &[u16], plan: &mut [u16], work: &mut [u16]) -> Planned
+    requires { ⌜ Prepared (now task) × (isPlan (taskIn (now task)) relaxed (now list) ≡ true) ⌝ }
+    ensures { λ r. ⌜ Drafted (taskIn (now (task .entry))) [] (now (list .entry)) (roomIn (now (plan .entry)) (now (work .entry))) (now (plan .exit)) r ⌝ }
 {
-    let masks = state::single_sets();
-    let vars = table::variables(bytes);
-    let o = Order::clients_first(bytes, rows, paint, vars);
-    let count = o.count;
-    let order = order_of(o);
-    let room = repair::capacity(plan.len(), work.len());
-    let r = repair::repair(
-        bytes,
-        table,
-        head,
-        chain,
-        &masks,
-        paint,
-        &order[..count],
-        list,
-        plan,
-        work,
-    );
-    let Repaired::Steps(n) = r else {
-        return Planned::Refused(Refusal {
-            number: 11,
-            place: room as u32,
-        });
+    let r = repair::repair(task, list, plan, work);
+    let Number::Value(n) = r else {
+        return Planned::Refused(answers::refusal_of(r));
     };
     let steps = n as usize;
-    assess(bytes, table, &masks, &plan[..steps])
+    assess(task, &plan[..steps])
 }
 
-// Checks 7, 8, 10 and 11 of an accepted record, and the plan.
-fn plan_loaded(bytes: &[u8], table: &[u16], plan: &mut [u16], work: &mut [u16]) -> Planned
-    requires { ⌜ (recordCheck (now bytes) ≡ none) × Tabled (taskOf (now bytes)) (now table) ⌝ }
-    ensures { λ r. ⌜ Drafted (planCall (now (bytes .entry)) (length (now (plan .entry))) (length (now (work .entry)))) (planOf (taskOf (now (bytes .entry)))) (now (plan .exit)) r ⌝ }
-{
-    let paint = state::painted(bytes);
-    let vars = table::variables(bytes);
-    let acts = table::actions(bytes);
-    let rows = graph::graph(bytes, table, paint, acts);
-    let mut head = [65535u16; 4096];
-    let mut chain = [65535u16; 1024];
-    let p = painting::check_painting(bytes, table, paint, vars, acts, rows, &mut head, &mut chain);
-    let Painted::Accepted = p else {
-        return Planned::Refused(painting::refusal_of(p));
-    };
-    let mut relaxed = [65535u16; 1024];
-    let k = relax::relaxed_plan(bytes, table, &mut relaxed);
-    let Kept::Steps(n) = k else {
-        return Planned::Refused(relax::refusal_of(k));
-    };
-    let count = n as usize;
-    draft(
-        bytes,
-        table,
-        &head,
-        &chain,
-        paint,
-        &rows,
-        &relaxed[..count],
-        plan,
-        work,
-    )
-}
-
-// Checks 7, 8, 13, 9 and 11 of an accepted record and a caller's list, and the plan.
-fn repair_loaded(
-    bytes: &[u8],
-    table: &[u16],
+// The relaxed plan is the caller's list where it is given, checked by 13 and 9, else the task's own, or 10.
+fn plan_prepared(
+    task: &[u16],
+    given: bool,
     list: &[u16],
     plan: &mut [u16],
     work: &mut [u16],
 ) -> Planned
-    requires { ⌜ (recordCheck (now bytes) ≡ none) × Tabled (taskOf (now bytes)) (now table) ⌝ }
-    ensures { λ r. ⌜ Drafted (repairCall (now (bytes .entry)) (now (list .entry)) (length (now (plan .entry))) (length (now (work .entry)))) (repaired (taskOf (now (bytes .entry))) (now (list .entry))) (now (plan .exit)) r ⌝ }
+    requires { ⌜ Prepared (now task) ⌝ }
+    ensures { λ r. ⌜ Sourced given (taskIn (now (task .entry))) (now (list .entry)) (roomIn (now (plan .entry)) (now (work .entry))) (now (plan .exit)) r ⌝ }
 {
-    let paint = state::painted(bytes);
-    let vars = table::variables(bytes);
-    let acts = table::actions(bytes);
-    let rows = graph::graph(bytes, table, paint, acts);
-    let mut head = [65535u16; 4096];
-    let mut chain = [65535u16; 1024];
-    let p = painting::check_painting(bytes, table, paint, vars, acts, rows, &mut head, &mut chain);
-    let Painted::Accepted = p else {
-        return Planned::Refused(painting::refusal_of(p));
-    };
-    let l = judge::check_relaxed(bytes, table, list);
-    let Read::Value(_) = l else {
-        return Planned::Refused(bits::refusal_of(l));
-    };
-    draft(bytes, table, &head, &chain, paint, &rows, list, plan, work)
-}
-
-// The table of a small record is small, so that little has to be cleared.
-fn plan_accepted(bytes: &[u8], plan: &mut [u16], work: &mut [u16]) -> Planned
-    requires { ⌜ recordCheck (now bytes) ≡ none ⌝ }
-    ensures { λ r. ⌜ Drafted (planCall (now (bytes .entry)) (length (now (plan .entry))) (length (now (work .entry)))) (planOf (taskOf (now (bytes .entry)))) (now (plan .exit)) r ⌝ }
-{
-    if bytes.len() <= 3072 {
-        let mut table = [0u16; 4096];
-        table::load(bytes, &mut table);
-        return plan_loaded(bytes, &table, plan, work);
+    if given {
+        let l = judge::check_relaxed(task, list);
+        let Number::Value(_) = l else {
+            return Planned::Refused(answers::refusal_of(l));
+        };
+        return draft(task, list, plan, work);
     }
-    let mut table = [0u16; 34816];
-    table::load(bytes, &mut table);
-    plan_loaded(bytes, &table, plan, work)
+    let mut relaxed = [65535u16; 1024];
+    let k = relax::relaxed_plan(task, &mut relaxed);
+    let Number::Value(n) = k else {
+        return Planned::Refused(answers::refusal_of(k));
+    };
+    let count = n as usize;
+    draft(task, &relaxed[..count], plan, work)
 }
 
-// The same with a caller's list.
-fn repair_accepted(bytes: &[u8], list: &[u16], plan: &mut [u16], work: &mut [u16]) -> Planned
-    requires { ⌜ recordCheck (now bytes) ≡ none ⌝ }
-    ensures { λ r. ⌜ Drafted (repairCall (now (bytes .entry)) (now (list .entry)) (length (now (plan .entry))) (length (now (work .entry)))) (repaired (taskOf (now (bytes .entry))) (now (list .entry))) (now (plan .exit)) r ⌝ }
+// Checks 7 and 8 of a loaded task, then the rest.
+fn plan_loaded(
+    task: &mut [u16],
+    given: bool,
+    list: &[u16],
+    plan: &mut [u16],
+    work: &mut [u16],
+) -> Planned
+    requires { ⌜ Loaded (now task) ⌝ }
+    ensures { λ r. ⌜ Painted given (taskIn (now (task .entry))) (now (list .entry)) (roomIn (now (plan .entry)) (now (work .entry))) (now (plan .exit)) r ⌝ }
 {
-    if bytes.len() <= 3072 {
-        let mut table = [0u16; 4096];
-        table::load(bytes, &mut table);
-        return repair_loaded(bytes, &table, list, plan, work);
-    }
-    let mut table = [0u16; 34816];
-    table::load(bytes, &mut table);
-    repair_loaded(bytes, &table, list, plan, work)
+    let p = painting::prepare(task);
+    let Checked::Accepted = p else {
+        return Planned::Refused(answers::refusal_in(p));
+    };
+    plan_prepared(task, given, list, plan, work)
 }
 
-// The record's checks, and the plan.
-fn plan_checked(bytes: &[u8], plan: &mut [u16], work: &mut [u16]) -> Planned
-    ensures { λ r. ⌜ Drafted (planCall (now (bytes .entry)) (length (now (plan .entry))) (length (now (work .entry)))) (planOf (taskOf (now (bytes .entry)))) (now (plan .exit)) r ⌝ }
+// The task of a small record is small, so that little has to be cleared.
+fn plan_accepted(
+    bytes: &[u8],
+    given: bool,
+    list: &[u16],
+    plan: &mut [u16],
+    work: &mut [u16],
+) -> Planned
+    requires { ⌜ recordCheck (now bytes) ≡ none ⌝ }
+    ensures { λ r. ⌜ Called given (now (bytes .entry)) (now (list .entry)) (roomIn (now (plan .entry)) (now (work .entry))) (now (plan .exit)) r ⌝ }
+{
+    if task::is_short(bytes) {
+        let mut small = [0u16; task::SHORT];
+        task::load(bytes, &mut small);
+        return plan_loaded(&mut small, given, list, plan, work);
+    }
+    let mut large = [0u16; task::LONG];
+    task::load(bytes, &mut large);
+    plan_loaded(&mut large, given, list, plan, work)
+}
+
+// The record's checks, then the rest.
+fn plan_checked(
+    bytes: &[u8],
+    given: bool,
+    list: &[u16],
+    plan: &mut [u16],
+    work: &mut [u16],
+) -> Planned
+    ensures { λ r. ⌜ Called given (now (bytes .entry)) (now (list .entry)) (roomIn (now (plan .entry)) (now (work .entry))) (now (plan .exit)) r ⌝ }
 {
     let c = record::check(bytes);
     let Checked::Refused(f) = c else {
-        return plan_accepted(bytes, plan, work);
-    };
-    Planned::Refused(f)
-}
-
-// The same with a caller's list.
-fn repair_checked(bytes: &[u8], list: &[u16], plan: &mut [u16], work: &mut [u16]) -> Planned
-    ensures { λ r. ⌜ Drafted (repairCall (now (bytes .entry)) (now (list .entry)) (length (now (plan .entry))) (length (now (work .entry)))) (repaired (taskOf (now (bytes .entry))) (now (list .entry))) (now (plan .exit)) r ⌝ }
-{
-    let c = record::check(bytes);
-    let Checked::Refused(f) = c else {
-        return repair_accepted(bytes, list, plan, work);
+        return plan_accepted(bytes, given, list, plan, work);
     };
     Planned::Refused(f)
 }
@@ -268,7 +190,7 @@ pub fn plan(bytes: &[u8], plan: &mut [u16], work: &mut [u16]) -> Planned
     ensures { λ r. ⌜ Demand3 (now (bytes .entry)) (length (now (plan .entry))) (length (now (work .entry))) (answerOf r) (planIn (answerOf r) (now (plan .exit))) ⌝ }
     ensures { λ r. ⌜ Bounded (now (bytes .entry)) (relaxedPlan (taskOf (now (bytes .entry)))) (answerOf r) (planIn (answerOf r) (now (plan .exit))) ⌝ }
 {
-    let r = plan_checked(bytes, plan, work);
+    let r = plan_checked(bytes, false, &[], plan, work);
     finish(r, plan, work);
     r
 }
@@ -280,12 +202,12 @@ pub fn repair(bytes: &[u8], list: &[u16], plan: &mut [u16], work: &mut [u16]) ->
     ensures { λ r. ⌜ now (work .exit) ≡ workList (length (now (work .entry))) ⌝ }
     ensures { λ r. ⌜ Bounded (now (bytes .entry)) (now (list .entry)) (answerOf r) (planIn (answerOf r) (now (plan .exit))) ⌝ }
 {
-    let r = repair_checked(bytes, list, plan, work);
+    let r = plan_checked(bytes, true, list, plan, work);
     finish(r, plan, work);
     r
 }
 
-// "The steps that run for real come back as the front part of the caller's own plan list": after a refusal none.
+// The steps that run for real, as a part of the caller's plan list; after a refusal none.
 pub fn runnable<'a>(answer: Planned, plan: &'a [u16]) -> &'a [u16]
     ensures { λ r. ⌜ now r ≡ runnable (answerOf answer) (now (plan .entry)) ⌝ }
 {

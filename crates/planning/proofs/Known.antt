@@ -1,5 +1,5 @@
 -- The facts of R and B. Red facts never leave a state, so 'red now or black ever' is 'held ever', and that is what the relaxed run of
--- the same list holds. The paper's words are the definition (`known`); by `known-run` the proofs speak of a relaxed run instead.
+-- the same list holds. Clause 6.3 is the definition (`known`); by `known-run` the proofs speak of a relaxed run instead.
 use Prim.Native.Nat.{ℕ}
 use mathlib.Core.Logic.{_⊎_, inl, inr}
 use mathlib.Core.Bool.{not, _&&_}

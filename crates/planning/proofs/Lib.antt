@@ -1,5 +1,6 @@
--- Laws about the definitions of specs/, from the ground up: tests and lists, the record, plans, the forward run and its relaxed plan,
--- the parts of the repair, the painting, and on top the calls and demand 3.
+-- First the table of examples, computed; then laws about the definitions of specs/, from the ground up: tests and lists, the record,
+-- plans, the forward run and its relaxed plan, the parts of the repair, the painting, and on top the calls and demand 3.
+pub mod Acceptance
 pub mod Tests
 pub mod Checks
 pub mod Below
@@ -24,5 +25,6 @@ pub mod Painting
 pub mod Sizes
 pub mod Calls
 pub mod Demand3
-pub mod Examples
 pub mod Longest
+pub mod Listing
+pub mod Listed

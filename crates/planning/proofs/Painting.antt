@@ -112,7 +112,7 @@ module _ (t : Task) (F : Formed t) where
         let vb = black-inside t v (blackArc-ends t u v a .1) in
         no-cycle u ub (onCycle-of (variables t) (blackArc t) u v 1 ub vb a (reach-move (variables t) (blackArc t) 0 v u u ub b (reach-here (variables t) (blackArc t) 0 u)))
 
-    -- "So no action affects two black variables."
+    -- 5.3: two black variables affected by one action would form a cycle
     pub one-black : (i u v : ℕ) → i < actions t → T (touches (act t i .eff) u) → T (touches (act t i .eff) v) → T (black t u) → T (black t v) → u ≡ v
     one-black i u v b tu tv bu bv = go (ℕ-discrete u v)
       where

@@ -38,7 +38,7 @@ pub capacityOf-le : (n w : ℕ) → (capacityOf n w ≤ n) × (capacityOf n w �
 unfolding capacityOf capacity
 capacityOf-le n w = (omega arith, omega arith, omega arith)
 
--- "The longest record has 49,315 bytes.": 22 bits, 20 for each of 64 variables, 384 for each of 1,024 actions
+-- The longest record (13): 22 bits, 20 for each of 64 variables, 384 for each of 1,024 actions
 pub record-length : (s : List ℕ) → recordCheck s ≡ none → length s ≤ 49315
 unfolding endsAt recordEnd
 record-length s e =

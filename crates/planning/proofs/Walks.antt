@@ -1,5 +1,5 @@
 -- Walks of one variable: moves by actions that each apply where the last one left it. In this file and in those above, W are the
--- facts that moves may count on, R and B of the paper.
+-- facts that moves may count on, R and B of clause 6.3.
 use Prim.Native.Nat.{ℕ, _<_}
 use mathlib.Core.Path.{_≡_}
 use mathlib.Core.List.{List, [], _∷_, _++_}

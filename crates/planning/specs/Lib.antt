@@ -1,4 +1,4 @@
--- Document 01 of the papers, "The carriage planner: records, repair and sheets", as definitions, in its order.
+-- docs/SPECIFICATION.md as definitions, in its order. A number in a comment is the clause that the definition states.
 pub mod Basics
 pub mod Record
 pub mod Runs
@@ -8,3 +8,4 @@ pub mod Repair
 pub mod Sheet
 pub mod Calls
 pub mod Existence
+pub mod Listing

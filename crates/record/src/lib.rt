@@ -1,4 +1,4 @@
-// The check of a record: 1 to 6, in bit order, at each field 1 before the rest. A whole variable, the two counts of an action and
+// The check of a record: 1 to 6 in the order of clause 2.9. A whole variable, the two counts of an action and
 // four facts at a time are read in one load and tested quickly; these tests only say that all is sound. Where they do not, the fields
 // are gone through one by one: a function for each field or kind of field takes the answer of the one below apart and hands on
 // the refusal with its place.
@@ -29,7 +29,7 @@ fn take(bytes: &[u8], at: u32, width: usize) -> Number
     Number::Value(bits::read_bits(bytes, at as usize, width) as u32)
 }
 
-// Zero bits up to a whole byte, and nothing behind.
+// The end of the record (2.6): padding of zeros, no byte too many or too few.
 fn check_end(bytes: &[u8], at: u32) -> Number
     requires { ⌜ (at ≤ 500000) × (at ≡ recordEnd (now bytes)) ⌝ }
     ensures { λ r. ⌜ valueOf r ≡ answer (inOrder (fromEnd (now (bytes .entry)))) 0 ⌝ }

@@ -1,6 +1,6 @@
 -- The relaxed plan's answer and its list, at each end.
 use mathlib.Core.Path.{_≡_, refl, sym, ap, _∙_, fun-ext}
-use mathlib.Core.Bool.{true, false, or-false}
+use mathlib.Core.Bool.{or-false}
 use mathlib.Core.List.{List, [], _∷_, _++_}
 use mathlib.Core.Option.{none}
 use Prim.Native.Nat.{ℕ, _-_, _≤_}
@@ -10,7 +10,7 @@ use lib.Seq.{take-at}
 use Rattle.planning.specs.Basics.{Check, refuse, refused, done}
 use Rattle.planning.specs.Record.{Task, taskOf, recordCheck}
 use Rattle.planning.specs.Runs.{State}
-use Rattle.planning.specs.Relaxed.{reachesGoals, factsReached, relaxedPlan}
+use Rattle.planning.specs.Relaxed.{factsReached, relaxedPlan}
 use Rattle.planning.specs.Calls.{lent, capacity, roomCheck, goalsCheck, relaxCall, relaxList}
 use Rattle.answers.proofs.Stages.{skip, hit}
 use Rattle.lists.specs.Lent.{laid}

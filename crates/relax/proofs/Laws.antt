@@ -86,20 +86,21 @@ module _ (fst : List ℕ) (N : State) (i f : ℕ) where
   unfolding is byOf
   needed-is q = let e : 64 * (f / 64) + f % 64 ≡ f = omega arith in rw (e, eq-eqb i (getD fst f 0) q) refl
 
-module _ (by : ℕ → ℕ → Option ℕ) (N : State) (i : ℕ) (table : List ℕ) (k b : ℕ) (h : k < b) (q : b ≤ length table) (f : ℕ) (e : f ≡ getD table k 0) where
-  reachedNeeded-cons : reachedNeeded by N i (factsIn table k b) ≡ ((is i (by (f / 64) (f % 64)) && N (f / 64) (f % 64)) || reachedNeeded by N i (factsIn table (k + 1) b))
+module _ (by : ℕ → ℕ → Option ℕ) (N : State) (i : ℕ) (task : List ℕ) (k b : ℕ) (h : k < b) (o : b ≤ length task) (f : ℕ) (e : f ≡ getD task k 0) where
+  reachedNeeded-cons : reachedNeeded by N i (factsIn task k b) ≡ ((is i (by (f / 64) (f % 64)) && N (f / 64) (f % 64)) || reachedNeeded by N i (factsIn task (k + 1) b))
   unfolding reachedNeeded factOf
-  reachedNeeded-cons = rw (factsIn-cons table k b h q, e) refl
+  reachedNeeded-cons = rw (factsIn-cons task k b h o, e) refl
 
-  pub reachedNeeded-hit : true ≡ (is i (by (f / 64) (f % 64)) && N (f / 64) (f % 64)) → true ≡ reachedNeeded by N i (factsIn table k b)
-  reachedNeeded-hit t = sym (reachedNeeded-cons ∙ rw (← t) refl)
+  module _ (r : Bool) (q : r ≡ (is i (by (f / 64) (f % 64)) && N (f / 64) (f % 64))) where
+    pub reachedNeeded-hit : r ≡ true → true ≡ reachedNeeded by N i (factsIn task k b)
+    reachedNeeded-hit t = sym (reachedNeeded-cons ∙ rw (← q, t) refl)
 
-  pub reachedNeeded-miss : false ≡ (is i (by (f / 64) (f % 64)) && N (f / 64) (f % 64)) → reachedNeeded by N i (factsIn table k b) ≡ reachedNeeded by N i (factsIn table (k + 1) b)
-  reachedNeeded-miss t = reachedNeeded-cons ∙ rw (← t) refl
+    pub reachedNeeded-miss : r ≡ false → reachedNeeded by N i (factsIn task k b) ≡ reachedNeeded by N i (factsIn task (k + 1) b)
+    reachedNeeded-miss t = reachedNeeded-cons ∙ rw (← q, t) refl
 
-pub reachedNeeded-end : (by : ℕ → ℕ → Option ℕ) (N : State) (i : ℕ) (table : List ℕ) (k b : ℕ) → k ≡ b → false ≡ reachedNeeded by N i (factsIn table k b)
+pub reachedNeeded-end : (by : ℕ → ℕ → Option ℕ) (N : State) (i : ℕ) (task : List ℕ) (k b : ℕ) → k ≡ b → false ≡ reachedNeeded by N i (factsIn task k b)
 unfolding reachedNeeded
-reachedNeeded-end by N i table k b e = rw (factsIn-none table k b e) refl
+reachedNeeded-end by N i task k b e = rw (factsIn-none task k b e) refl
 
 -- the test depends on the first achievers of the effects only
 reachedNeeded-same : (by by′ : ℕ → ℕ → Option ℕ) (N : State) (i : ℕ) (fs : List Fact) → ((v d : ℕ) → T (has fs v d) → is i (by v d) ≡ is i (by′ v d))

@@ -54,7 +54,7 @@ pub record Found (t : Task) (plan : List ℕ) (n : ℕ) : Type 0 where
   pub solved : reachesGoals t ≡ true
   pub front : Front t plan n
 
--- "10, facts reached: no plan"
+-- 4.4: no plan
 pub record Unfound (t : Task) (f : Refusal) : Type 0 where
   pub unsolved : reachesGoals t ≡ false
   pub number′ : f .number ≡ 10

@@ -14,16 +14,16 @@ use Rattle.planning.specs.Record.{endsAt}
 use Rattle.planning.specs.Sheet.{Sheet, sheetSize, sheetEnd, sheetField, stepsChecks, sheetChecks, sheetCheck, stepsIn}
 use Rattle.sheet.specs.Answers.{endCheck, headingOf}
 
--- Writing: "13 (length first), then 11".
+-- Writing: 13, the length first, then 11.
 module _ (x : Sheet) (n : ℕ) where
   pub over-length : 32768 < length (x .steps) → writeCall x n ≡ refused 13 32768
   unfolding writeCall lengthCheck answer inOrder andThen check
   over-length h = rw (lt-leb (length (x .steps)) 32768 h) refl
 
   module _ (short : length (x .steps) ≤ 32768) where
-    pub over-entry : (i : ℕ) → notBelow 1024 0 (x .steps) ≡ some i → writeCall x n ≡ refused 13 i
-    unfolding writeCall lengthCheck answer inOrder andThen check refuseAt
-    over-entry i e = rw (le-leb (length (x .steps)) 32768 short, e) refl
+    pub over-entry : (k p : ℕ) → refuseAt 13 (notBelow 1024 0 (x .steps)) ≡ refuse k p → writeCall x n ≡ refused k p
+    unfolding writeCall lengthCheck answer inOrder andThen check
+    over-entry k p e = rw (le-leb (length (x .steps)) 32768 short, e) refl
 
     pub over-room : notBelow 1024 0 (x .steps) ≡ none → n < sheetSize (length (x .steps)) → writeCall x n ≡ refused 11 n
     unfolding writeCall lengthCheck answer inOrder andThen check refuseAt roomCheck

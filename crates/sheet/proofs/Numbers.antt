@@ -8,7 +8,7 @@ use native.Mathlib.Omega.{arith}
 use Rattle.planning.specs.Basics.{Check, check, refuse, andThen, inOrder, refused, refuseAt}
 use Rattle.planning.specs.Calls.{lengthCheck, roomCheck, writeCall, readCall}
 use Rattle.planning.specs.Sheet.{Sheet, sheetField, stepsChecks, sheetChecks, sheetCheck, stepsIn}
-use Rattle.bits.proofs.Stages.{answer-refused}
+use Rattle.answers.proofs.Stages.{answer-refused}
 
 Numbered : Check → Type 0
 Numbered k = (n p : ℕ) → k ≡ refuse n p → 0 < n

@@ -1,4 +1,4 @@
--- The round trip, as a promise states it.
+-- 8.5: the round trip, as a promise states it.
 use Prim.Native.Nat.{ℕ, _-_, _≤_}
 use mathlib.Core.Path.{_≡_}
 use mathlib.Core.List.{List, _++_}

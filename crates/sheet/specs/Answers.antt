@@ -1,18 +1,13 @@
--- The answers of writing and reading a sheet, as the paper's number, place and values.
+-- The answers of writing (8.3) and reading (8.4) a sheet: number, place and values for each case.
 use Prim.Native.Nat.{ℕ}
 use mathlib.Core.Bool.{Bool}
 use mathlib.Core.List.{List, [], _∷_, _++_}
-use mathlib.Core.Option.{Option, none, some}
 use Rattle.planning.specs.Basics.{Check, check, inOrder, Answer, refused, done}
 use Rattle.planning.specs.Record.{endsAt}
 use Rattle.planning.specs.Sheet.{Sheet, sheetOf, sheetEnd, stepsIn, stepsChecks}
 use Rattle.planning.specs.Calls.{Read}
-use Rattle.sheet.specs.declared.Written.{Written}
-use Rattle.sheet.specs.declared.Written.the-variants as written
 use Rattle.sheet.specs.declared.Reading.{Reading}
 use Rattle.sheet.specs.declared.Reading.the-variants as reading
-use Rattle.sheet.specs.declared.Fault.{Fault}
-use Rattle.sheet.specs.declared.Fault.the-variants as fault
 
 -- the sheet of a list, a cost and a verdict
 abbrev pub sheet : List ℕ → ℕ → Bool → Sheet
@@ -21,18 +16,9 @@ sheet l c b = record { steps = l; cost = c; real = b }
 abbrev pub heading : ℕ → ℕ → Bool → Read
 heading n c b = record { steps = n; cost = c; real′ = b }
 
-unfoldable pub writtenAs : Written → Answer ℕ
-writtenAs (written.Size n) = done n
-writtenAs (written.Refused f) = refused (f .number) (f .place)
-
 unfoldable pub readingAs : Reading → Answer Read
 readingAs (reading.Plan n c b) = done (heading n c b)
 readingAs (reading.Refused f) = refused (f .number) (f .place)
-
--- the lowest faulty entry, if there is one
-unfoldable pub faultAs : Fault → Option ℕ
-faultAs (fault.Entry i) = some i
-faultAs fault.Nothing = none
 
 abbrev pub declined : ℕ → ℕ → Answer Read
 declined n p = refused n p

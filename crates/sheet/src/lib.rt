@@ -1,34 +1,25 @@
-// Plan sheets: a list of steps, its cost and its verdict, written into bytes that the caller lends and read from bytes.
-use bits::Refusal;
+// Plan sheets (clause 8): a list of steps, its cost and its verdict, written into bytes that the caller lends and read from bytes.
+use answers::Checked;
+use answers::Number;
+use answers::Refusal;
 ghost use mathlib.Core.Path.{_≡_};
 ghost use mathlib.Core.Bool.{Bool};
 ghost use mathlib.Core.List.{_++_};
 ghost use mathlib.Core.Option.{none};
 ghost use Prim.Native.Nat.{ℕ, _+_, _-_, _*_, _<_, _≤_};
 ghost use lib.ListN.{length, take, drop, getD};
-ghost use Rattle.planning.specs.Basics.{bitsAt, oneIf, done, answer};
+ghost use Rattle.planning.specs.Basics.{bitsAt, oneIf, done, answer, refuseAt};
 ghost use Rattle.planning.specs.Record.{endsAt};
 ghost use Rattle.planning.specs.Sheet.{bitsOf, packed, stepBits, sheetSize, sheetCheck, stepsAt, stepsIn};
 ghost use Rattle.planning.specs.Calls.{Read, notBelow, writeCall, writeBytes, readCall, readList};
-ghost use Rattle.sheet.specs.Answers.{sheet, writtenAs, readingAs, faultAs, declined, headingOf, endCheck};
+ghost use Rattle.answers.specs.Answers.{checkOf, valueOf};
+ghost use Rattle.sheet.specs.Answers.{sheet, readingAs, declined, headingOf, endCheck};
 ghost use Rattle.sheet.specs.Again.{ReadsAs, WritesAs};
-
-// The count of bytes written, or the refusal.
-pub enum Written {
-    Size(u32),
-    Refused(Refusal),
-}
 
 // What a sheet says of its plan, or the refusal.
 pub enum Reading {
     Plan { steps: u32, cost: u32, real: bool },
     Refused(Refusal),
-}
-
-// The lowest entry that no sheet can hold.
-pub enum Fault {
-    Entry(usize),
-    Nothing,
 }
 
 fn wide(x: u16) -> u64
@@ -37,17 +28,22 @@ fn wide(x: u16) -> u64
     x as u64
 }
 
-fn lowest_over(list: &[u16]) -> Fault
-    ensures { λ r. ⌜ faultAs r ≡ notBelow 1024 0 (now (list .entry)) ⌝ }
+// 13 at the lowest entry that no sheet can hold.
+fn check_each(list: &[u16]) -> Checked
+    requires { ⌜ length (now list) ≤ 32768 ⌝ }
+    ensures { λ r. ⌜ checkOf r ≡ refuseAt 13 (notBelow 1024 0 (now (list .entry))) ⌝ }
 {
     let mut i: usize = 0;
     while i < list.len() {
         if 1023 < list[i] {
-            return Fault::Entry(i);
+            return Checked::Refused(Refusal {
+                number: 13,
+                place: i as u32,
+            });
         }
         i += 1;
     }
-    Fault::Nothing
+    Checked::Accepted
 }
 
 // 0 only if no entry is over 1,023: a pass without a branch, which most lists need alone.
@@ -64,40 +60,38 @@ fn excess(list: &[u16]) -> u32
     sum
 }
 
-fn find_over(list: &[u16]) -> Fault
+fn check_entries(list: &[u16]) -> Checked
     requires { ⌜ length (now list) ≤ 32768 ⌝ }
-    ensures { λ r. ⌜ faultAs r ≡ notBelow 1024 0 (now (list .entry)) ⌝ }
+    ensures { λ r. ⌜ checkOf r ≡ refuseAt 13 (notBelow 1024 0 (now (list .entry))) ⌝ }
 {
     if excess(list) == 0 {
-        return Fault::Nothing;
+        return Checked::Accepted;
     }
-    lowest_over(list)
+    check_each(list)
 }
 
 // Whether the list can be written into that many bytes: 13, length first, then 11.
-fn size_for(list: &[u16], room: usize) -> Written
-    ensures { λ r. ⌜ ((c : ℕ) (b : Bool) → writtenAs r ≡ writeCall (sheet (now (list .entry)) c b) room) ⌝ }
+fn size_for(list: &[u16], room: usize) -> Number
+    ensures { λ r. ⌜ ((c : ℕ) (b : Bool) → valueOf r ≡ writeCall (sheet (now (list .entry)) c b) room) ⌝ }
 {
     if 32768 < list.len() {
-        return Written::Refused(Refusal {
+        return Number::Refused(Refusal {
             number: 13,
             place: 32768,
         });
     }
-    if let Fault::Entry(i) = find_over(list) {
-        return Written::Refused(Refusal {
-            number: 13,
-            place: i as u32,
-        });
-    }
+    let entries = check_entries(list);
+    let Checked::Accepted = entries else {
+        return Number::Refused(answers::refusal_in(entries));
+    };
     let size = (53 + 10 * list.len() + 7) / 8;
     if room < size {
-        return Written::Refused(Refusal {
+        return Number::Refused(Refusal {
             number: 11,
             place: room as u32,
         });
     }
-    Written::Size(size as u32)
+    Number::Value(size as u32)
 }
 
 fn one_if(b: bool) -> u64
@@ -158,13 +152,13 @@ fn write_steps(list: &[u16], five: u64, size: usize, bytes: &mut [u8])
 
 // Writes the sheet of a list, a cost and a verdict: the count of its bytes, zeros behind it, and zeros throughout after a
 // refusal.
-pub fn write(list: &[u16], cost: u32, real: bool, bytes: &mut [u8]) -> Written
-    ensures { λ r. ⌜ writtenAs r ≡ writeCall (sheet (now (list .entry)) cost real) (length (now (bytes .entry))) ⌝ }
+pub fn write(list: &[u16], cost: u32, real: bool, bytes: &mut [u8]) -> Number
+    ensures { λ r. ⌜ valueOf r ≡ writeCall (sheet (now (list .entry)) cost real) (length (now (bytes .entry))) ⌝ }
     ensures { λ r. ⌜ now (bytes .exit) ≡ writeBytes (sheet (now (list .entry)) cost real) (length (now (bytes .entry))) ⌝ }
-    ensures { λ r. ⌜ ((n : ℕ) → writtenAs r ≡ done n → ReadsAs (take n (now (bytes .exit))) (sheet (now (list .entry)) cost real)) ⌝ }
+    ensures { λ r. ⌜ ((n : ℕ) → valueOf r ≡ done n → ReadsAs (take n (now (bytes .exit))) (sheet (now (list .entry)) cost real)) ⌝ }
 {
     let a = size_for(list, bytes.len());
-    let Written::Size(n) = a else {
+    let Number::Value(n) = a else {
         lists::clear(bytes);
         return a;
     };
@@ -182,7 +176,7 @@ fn refused(place: u32) -> Reading
     Reading::Refused(Refusal { number: 12, place })
 }
 
-// "zero bits to a whole byte", and nothing behind
+// the padding is 0 and there is no byte behind it (8.4)
 fn ends(bytes: &[u8], end: usize) -> bool
     requires { ⌜ (end ≤ 8 * length (now bytes)) × (end ≤ 400000) ⌝ }
     ensures { λ r. ⌜ r ≡ endsAt (now (bytes .entry)) end ⌝ }

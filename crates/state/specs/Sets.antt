@@ -24,7 +24,7 @@ setsOf ms v x = inSet (getD ms v 0) x
 unfoldable pub modeOf : ℕ → Mode
 modeOf m v = inSet m v
 
--- "replaces the set of an affected black variable by the new value and adds the new value to the set of an affected red one"
+-- 3.3: the next set of an affected variable, from its old set and what is set; the variable acts as black, or as red
 unfoldable pub mixed : Bool → ℕ → ℕ → ℕ
 mixed true old new = new
 mixed false old new = bitOr old new

@@ -1,14 +1,15 @@
 -- What is written into the parts for chains and order leaves the task alone: all that the task is read from lies outside of them.
-use mathlib.Core.Path.{_≡_, refl, sym, ap, _∙_}
+use mathlib.Core.Path.{_≡_, refl, sym, ap, _∙_, subst}
 use mathlib.Core.Logic.{_⊎_, inl, inr}
 use mathlib.Core.List.{List}
 use Prim.Native.Nat.{ℕ, zero, suc, _+_, _-_, _*_, _<_, _≤_}
 use native.Mathlib.Omega.{arith}
 use lib.ListN.{length, getD, set, length-set}
-use lib.Seq.{slice, slice-cons, slice-empty, getD-set-other}
+use native.Mathlib.Decide.{ℕ-discrete}
+use lib.Seq.{slice, slice-cons, slice-empty, getD-set-same, getD-set-other}
 use Rattle.planning.specs.Runs.{actions}
 use Rattle.task.specs.Task.{cell, factsIn, variableIn, actionIn, each, taskIn, preAt, effAt, endAt, Row, Loaded}
-use Rattle.task.specs.Links.{Link, Relinked}
+use Rattle.task.specs.Links.{headAt, nextAt, Link, Relinked, Unlinked, linked}
 use Rattle.task.proofs.Reading.{taskIn-variables, taskIn-actions}
 
 pub relinked-none : (task : List ℕ) → Relinked task task
@@ -23,8 +24,53 @@ relinked-set before after k w l R = record {
 pub relinked-trans : (a b c : List ℕ) → Relinked a b → Relinked b c → Relinked a c
 relinked-trans a b c R S = record { long = S .long ∙ R .long; kept = λ k h. S .kept k h ∙ R .kept k h }
 
+pub relinked-link : (before after : List ℕ) (f i : ℕ) → f < 4096 → i < 1024 → Relinked before after → Relinked before (linked f i after)
+unfolding linked
+relinked-link before after f i b c R =
+    relinked-set before (set after (4420 + i) (headAt after f)) (324 + f) i (inr (omega arith, omega arith))
+    (relinked-set before after (4420 + i) (headAt after f) (inr (omega arith, omega arith)) R)
+
+-- what is linked behind a new head
+module _ (task : List ℕ) (f i : ℕ) (b : f < 4096) (c : i < 1024) (n : 5444 ≤ length task) where
+  pub head-new : headAt (linked f i task) f ≡ i
+  unfolding linked
+  head-new = getD-set-same (set task (4420 + i) (headAt task f)) (324 + f) i 0 (rw (length-set task (4420 + i) (headAt task f)) (omega arith))
+
+  pub head-old : (g : ℕ) → g < 4096 → (g ≡ f → ⊥) → headAt (linked f i task) g ≡ headAt task g
+  unfolding linked
+  head-old g h d =
+      getD-set-other (set task (4420 + i) (headAt task f)) (324 + f) (324 + g) i 0 (λ q. d (omega arith))
+      ∙ getD-set-other task (4420 + i) (324 + g) (headAt task f) 0 (λ q. omega arith)
+
+  next-kept : (j : ℕ) → nextAt (linked f i task) j ≡ nextAt (set task (4420 + i) (headAt task f)) j
+  unfolding linked
+  next-kept j = getD-set-other (set task (4420 + i) (headAt task f)) (324 + f) (4420 + j) i 0 (λ q. omega arith)
+
+  pub next-new : nextAt (linked f i task) i ≡ headAt task f
+  next-new = next-kept i ∙ getD-set-same task (4420 + i) (headAt task f) 0 (omega arith)
+
+  pub next-old : (j : ℕ) → (j ≡ i → ⊥) → nextAt (linked f i task) j ≡ nextAt task j
+  next-old j d = next-kept j ∙ getD-set-other task (4420 + i) (4420 + j) (headAt task f) 0 (λ q. d (omega arith))
+
+-- heads one after the other
+pub unlinked-none : (task : List ℕ) → Unlinked 0 task task
+unlinked-none task = record { relinked = relinked-none task; heads = λ f l. absurd (omega arith) }
+
+pub unlinked-more : (before after : List ℕ) (f : ℕ) → f < 4096 → 5444 ≤ length before → Unlinked f before after → Unlinked (f + 1) before (set after (324 + f) 65535)
+unlinked-more before after f b n U = record {
+  relinked = relinked-set before after (324 + f) 65535 (inr (omega arith, omega arith)) (U .relinked);
+  heads = λ g l. go g l (ℕ-discrete g f);
+}
+  where
+    go : (g : ℕ) → g < f + 1 → Dec (g ≡ f) → headAt (set after (324 + f) 65535) g ≡ 65535
+    go g l (yes e) = rw (e, getD-set-same after (324 + f) 65535 0 (omega (arith, U .relinked .long))) refl
+    go g l (no e) = rw (getD-set-other after (324 + f) (324 + g) 65535 0 (λ q. e (omega arith))) (U .heads g (omega arith))
+
+pub unlinked-all : (before after : List ℕ) (f n : ℕ) → f ≡ n → Unlinked f before after → Unlinked n before after
+unlinked-all before after f n e U = subst (λ (x : ℕ). Unlinked x before after) e U
+
 -- equal numbers from f up to t make equal parts
-slice-same : (n f t : ℕ) (a b : List ℕ) → t ≡ f + n → t ≤ length a → t ≤ length b → ((k : ℕ) → f ≤ k → k < t → getD a k 0 ≡ getD b k 0) → slice f t a ≡ slice f t b
+pub slice-same : (n f t : ℕ) (a b : List ℕ) → t ≡ f + n → t ≤ length a → t ≤ length b → ((k : ℕ) → f ≤ k → k < t → getD a k 0 ≡ getD b k 0) → slice f t a ≡ slice f t b
 slice-same zero f t a b e la lb h = let q : t ≡ f = omega arith in rw q (slice-empty f a ∙ sym (slice-empty f b))
 slice-same (suc n) f t a b e la lb h =
     slice-cons f t a 0 (omega arith) la

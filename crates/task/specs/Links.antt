@@ -6,7 +6,7 @@ use mathlib.Core.List.{List}
 use mathlib.Core.Option.{none}
 use Prim.Native.Nat.{ℕ, _+_, _*_, _<_, _≤_}
 use lib.Dec.{T}
-use lib.ListN.{length, getD}
+use lib.ListN.{length, getD, set}
 use lib.Seq.{slice}
 use Rattle.planning.specs.Record.{Task}
 use Rattle.planning.specs.Runs.{has, actions, act, black}
@@ -54,3 +54,12 @@ Link k = (k ≡ 2) ⊎ ((260 ≤ k) × (k < 5444))
 pub record Relinked (before after : List ℕ) : Type 0 where
   pub long : length after ≡ length before
   pub kept : (k : ℕ) → (Link k → ⊥) → getD after k 0 ≡ getD before k 0
+
+-- no action is linked for the first n facts
+pub record Unlinked (n : ℕ) (before after : List ℕ) : Type 0 where
+  pub relinked : Relinked before after
+  pub heads : (f : ℕ) → f < n → headAt after f ≡ 65535
+
+-- action i in front of the chain of fact f
+unfoldable pub linked : ℕ → ℕ → List ℕ → List ℕ
+linked f i task = set (set task (4420 + i) (headAt task f)) (324 + f) i

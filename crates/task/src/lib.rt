@@ -2,11 +2,11 @@
 ghost use mathlib.Core.Path.{_≡_};
 ghost use mathlib.Core.Option.{none};
 ghost use Prim.Native.Nat.{_+_, _*_, _<_, _≤_};
-ghost use lib.ListN.{length, getD};
+ghost use lib.ListN.{length, getD, set};
 ghost use Rattle.planning.specs.Record.{taskOf, recordCheck, variablesIn, actionsIn};
 ghost use Rattle.planning.specs.Runs.{variables, actions, variable, count, black};
 ghost use Rattle.task.specs.Task.{taskIn, Loaded, costAt, preAt, effAt, endAt};
-ghost use Rattle.task.specs.Links.{headAt, nextAt, orderIn, Prepared};
+ghost use Rattle.task.specs.Links.{headAt, nextAt, orderIn, linked, Unlinked, Prepared};
 ghost use Rattle.task.specs.Size.{taskSize, roomFor};
 ghost use Rattle.task.specs.Loading.{RowWritten, FactsLoaded, Room, ActionLoaded, VariableLoaded, Headed};
 ghost use Rattle.task.specs.Goals.{optionOf};
@@ -130,6 +130,43 @@ pub fn order_at(task: &[u16], p: usize) -> usize
     ensures { λ r. ⌜ r ≡ getD (orderIn (now (task .entry))) p 0 ⌝ }
 {
     lists::wide(task[260 + p])
+}
+
+// No action is linked for the first n facts.
+pub fn unlink(task: &mut [u16], n: usize)
+    requires { ⌜ (n ≤ 4096) × (5444 ≤ length (now task)) ⌝ }
+    ensures { λ _. ⌜ Unlinked n (now (task .entry)) (now (task .exit)) ⌝ }
+{
+    let mut f = 0;
+    while f < n {
+        task[324 + f] = 65535;
+        f += 1;
+    }
+}
+
+// Action i in front of the chain of fact f.
+pub fn link(task: &mut [u16], f: usize, i: usize)
+    requires { ⌜ (f < 4096) × (i < 1024) × (5444 ≤ length (now task)) ⌝ }
+    ensures { λ _. ⌜ now (task .exit) ≡ linked f i (now (task .entry)) ⌝ }
+{
+    task[4420 + i] = task[324 + f];
+    task[324 + f] = i as u16;
+}
+
+// Variable v at place k of the order.
+pub fn set_order(task: &mut [u16], k: usize, v: usize)
+    requires { ⌜ (k < 64) × (v < 64) × (5444 ≤ length (now task)) ⌝ }
+    ensures { λ _. ⌜ now (task .exit) ≡ set (now (task .entry)) (260 + k) v ⌝ }
+{
+    task[260 + k] = v as u16;
+}
+
+// The order has n variables.
+pub fn end_order(task: &mut [u16], n: usize)
+    requires { ⌜ (n ≤ 64) × (5444 ≤ length (now task)) ⌝ }
+    ensures { λ _. ⌜ now (task .exit) ≡ set (now (task .entry)) 2 n ⌝ }
+{
+    task[2] = n as u16;
 }
 
 // Row r.

@@ -1,3 +1,4 @@
 //! What the classes share.
 
+pub mod options;
 pub mod table;

@@ -49,7 +49,7 @@ impl Check {
         };
         input.copy_from_slice(bytes);
         self.compared += 1;
-        let library = Code(mardiskos::check(input));
+        let library = Code(mardiskos::lent::check(input));
         let reference = Code(refusal::code(&record::check(bytes)));
         same(library, reference, || format!("record: {}", hex(bytes)))
     }

@@ -1,10 +1,28 @@
-//! Lists of actions: walks, plans, damaged ones, and long ones.
+//! Lists of actions: all short ones, walks, plans, damaged ones, and long ones.
 
 use generate::Random;
 use reference::state::{Semantics, State};
 use reference::{entry, Task};
 
 const MAX_STEPS: usize = entry::MAX_STEPS;
+
+/// Every list of at most four entries, each a low or the last action of the task or none of its
+/// actions.
+pub fn every_short(task: &Task) -> Vec<Vec<u16>> {
+    let actions = task.action_count() as u16;
+    let ends = [actions.saturating_sub(1), actions];
+    let mut numbers: Vec<u16> = (0..actions.min(5)).chain(ends).collect();
+    numbers.dedup();
+    let mut lists = vec![Vec::new()];
+    let mut done = 0;
+    while lists[done].len() < 4 {
+        let longer = numbers.iter().map(|&number| [&lists[done][..], &[number]].concat());
+        let longer: Vec<Vec<u16>> = longer.collect();
+        lists.extend(longer);
+        done += 1;
+    }
+    lists
+}
 
 /// A list to judge.
 pub fn judged(random: &mut Random, task: &Task, record: &[u8]) -> Vec<u16> {

@@ -5,8 +5,8 @@ use compare::lent::Lent;
 use compare::lists;
 use compare::suite::{hex, list_hex, same, same_lent, Options};
 use generate::{mixture, Random};
-use mardiskos::PlanResult;
-use reference::{entry, record, search, Refusal, Task};
+use mardiskos::lent::PlanResult;
+use reference::{entry, examples, record, search, Refusal, Task};
 
 const COUNT: usize = 100_000;
 const MOST_ENTRIES: usize = 41_000;
@@ -26,6 +26,7 @@ pub fn run(options: &Options) -> Result<String, String> {
         planned: 0,
         searched: 0,
     };
+    plans.examples()?;
     let records = options.count.unwrap_or(COUNT);
     for _ in 0..records {
         plans.compare_record()?;
@@ -48,6 +49,21 @@ struct Plans {
 }
 
 impl Plans {
+    /// The store examples: the planner with every short list lent, and every short list repaired.
+    fn examples(&mut self) -> Result<(), String> {
+        for (_, bytes) in examples::files() {
+            for (plan, work) in (0..10).flat_map(|plan| (0..10).map(move |work| (plan, work))) {
+                self.call(&bytes, None, plan, work)?;
+            }
+            let task = record::read(&bytes).unwrap_or_default();
+            for list in lists::every_short(&task) {
+                let answer = self.longest_plan(&bytes, Some(&list));
+                self.around(&bytes, Some(&list), answer)?;
+            }
+        }
+        Ok(())
+    }
+
     fn compare_record(&mut self) -> Result<(), String> {
         let bytes = mixture::record(&mut self.random);
         let answer = self.longest_plan(&bytes, None);
@@ -127,8 +143,10 @@ impl Plans {
         let record = self.record.copy(bytes);
         let (plan, work) = (self.plan.library(), self.work.library());
         match relaxed {
-            Some(relaxed) => mardiskos::repair(record, self.relaxed.copy(relaxed), plan, work),
-            None => mardiskos::plan(record, plan, work),
+            Some(relaxed) => {
+                mardiskos::lent::repair(record, self.relaxed.copy(relaxed), plan, work)
+            }
+            None => mardiskos::lent::plan(record, plan, work),
         }
     }
 

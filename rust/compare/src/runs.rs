@@ -5,8 +5,8 @@ use compare::lent::Lent;
 use compare::lists;
 use compare::suite::{hex, list_hex, same, same_lent, Options};
 use generate::{mixture, Random};
-use mardiskos::{ForwardRun, Judgement, RelaxedPlan};
-use reference::{entry, record, Refusal};
+use mardiskos::lent::{ForwardRun, Judgement, RelaxedPlan};
+use reference::{entry, examples, record, Refusal};
 
 const COUNT: usize = 100_000;
 const MOST_ENTRIES: usize = 41_000;
@@ -20,6 +20,7 @@ pub fn run(options: &Options) -> Result<String, String> {
         lent: Lent::new(MOST_ENTRIES),
         calls: 0,
     };
+    runs.examples()?;
     let records = options.count.unwrap_or(COUNT);
     for _ in 0..records {
         let bytes = mixture::record(&mut runs.random);
@@ -39,6 +40,19 @@ struct Runs {
 }
 
 impl Runs {
+    /// The store examples: every short list judged, every short length lent.
+    fn examples(&mut self) -> Result<(), String> {
+        for (_, bytes) in examples::files() {
+            let task = record::read(&bytes).unwrap_or_default();
+            lists::every_short(&task).iter().try_for_each(|list| self.judge(&bytes, list))?;
+            for len in 0..8 {
+                self.forward(&bytes, len)?;
+                self.relax(&bytes, len)?;
+            }
+        }
+        Ok(())
+    }
+
     fn judge_several(&mut self, bytes: &[u8]) -> Result<(), String> {
         let task = record::read(bytes).unwrap_or_default();
         for _ in 0..4 {
@@ -50,7 +64,7 @@ impl Runs {
 
     fn judge(&mut self, bytes: &[u8], list: &[u16]) -> Result<(), String> {
         self.calls += 1;
-        let library = mardiskos::judge(self.record.copy(bytes), self.list.copy(list));
+        let library = mardiskos::lent::judge(self.record.copy(bytes), self.list.copy(list));
         let reference = judgement(entry::judge(bytes, list));
         let input = || format!("judge\nrecord: {}\nlist: {}", hex(bytes), list_hex(list));
         same(library, reference, input)
@@ -66,7 +80,7 @@ impl Runs {
 
     fn forward(&mut self, bytes: &[u8], len: usize) -> Result<(), String> {
         self.lent.refill(&mut self.random, len);
-        let library = mardiskos::forward(self.record.copy(bytes), self.lent.library());
+        let library = mardiskos::lent::forward(self.record.copy(bytes), self.lent.library());
         let reference = forward_run(entry::forward(bytes, self.lent.reference()));
         self.compare(library, reference, || lent_input("forward", bytes, len))
     }
@@ -81,7 +95,7 @@ impl Runs {
 
     fn relax(&mut self, bytes: &[u8], len: usize) -> Result<(), String> {
         self.lent.refill(&mut self.random, len);
-        let library = mardiskos::relax(self.record.copy(bytes), self.lent.library());
+        let library = mardiskos::lent::relax(self.record.copy(bytes), self.lent.library());
         let reference = relaxed_plan(entry::relax(bytes, self.lent.reference()));
         self.compare(library, reference, || lent_input("relax", bytes, len))
     }

@@ -4,8 +4,8 @@ use compare::guard::Guarded;
 use compare::lent::Lent;
 use compare::suite::{hex, list_hex, same, same_lent, Options};
 use generate::{damage, Random};
-use mardiskos::{Sheet, SheetSize};
-use reference::{sheet, Refusal};
+use mardiskos::lent::{Sheet, SheetSize};
+use reference::{entry, examples, sheet, Refusal};
 
 const COUNT: usize = 1_000_000;
 const MAX_STEPS: usize = 32_768;
@@ -22,6 +22,7 @@ pub fn run(options: &Options) -> Result<String, String> {
         written: 0,
         read: 0,
     };
+    sheets.examples()?;
     sheets.large()?;
     sheets.every_damage()?;
     for _ in 0..options.count.unwrap_or(COUNT) {
@@ -45,7 +46,8 @@ impl Sheets {
         self.written += 1;
         self.lent_bytes.refill(&mut self.random, len);
         let lent = &mut self.lent_bytes;
-        let library = mardiskos::write_sheet(self.list.copy(list), cost, real, lent.library());
+        let library =
+            mardiskos::lent::write_sheet(self.list.copy(list), cost, real, lent.library());
         let reference = sheet_size(sheet::write(list, cost, real, lent.reference()));
         let list = || list_hex(list);
         let input =
@@ -58,11 +60,29 @@ impl Sheets {
         self.read += 1;
         self.lent_list.refill(&mut self.random, len);
         let lent = &mut self.lent_list;
-        let library = mardiskos::read_sheet(self.bytes.copy(bytes), lent.library());
+        let library = mardiskos::lent::read_sheet(self.bytes.copy(bytes), lent.library());
         let reference = sheet_read(sheet::read(bytes, lent.reference()));
         let input = || format!("read\nsheet: {}\n{len} entries lent", hex(bytes));
         same(library, reference, input)?;
         same_lent("list", self.lent_list.difference(), input)
+    }
+
+    /// The plans of the store examples: written into every length, read from every front part.
+    fn examples(&mut self) -> Result<(), String> {
+        for (_, record) in examples::files() {
+            let (mut plan, mut work) = ([0; 16], [0; 16]);
+            let Ok(result) = entry::plan(&record, &mut plan, &mut work) else { continue };
+            let list = &plan[..result.steps as usize];
+            let mut bytes = vec![0; sheet::size(list.len())];
+            sheet::write(list, result.cost, result.real, &mut bytes).unwrap();
+            for len in 0..bytes.len() + 3 {
+                self.write(list, result.cost, result.real, len)?;
+            }
+            (0..bytes.len()).try_for_each(|len| self.read(&bytes[..len], list.len()))?;
+            (0..list.len() + 3).try_for_each(|len| self.read(&bytes, len))?;
+            self.flips(bytes, 1)?;
+        }
+        Ok(())
     }
 
     fn entries(&mut self, len: usize) -> Vec<u16> {

@@ -62,18 +62,70 @@ fn any_of(random: &mut Random, set: u64) -> usize {
 /// 1,024 actions that all apply for real one after another, again and again; each needs and
 /// changes 15 variables. The goals hold after every round.
 pub fn wheel(random: &mut Random) -> Task {
-    const ROUND: usize = 60;
+    turning(random, VARIABLES, FACTS)
+}
+
+/// The wheel with so many variables turned, and so many facts in each list of an action.
+pub fn turning(random: &mut Random, turned: usize, facts: usize) -> Task {
+    let round = (1..VALUES).rev().find(|round| facts * 1024 / turned % round == 0).unwrap();
     let mut task = Task::new(vec![variable(true, Some(0)); VARIABLES]);
     let mut turns = [0; VARIABLES];
     for k in 0..1024 {
-        let mut window: Vec<usize> = (0..FACTS).map(|j| (FACTS * k + j) % VARIABLES).collect();
+        let mut window: Vec<usize> = (0..facts).map(|j| (facts * k + j) % turned).collect();
         window.sort();
         let facts = |turns: &[usize; VARIABLES]| -> Vec<Fact> {
-            window.iter().map(|&v| Fact::new(v, turns[v] % ROUND)).collect()
+            window.iter().map(|&v| Fact::new(v, turns[v] % round)).collect()
         };
         let needs = facts(&turns);
         window.iter().for_each(|&v| turns[v] += 1);
         task.push(cost(random), &needs, &facts(&turns));
+    }
+    task
+}
+
+/// A wheel that stops for real at step 1, red-black and relaxed never: the first action sets a red
+/// lamp that the second one needs unset.
+pub fn lamp_wheel(random: &mut Random) -> Task {
+    const LAMP: usize = VARIABLES - 1;
+    let wheel = turning(random, VARIABLES / 2, FACTS - 1);
+    let mut variables = wheel.variables.clone();
+    variables[LAMP] = variable(false, None);
+    let mut task = Task::new(variables);
+    for (number, action) in wheel.actions().enumerate() {
+        let (mut needs, mut sets) = (action.preconditions.to_vec(), action.effects.to_vec());
+        sets.extend((number == 0).then_some(Fact::new(LAMP, 1)));
+        needs.extend((number == 1).then_some(Fact::new(LAMP, 0)));
+        task.push(action.cost, &needs, &sets);
+    }
+    task
+}
+
+/// One black variable whose moves all start anywhere, each value set by as many. All need one fact;
+/// the last move to a value needs no more, so that it is everyone's return. The others need a fact
+/// of their own.
+pub fn anywhere(random: &mut Random, actions: usize) -> Task {
+    from_anywhere(random, actions, |k| {
+        let own = (k + VALUES < actions).then(|| Fact::new(2 + k % 62, k / 62 + 1));
+        [Fact::new(1, 0)].into_iter().chain(own).collect()
+    })
+}
+
+/// The same with returns apart: of the moves to a value one serves, another for the next action,
+/// and they differ in the last of many conditions.
+pub fn anywhere_apart(random: &mut Random, actions: usize) -> Task {
+    let kinds = actions.div_ceil(VALUES);
+    from_anywhere(random, actions, |k| {
+        let mut needs: Vec<Fact> = (1..FACTS).map(|v| Fact::new(v, 0)).collect();
+        needs.push(Fact::new(VARIABLES - 1, (k / VALUES + k) % kinds));
+        needs
+    })
+}
+
+fn from_anywhere(random: &mut Random, actions: usize, needs: impl Fn(usize) -> Vec<Fact>) -> Task {
+    let variables = (0..VARIABLES).map(|v| variable(v == 0, Some(0)));
+    let mut task = Task::new(variables.collect());
+    for k in 0..actions {
+        task.push(cost(random), &needs(k), &[Fact::new(0, k % VALUES)]);
     }
     task
 }

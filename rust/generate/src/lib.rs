@@ -6,6 +6,7 @@ pub mod listings;
 pub mod mixture;
 pub mod random;
 pub mod records;
+pub mod ring;
 pub mod stores;
 
 pub use random::Random;

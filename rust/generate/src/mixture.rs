@@ -1,7 +1,7 @@
 //! A mixture of all kinds of records, most of them small.
 
 use crate::random::Random;
-use crate::{damage, extremes, records, stores};
+use crate::{damage, extremes, records, ring, stores};
 use reference::{record, Task};
 
 /// A record, one in twenty damaged.
@@ -21,6 +21,8 @@ pub fn task(random: &mut Random) -> Task {
         5..20 => records::random_task(random, records::MIDDLE),
         20..40 => any_tower(random),
         40..70 => stores::store(random, stores::LARGE),
+        70..85 => any_ring(random),
+        85..90 => from_anywhere(random),
         _ => small_task(random),
     }
 }
@@ -36,12 +38,39 @@ pub fn small_task(random: &mut Random) -> Task {
 }
 
 fn extreme_task(random: &mut Random) -> Task {
-    match random.below(4) {
+    match random.below(7) {
         0 => extremes::chain(random, 1024),
         1 => extremes::wheel(random),
-        2 => extremes::returns(random, 1024),
+        2 => extremes::lamp_wheel(random),
+        3 => extremes::returns(random, 1024),
+        4 => extremes::anywhere_apart(random, 1024),
+        5 => ring::ring(random, 64, 60, 14),
         _ => records::dense_task(random, 64, 1024, 15),
     }
+}
+
+/// A few rooms, boxes and errands, in one of four cases with one action taken out.
+fn any_ring(random: &mut Random) -> Task {
+    let (rooms, boxes) = (random.within(4, 16), random.within(0, 6));
+    let errands = random.within(1, 4);
+    let task = ring::ring(random, rooms, boxes, errands);
+    if random.chance(1, 4) {
+        return task.without(random.below(task.action_count()));
+    }
+    task
+}
+
+/// With fewer than 64 moves, or one taken out, some value lacks a return.
+fn from_anywhere(random: &mut Random) -> Task {
+    let actions = random.within(60, 200);
+    let task = match random.below(2) {
+        0 => extremes::anywhere(random, actions),
+        _ => extremes::anywhere_apart(random, actions),
+    };
+    if random.chance(1, 4) {
+        return task.without(random.below(task.action_count()));
+    }
+    task
 }
 
 /// From a few steps to more than any list holds.

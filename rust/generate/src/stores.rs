@@ -2,7 +2,7 @@
 
 use crate::random::Random;
 use crate::records::cost;
-use reference::{Fact, Task, Variable};
+use reference::{entry, record, Fact, Task, Variable};
 
 /// Upper bounds of a drawn store.
 #[derive(Clone, Copy)]
@@ -22,7 +22,7 @@ const MAX_ACTIONS: usize = 1024;
 const MAX_FACTS: usize = 15;
 
 /// Effects and preconditions on one variable each, put together before the action is numbered.
-type Draft = (Vec<Fact>, Vec<Fact>);
+pub(crate) type Draft = (Vec<Fact>, Vec<Fact>);
 
 struct Drawing<'a> {
     random: &'a mut Random,
@@ -245,7 +245,11 @@ impl<'a> Drawing<'a> {
 }
 
 /// Numbers the drafts in random order, as many as a record holds.
-fn number(random: &mut Random, variables: Vec<Variable>, mut drafts: Vec<Draft>) -> Task {
+pub(crate) fn number(
+    random: &mut Random,
+    variables: Vec<Variable>,
+    mut drafts: Vec<Draft>,
+) -> Task {
     random.shuffle(&mut drafts);
     drafts.retain(|(preconditions, _)| preconditions.len() <= MAX_FACTS);
     drafts.truncate(MAX_ACTIONS);
@@ -265,6 +269,18 @@ fn kinds(random: &mut Random, bounds: Store) -> Vec<usize> {
     kinds.extend(vec![2; random.within(1, bounds.boxes)]);
     random.shuffle(&mut kinds);
     kinds
+}
+
+/// Stores as offices have them, each with a plan.
+pub fn office_store(random: &mut Random) -> Task {
+    let mut room = [0; 512];
+    loop {
+        let task = store(random, LARGE);
+        let answer = entry::plan(&record::write(&task), &mut room, &mut [0; 512]);
+        if answer.is_ok_and(|result| result.steps > 0) {
+            return task;
+        }
+    }
 }
 
 /// A store with one thing changed that may cost it its painting or its plan.

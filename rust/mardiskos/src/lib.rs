@@ -1,14 +1,21 @@
-//! Safe wrapper over the C boundary of the proved library. Every function takes slices.
-//!
-//! A code is 0, or 32 × place + number of document 01's table. After a refusal every other number
-//! of an answer is 0 and every truth value false.
+#![doc = include_str!("../README.md")]
 
-mod check;
-mod plan;
-mod runs;
-mod sheet;
+mod calls;
+pub mod lent;
+mod refusal;
 
-pub use check::check;
-pub use plan::{plan, repair, PlanResult};
-pub use runs::{forward, judge, relax, ForwardRun, Judgement, RelaxedPlan};
-pub use sheet::{read_sheet, write_sheet, Sheet, SheetSize};
+pub use calls::{check, forward, judge, read_sheet, relax, write_sheet};
+pub use calls::{plan, plan_within, repair, repair_within};
+pub use calls::{ForwardRun, Judgement, Plan, Run, Sheet};
+pub use refusal::{outcome, Reason, Refusal};
+
+/// The most steps that a plan, a list or a sheet has.
+pub const MAX_STEPS: usize = 32_768;
+/// The most variables of a record.
+pub const MAX_VARIABLES: usize = 64;
+/// The most actions of a record.
+pub const MAX_ACTIONS: usize = 1_024;
+/// The bytes of the longest record.
+pub const MAX_RECORD: usize = 49_315;
+/// The bytes of the longest sheet.
+pub const MAX_SHEET: usize = 40_967;

@@ -1,4 +1,4 @@
-//! Packed fields, most significant bit first.
+//! Packed fields (2.1).
 
 /// Reads fields of a byte slice by unaligned 64-bit loads.
 #[derive(Clone, Copy)]

@@ -1,23 +1,21 @@
-//! The entry points over a record: checks in the paper's order, and what lent lists hold afterwards.
+//! The entry points over a record: checks in order, and what lent lists hold afterwards
+//! (SPECIFICATION, When it declines; Space and verdict).
 
-use crate::forward::{forward_run, relaxed_plan};
-use crate::index::needing;
-use crate::painting::painting;
+use crate::forward::Forward;
+use crate::index::Numbers;
+use crate::judge::{real_run, Judge};
+use crate::painting::Painting;
 use crate::record;
 use crate::refusal::Refusal;
-use crate::repair::repaired;
-use crate::state::{run, Run, Semantics};
+use crate::repair::Repair;
+use crate::state::State;
 use crate::task::Task;
+use std::cell::RefCell;
+
+pub use crate::judge::Judgement;
 
 pub const MAX_STEPS: usize = 32_768;
 pub const NO_ENTRY: u16 = 65_535;
-
-#[derive(Clone, Copy, Debug, Default, PartialEq, Eq)]
-pub struct Judgement {
-    pub relaxed: Run,
-    pub red_black: Run,
-    pub real: Run,
-}
 
 #[derive(Clone, Copy, Debug, PartialEq, Eq)]
 pub struct ForwardResult {
@@ -29,43 +27,71 @@ pub struct ForwardResult {
 pub struct PlanResult {
     pub steps: u32,
     pub cost: u32,
-    /// The steps that run for real, from the front.
+    /// The steps that run for real, from the front (7.8).
     pub runs: u32,
     pub real: bool,
 }
 
+/// What calls work in.
+struct Room {
+    task: Task,
+    forward: Forward,
+    painting: Painting,
+    repair: Repair,
+    judge: Judge,
+}
+
+thread_local! {
+    static ROOM: RefCell<Room> = RefCell::new(Room {
+        task: Task::default(),
+        forward: Forward::new(),
+        painting: Painting::new(),
+        repair: Repair::new(),
+        judge: Judge::new(),
+    });
+}
+
+/// Reads the record and calls `then`, with the room whose task it is.
+fn with<T>(
+    record: &[u8],
+    then: impl FnOnce(&mut Room) -> Result<T, Refusal>,
+) -> Result<T, Refusal> {
+    ROOM.with_borrow_mut(|room| {
+        record::load(record, &mut room.task)?;
+        then(room)
+    })
+}
+
 pub fn judge(record: &[u8], list: &[u16]) -> Result<Judgement, Refusal> {
-    let task = record::read(record)?;
-    check_length(list)?;
-    check_entries(&task, list)?;
-    Ok(Judgement {
-        relaxed: run(&task, list, &Semantics::relaxed()),
-        red_black: run(&task, list, &Semantics::red_black(&task)),
-        real: run(&task, list, &Semantics::real()),
+    with(record, |Room { task, judge, .. }| {
+        check_length(list)?;
+        check_entries(task, list)?;
+        Ok(judge.run(task, list))
     })
 }
 
 pub fn forward(record: &[u8], plan: &mut [u16]) -> Result<ForwardResult, Refusal> {
-    let capacity = plan.len().min(MAX_STEPS);
-    let answer = record::read(record).and_then(|task| {
-        let run = forward_run(&task, &needing(&task))?;
-        fit(run.actions, capacity).map(|actions| (actions, run.reached))
+    let answer = with(record, |Room { task, forward, .. }| {
+        forward.run(task)?;
+        let steps = fit(&forward.actions, plan)?;
+        Ok(ForwardResult { steps, reached: forward.reached })
     });
-    let (steps, reached) = lend(plan, answer)?;
-    Ok(ForwardResult { steps, reached })
+    fill_rest(plan, answer.map_or(0, |result| result.steps));
+    answer
 }
 
-/// The relaxed plan; answers its steps.
+/// The relaxed plan (4.7); answers its steps.
 pub fn relax(record: &[u8], plan: &mut [u16]) -> Result<u32, Refusal> {
-    let capacity = plan.len().min(MAX_STEPS);
-    let answer = record::read(record).and_then(|task| {
-        let kept = relaxed_plan(&task, &forward_run(&task, &needing(&task))?);
-        fit(kept, capacity).map(|kept| (kept, ()))
+    let answer = with(record, |Room { task, forward, .. }| {
+        forward.run(task)?;
+        forward.keep_needed(task);
+        fit(&forward.actions, plan)
     });
-    lend(plan, answer).map(|(steps, ())| steps)
+    fill_rest(plan, answer.unwrap_or(0));
+    answer
 }
 
-/// Repairs the caller's relaxed plan.
+/// Repairs the caller's relaxed plan (6, 9.6).
 pub fn repair(
     record: &[u8],
     relaxed: &[u16],
@@ -73,27 +99,31 @@ pub fn repair(
     work: &mut [u16],
 ) -> Result<PlanResult, Refusal> {
     let capacity = plan.len().min(work.len()).min(MAX_STEPS);
-    let answer = record::read(record).and_then(|task| {
-        let painting = painting(&task)?;
+    let answer = with(record, |Room { task, painting, repair, .. }| {
+        painting.check(task)?;
         check_length(relaxed)?;
-        check_relaxed_plan(&task, relaxed)?;
-        let plan = repaired(&task, &needing(&task), &painting, relaxed, capacity)?;
-        Ok(verdict(&task, plan))
+        check_relaxed_plan(task, relaxed)?;
+        let steps = repair.run(task, painting, relaxed, &mut plan[..capacity])?;
+        Ok(verdict(task, painting.black, &plan[..steps]))
     });
-    lend_both(plan, work, answer)
+    fill_rest(plan, answer.map_or(0, |result| result.steps));
+    work.fill(NO_ENTRY);
+    answer
 }
 
-/// From a record to a repaired plan.
+/// The planner: from a record to a repaired plan.
 pub fn plan(record: &[u8], plan: &mut [u16], work: &mut [u16]) -> Result<PlanResult, Refusal> {
     let capacity = plan.len().min(work.len()).min(MAX_STEPS);
-    let answer = record::read(record).and_then(|task| {
-        let painting = painting(&task)?;
-        let needing = needing(&task);
-        let relaxed = relaxed_plan(&task, &forward_run(&task, &needing)?);
-        let plan = repaired(&task, &needing, &painting, &relaxed, capacity)?;
-        Ok(verdict(&task, plan))
+    let answer = with(record, |Room { task, forward, painting, repair, .. }| {
+        painting.check(task)?;
+        forward.run(task)?;
+        forward.keep_needed(task);
+        let steps = repair.run(task, painting, &forward.actions, &mut plan[..capacity])?;
+        Ok(verdict(task, painting.black, &plan[..steps]))
     });
-    lend_both(plan, work, answer)
+    fill_rest(plan, answer.map_or(0, |result| result.steps));
+    work.fill(NO_ENTRY);
+    answer
 }
 
 fn check_length(list: &[u16]) -> Result<(), Refusal> {
@@ -104,52 +134,51 @@ fn check_length(list: &[u16]) -> Result<(), Refusal> {
 }
 
 fn check_entries(task: &Task, list: &[u16]) -> Result<(), Refusal> {
-    let outside = |&number: &u16| usize::from(number) >= task.action_count();
-    match list.iter().position(outside) {
-        Some(entry) => Err(Refusal::new(9, entry)),
-        None => Ok(()),
-    }
-}
-
-/// 9 at the lowest entry that is not below A or does not apply, or at the end for a goal missed.
-fn check_relaxed_plan(task: &Task, list: &[u16]) -> Result<(), Refusal> {
-    let within = |&&number: &&u16| usize::from(number) < task.action_count();
-    let known = list.iter().take_while(within).count();
-    let run = run(task, &list[..known], &Semantics::relaxed());
-    if run.steps as usize == list.len() && run.plan {
+    let outside = |number: u16| usize::from(number) >= task.action_count();
+    if list.is_empty() || !outside(list.iter().fold(0, |most, &number| number.max(most))) {
         return Ok(());
     }
-    Err(Refusal::new(9, run.steps as usize))
+    let entry = list.iter().position(|&number| outside(number)).unwrap();
+    Err(Refusal::new(9, entry))
 }
 
-fn fit(plan: Vec<u16>, capacity: usize) -> Result<Vec<u16>, Refusal> {
-    if plan.len() > capacity {
-        return Err(Refusal::new(11, capacity));
+/// 9.6: 9 at the lowest entry that is not below A or does not apply, or at the end for a goal missed.
+fn check_relaxed_plan(task: &Task, list: &[u16]) -> Result<(), Refusal> {
+    let mut held = State::initial(task);
+    let mut applied = Numbers::default();
+    for (entry, &number) in list.iter().enumerate() {
+        let number = usize::from(number);
+        if number >= task.action_count() {
+            return Err(Refusal::new(9, entry));
+        }
+        if applied.insert(number) {
+            if !held.holds_all(task.preconditions(number)) {
+                return Err(Refusal::new(9, entry));
+            }
+            task.effects(number).iter().for_each(|&fact| held.add(fact));
+        }
     }
-    Ok(plan)
+    if held.meets_goals(task) {
+        Ok(())
+    } else {
+        Err(Refusal::new(9, list.len()))
+    }
 }
 
-fn verdict(task: &Task, plan: Vec<u16>) -> (Vec<u16>, PlanResult) {
-    let real = run(task, &plan, &Semantics::real());
-    let cost = plan.iter().map(|&number| u32::from(task.action(number as usize).cost)).sum();
-    let steps = plan.len() as u32;
-    (plan, PlanResult { steps, cost, runs: real.steps, real: real.plan })
+/// Copies a list into what is lent; answers its steps.
+fn fit(list: &[u16], plan: &mut [u16]) -> Result<u32, Refusal> {
+    let capacity = plan.len().min(MAX_STEPS);
+    let room = plan[..capacity].get_mut(..list.len()).ok_or(Refusal::new(11, capacity))?;
+    room.copy_from_slice(list);
+    Ok(list.len() as u32)
 }
 
-/// After success the plan fills the front and 65,535 the rest; after a refusal 65,535 everything.
-fn lend<T>(list: &mut [u16], answer: Result<(Vec<u16>, T), Refusal>) -> Result<(u32, T), Refusal> {
-    let plan = answer.as_ref().map_or(&[][..], |(plan, _)| plan);
-    let (front, rest) = list.split_at_mut(plan.len());
-    front.copy_from_slice(plan);
-    rest.fill(NO_ENTRY);
-    answer.map(|(plan, result)| (plan.len() as u32, result))
+fn verdict(task: &Task, black: u64, plan: &[u16]) -> PlanResult {
+    let (real, cost) = real_run(task, plan, black);
+    PlanResult { steps: plan.len() as u32, cost, runs: real.steps, real: real.plan }
 }
 
-fn lend_both(
-    plan: &mut [u16],
-    work: &mut [u16],
-    answer: Result<(Vec<u16>, PlanResult), Refusal>,
-) -> Result<PlanResult, Refusal> {
-    work.fill(NO_ENTRY);
-    lend(plan, answer).map(|(_, result)| result)
+/// 7.4 and 7.5: after success 65,535 stands behind the plan; after a refusal everywhere.
+fn fill_rest(list: &mut [u16], steps: u32) {
+    list[steps as usize..].fill(NO_ENTRY);
 }

@@ -1,4 +1,4 @@
-//! The store examples of document 01.
+//! The examples of clause 12.
 
 use crate::task::{Fact, Task, Variable};
 
@@ -25,7 +25,7 @@ pub fn two_shelves() -> Task {
     task
 }
 
-/// A drive that also sets a red lamp to 1; its return needs the lamp at `lamp`.
+/// A drive with a red lamp: forth sets it to 1, back needs it at `lamp`.
 pub fn lamp(lamp: usize) -> Task {
     let mover = variable(2, true, 0, None);
     let mut task = Task::new(vec![mover, variable(3, false, 0, None)]);
@@ -56,6 +56,38 @@ pub fn tray() -> Task {
     task
 }
 
+/// A carriage, variable 1, that moves only while the door, variable 0, is open; a box fetched with
+/// the door shut.
+pub fn door() -> Task {
+    let mover = variable(2, true, 0, Some(0));
+    let mut task = Task::new(vec![mover, mover, variable(2, false, 0, Some(1))]);
+    push(&mut task, 1, &[(0, 0)], &[(0, 1)]);
+    push(&mut task, 1, &[(0, 1)], &[(0, 0)]);
+    push(&mut task, 4, &[(0, 1), (1, 0)], &[(1, 1)]);
+    push(&mut task, 4, &[(0, 1), (1, 1)], &[(1, 0)]);
+    push(&mut task, 2, &[(0, 0), (1, 1), (2, 0)], &[(2, 1)]);
+    task
+}
+
+/// Driving back lights a lamp, and a way out needs it.
+pub fn lit_return() -> Task {
+    let (mover, lamp) = (variable(2, true, 0, Some(1)), variable(2, false, 0, None));
+    let mut task = Task::new(vec![mover, lamp, variable(3, false, 0, Some(2))]);
+    push(&mut task, 1, &[(0, 0), (1, 1)], &[(0, 1)]);
+    push(&mut task, 4, &[(0, 0)], &[(0, 1)]);
+    push(&mut task, 4, &[(0, 1)], &[(0, 0), (1, 1)]);
+    push(&mut task, 2, &[(0, 1), (2, 0)], &[(2, 1)]);
+    push(&mut task, 2, &[(0, 0), (2, 1)], &[(2, 2)]);
+    task
+}
+
+/// One action with two effects on one variable, which no record may have.
+pub fn repeated_variable() -> Task {
+    let mut task = Task::new(vec![variable(2, false, 0, None)]);
+    push(&mut task, 1, &[], &[(0, 0), (0, 1)]);
+    task
+}
+
 /// A record with the given counts of variables and actions, 64 values a variable and `facts`
 /// preconditions and effects an action, none black.
 pub fn sized(variables: usize, actions: usize, facts: usize) -> Task {
@@ -81,6 +113,9 @@ pub fn files() -> Vec<(&'static str, Vec<u8>)> {
         ("two-black-effects", two_black_effects()),
         ("goal-met", goal_met()),
         ("tray", tray()),
+        ("door", door()),
+        ("lit-return", lit_return()),
+        ("repeated-variable", repeated_variable()),
         ("variables-64", sized(64, 0, 0)),
         ("variables-65", sized(65, 0, 0)),
         ("actions-1024", sized(2, 1024, 1)),

@@ -1,99 +1,115 @@
-//! The forward run and the relaxed plan.
+//! The forward run and the relaxed plan (SPECIFICATION, States and runs).
 
-use crate::index::{Groups, Ready, Waiting};
+use crate::index::{Ready, Waiting};
 use crate::refusal::Refusal;
+use crate::set::members;
 use crate::state::State;
 use crate::task::{Fact, Task};
 
-const NO_ACTION: u16 = 65_535;
-
-/// A forward run that reached every goal.
-pub struct ForwardRun {
+/// The forward run, and room for the next one.
+pub struct Forward {
     pub actions: Vec<u16>,
     pub reached: u32,
-    /// The action that first reached each fact.
-    achiever: Vec<u16>,
-}
-
-/// The forward run, or 10 with the facts reached.
-pub fn forward_run(task: &Task, needing: &Groups) -> Result<ForwardRun, Refusal> {
-    let mut forward = Forward::new(task, needing);
-    while forward.goals_left > 0 {
-        let Some(number) = forward.ready.take_lowest() else {
-            return Err(Refusal::new(10, forward.run.reached as usize));
-        };
-        forward.take(number);
-    }
-    Ok(forward.run)
-}
-
-struct Forward<'a> {
-    task: &'a Task,
+    /// For each action of the run the effects that it reached first, by their places.
+    first: Vec<u16>,
+    waiting: Waiting,
     held: State,
-    waiting: Waiting<'a>,
+    needed: State,
+}
+
+/// What a forward run knows while it goes on.
+struct Course<'a> {
+    task: &'a Task,
     /// Applicable actions not looked at yet. One that adds nothing now never will.
     ready: Ready,
-    goals_left: usize,
-    run: ForwardRun,
+    /// The goal of each variable; 64 for none.
+    goals: [u8; 64],
+    goals_left: u32,
 }
 
-impl<'a> Forward<'a> {
-    fn new(task: &'a Task, needing: &'a Groups) -> Self {
-        let achiever = vec![NO_ACTION; 64 * task.variables.len()];
-        let mut forward = Forward {
-            task,
+impl Forward {
+    pub fn new() -> Self {
+        Forward {
+            actions: Vec::new(),
+            reached: 0,
+            first: Vec::new(),
+            waiting: Waiting::new(),
             held: State::empty(),
-            waiting: Waiting::new(task, needing),
-            ready: Ready::default(),
-            goals_left: task.goals().count(),
-            run: ForwardRun { actions: Vec::new(), reached: 0, achiever },
-        };
-        for number in forward.waiting.free() {
-            forward.ready.insert(number);
+            needed: State::empty(),
         }
-        for (v, variable) in task.variables.iter().enumerate() {
-            forward.reach(Fact::new(v, variable.initial as usize));
+    }
+
+    /// Runs until every goal is reached, or 10 with the facts reached.
+    pub fn run(&mut self, task: &Task) -> Result<(), Refusal> {
+        let mut course = self.start(task);
+        while course.goals_left > 0 {
+            let Some(number) = course.ready.take_lowest() else {
+                return Err(Refusal::new(10, self.reached as usize));
+            };
+            self.take(&mut course, number);
         }
-        forward
+        Ok(())
+    }
+
+    fn start<'a>(&mut self, task: &'a Task) -> Course<'a> {
+        self.actions.clear();
+        self.first.clear();
+        self.waiting.clear(task);
+        self.reached = task.variables.len() as u32;
+        self.held.start(task);
+        let mut goals = [64; 64];
+        task.goals().for_each(|goal| goals[goal.variable()] = goal.value() as u8);
+        let goals_left = task.goals().filter(|&goal| !self.held.holds(goal)).count() as u32;
+        let mut ready = Ready::default();
+        if goals_left > 0 {
+            for number in 0..task.action_count() {
+                if self.waiting.start(task, &self.held, number) {
+                    ready.insert(number);
+                }
+            }
+        }
+        Course { task, ready, goals, goals_left }
     }
 
     #[inline(always)]
-    fn reach(&mut self, fact: Fact) {
-        self.held.add(fact);
-        self.run.reached += 1;
-        let goal = self.task.variables[fact.variable()].goal;
-        self.goals_left -= usize::from(goal == Some(fact.value() as u8));
-        let ready = &mut self.ready;
-        self.waiting.meet(fact, |number| ready.insert(number));
+    fn take(&mut self, course: &mut Course, number: usize) {
+        let mut reached = [Fact::default(); 16];
+        let (mut count, mut first) = (0, 0);
+        for (place, &fact) in course.task.effects(number).iter().enumerate() {
+            let new = !self.held.holds(fact);
+            self.held.add(fact);
+            reached[count % 16] = fact;
+            count += usize::from(new);
+            first |= u16::from(new) << place;
+        }
+        if count == 0 {
+            return;
+        }
+        self.actions.push(number as u16);
+        self.first.push(first);
+        self.reached += count as u32;
+        let Course { task, ready, goals, goals_left } = course;
+        for &fact in &reached[..count] {
+            *goals_left -= u32::from(goals[fact.variable()] as usize == fact.value());
+            self.waiting.wake(task, &self.held, fact, |number| ready.insert(number));
+        }
     }
 
-    fn take(&mut self, number: usize) {
-        let reached = self.run.reached;
-        for &fact in self.task.action(number).effects {
-            if !self.held.holds(fact) {
-                self.run.achiever[fact.index()] = number as u16;
-                self.reach(fact);
+    /// Leaves the actions of the run that first reached a needed fact, in their order.
+    pub fn keep_needed(&mut self, task: &Task) {
+        let needed = &mut self.needed;
+        needed.clear_all(task);
+        task.goals().for_each(|goal| needed.add(goal));
+        let mut free = self.actions.len();
+        for at in (0..self.actions.len()).rev() {
+            let action = task.action(self.actions[at] as usize);
+            let first = self.first[at];
+            if members(first.into()).any(|place| needed.holds(action.effects[place])) {
+                action.preconditions.iter().for_each(|&fact| needed.add(fact));
+                free -= 1;
+                self.actions[free] = self.actions[at];
             }
         }
-        if self.run.reached > reached {
-            self.run.actions.push(number as u16);
-        }
+        self.actions.drain(..free);
     }
-}
-
-/// The actions of the forward run that first reached a needed fact, in their order.
-pub fn relaxed_plan(task: &Task, run: &ForwardRun) -> Vec<u16> {
-    let mut needed = State::empty();
-    task.goals().for_each(|goal| needed.add(goal));
-    let mut kept = Vec::new();
-    for &number in run.actions.iter().rev() {
-        let action = task.action(number as usize);
-        let first = |fact: &Fact| run.achiever[fact.index()] == number && needed.holds(*fact);
-        if action.effects.iter().any(first) {
-            action.preconditions.iter().for_each(|&fact| needed.add(fact));
-            kept.push(number);
-        }
-    }
-    kept.reverse();
-    kept
 }

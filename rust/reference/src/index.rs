@@ -1,77 +1,140 @@
-//! Actions found by fact and by number, so that none is looked at twice.
+//! Actions found by fact and by number.
 
-use crate::task::{Fact, Task};
+use crate::room::{table, Table};
+use crate::state::State;
+use crate::task::{Fact, Task, FACTS};
 
-const NONE: u16 = 65_535;
+pub const ACTIONS: usize = 1024;
+pub const NONE: u16 = 65_535;
 
-/// Action numbers grouped by fact, as chains.
-pub struct Groups {
-    head: Vec<u16>,
-    /// A number, and the place of the next one of its group.
-    links: Vec<(u16, u16)>,
+/// Action numbers grouped by fact, as chains; each number stands in one group at most.
+pub struct Chains {
+    head: Table<u16, FACTS>,
+    next: Table<u16, ACTIONS>,
 }
 
-impl Groups {
-    pub fn new(task: &Task, size: usize) -> Self {
-        Groups { head: vec![NONE; 64 * task.variables.len()], links: Vec::with_capacity(size) }
+impl Chains {
+    pub fn new() -> Self {
+        Chains { head: table(NONE), next: table(NONE) }
+    }
+
+    /// Empties the groups of a variable.
+    #[inline(always)]
+    pub fn clear(&mut self, variable: usize, values: usize) {
+        let first = Fact::new(variable, 0).index();
+        self.head[first..first + values].fill(NONE);
+    }
+
+    pub fn clear_all(&mut self, task: &Task) {
+        self.head[..64 * task.variables.len()].fill(NONE);
     }
 
     #[inline(always)]
     pub fn insert(&mut self, fact: Fact, number: usize) {
-        let place = self.links.len() as u16;
         let head = &mut self.head[fact.index()];
-        self.links.push((number as u16, *head));
-        *head = place;
+        self.next[number % ACTIONS] = *head;
+        *head = number as u16;
+    }
+
+    /// Takes a group out; the chain is followed by `after`.
+    #[inline(always)]
+    fn take(&mut self, fact: Fact) -> u16 {
+        std::mem::replace(&mut self.head[fact.index()], NONE)
+    }
+
+    #[inline(always)]
+    fn after(&self, number: u16) -> u16 {
+        self.next[number as usize % ACTIONS]
     }
 
     /// The numbers of a group, the last inserted first.
     #[inline(always)]
     pub fn of(&self, fact: Fact) -> impl Iterator<Item = usize> + '_ {
-        let mut place = self.head[fact.index()];
+        let mut at = self.head[fact.index()];
         std::iter::from_fn(move || {
-            let &(number, next) = self.links.get(place as usize)?;
-            place = next;
-            Some(number as usize)
+            let number = at;
+            at = self.next[number as usize % ACTIONS];
+            (number != NONE).then_some(number as usize)
         })
     }
 }
 
-/// The actions that need each fact.
-pub fn needing(task: &Task) -> Groups {
-    let mut groups = Groups::new(task, task.fact_count());
-    for (number, action) in task.actions().enumerate() {
-        action.preconditions.iter().for_each(|&fact| groups.insert(fact, number));
-    }
-    groups
+/// Actions that wait, each for its first precondition not held; the place of that is remembered.
+pub struct Waiting {
+    chains: Chains,
+    place: Table<u8, ACTIONS>,
 }
 
-/// For each action the count of its preconditions not yet met.
-pub struct Waiting<'a> {
-    needing: &'a Groups,
-    unmet: Vec<u8>,
-}
-
-impl<'a> Waiting<'a> {
-    pub fn new(task: &Task, needing: &'a Groups) -> Self {
-        let unmet = task.actions().map(|action| action.preconditions.len() as u8).collect();
-        Waiting { needing, unmet }
+impl Waiting {
+    pub fn new() -> Self {
+        Waiting { chains: Chains::new(), place: table(0) }
     }
 
-    /// The actions without preconditions.
-    pub fn free(&self) -> impl Iterator<Item = usize> + '_ {
-        (0..self.unmet.len()).filter(|&number| self.unmet[number] == 0)
+    pub fn clear(&mut self, task: &Task) {
+        self.chains.clear_all(task);
     }
 
-    /// Hands on each action whose last unmet precondition is this fact. Called once a fact.
+    /// Whether all preconditions are held; if not, the action waits.
     #[inline(always)]
-    pub fn meet(&mut self, fact: Fact, mut applicable: impl FnMut(usize)) {
-        for number in self.needing.of(fact) {
-            let unmet = &mut self.unmet[number];
-            *unmet -= 1;
-            if *unmet == 0 {
-                applicable(number);
+    pub fn start(&mut self, task: &Task, held: &State, number: usize) -> bool {
+        self.place[number % ACTIONS] = 0;
+        self.advance(task, held, number)
+    }
+
+    #[inline(always)]
+    fn advance(&mut self, task: &Task, held: &State, number: usize) -> bool {
+        let preconditions = task.preconditions(number);
+        let mut place = self.place[number % ACTIONS];
+        while let Some(&fact) = preconditions.get(place as usize) {
+            if !held.holds(fact) {
+                self.place[number % ACTIONS] = place;
+                self.chains.insert(fact, number);
+                return false;
             }
+            place += 1;
         }
+        true
+    }
+
+    /// Hands on each action that waited for this fact, now held, and has all it needs.
+    #[inline(always)]
+    pub fn wake(
+        &mut self,
+        task: &Task,
+        held: &State,
+        fact: Fact,
+        mut applicable: impl FnMut(usize),
+    ) {
+        let mut number = self.chains.take(fact);
+        while number != NONE {
+            let next = self.chains.after(number);
+            if self.advance(task, held, number as usize) {
+                applicable(number as usize);
+            }
+            number = next;
+        }
+    }
+}
+
+/// A set of action numbers.
+#[derive(Clone, Default)]
+pub struct Numbers {
+    words: [u64; 16],
+}
+
+impl Numbers {
+    /// Whether the number was not in the set; it is then.
+    #[inline(always)]
+    pub fn insert(&mut self, number: usize) -> bool {
+        let word = &mut self.words[number / 64 % 16];
+        let before = *word;
+        *word |= 1 << (number % 64);
+        *word != before
+    }
+
+    #[inline(always)]
+    pub fn contains(&self, number: usize) -> bool {
+        self.words[number / 64 % 16] >> (number % 64) & 1 == 1
     }
 }
 

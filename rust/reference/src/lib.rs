@@ -1,21 +1,28 @@
-//! Independent planner, written from document 01 alone and for speed.
+//! Independent planner, written from docs/SPECIFICATION.md alone and for speed. Numbers like 6.7 are its
+//! clauses.
 //!
-//! Data goes one way: bytes to a task (`record`), a task to runs (`state`, `forward`), a forward run
+//! Data goes one way: bytes to a task (`record`), a task to runs (`forward`, `judge`), a forward run
 //! to a relaxed plan, and that to a repaired plan (`painting`, `paths`, `repair`). `entry` holds the
-//! entry points with their checks in the paper's order and what every lent entry holds afterwards.
-//! `search` goes through all red-black states of small tasks.
+//! entry points with their checks in order and what every lent entry holds afterwards. `state` has
+//! runs as they are worded, for tests; `search` goes through all red-black states of small tasks.
+//! Calls of a thread work in one room, of which each clears what it uses (`room`).
 
 pub mod bits;
 pub mod entry;
 pub mod examples;
-pub mod forward;
-pub mod index;
+mod forward;
+mod image;
+mod index;
+mod judge;
 pub mod listing;
 pub mod painting;
-pub mod paths;
+mod paths;
 pub mod record;
 pub mod refusal;
-pub mod repair;
+mod repair;
+mod returns;
+mod room;
+mod rows;
 pub mod search;
 mod set;
 pub mod sheet;

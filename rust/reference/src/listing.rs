@@ -1,4 +1,4 @@
-//! What the listing program prints for a record.
+//! What the listing program prints for a record (10).
 
 use crate::entry;
 use crate::refusal::Refusal;

@@ -1,63 +1,75 @@
-//! Paintings that are accepted: an acyclic black causal graph, and a return for every arc.
+//! Paintings that are accepted: an acyclic black causal graph, and a return for every arc
+//! (SPECIFICATION, Paintings that are accepted).
 
-use crate::index::Groups;
+use crate::index::ACTIONS;
 use crate::refusal::Refusal;
+use crate::returns::Returns;
+use crate::room::{table, Table};
 use crate::set::{contains, members};
-use crate::state::State;
 use crate::task::{variables_of, Action, Fact, Task};
 
-/// What an accepted painting gives to the repair.
+/// What an accepted painting gives to the repair, and room for the next one.
 pub struct Painting {
-    /// The black variables in the order of the repair, clients first.
-    pub order: Vec<usize>,
     /// The black variables as a set.
     pub black: u64,
-    /// The move of each action.
-    pub moves: Vec<Option<Move>>,
+    /// The black variables in the order of the repair, clients first.
+    pub order: Vec<usize>,
+    /// The move of each action, where something is black.
+    pub moves: Table<Option<Move>, ACTIONS>,
+    returns: Returns,
 }
 
 /// Checks 7 and 8.
 pub fn painting(task: &Task) -> Result<Painting, Refusal> {
-    let black = black_variables(task);
-    let order = repair_order(black, &black_arcs(task, black))?;
-    let moves: Vec<_> = task.actions().map(|action| Move::of(action, black)).collect();
-    check_returns(task, &moves)?;
-    Ok(Painting { order, black, moves })
+    let mut painting = Painting::new();
+    painting.check(task)?;
+    Ok(painting)
 }
 
-fn black_variables(task: &Task) -> u64 {
-    let numbered = task.variables.iter().enumerate();
-    numbered.fold(0, |set, (v, variable)| set | u64::from(variable.black) << v)
-}
-
-/// For each black variable the black ones to which it has an arc.
-fn black_arcs(task: &Task, black: u64) -> [u64; 64] {
-    let mut arcs = [0; 64];
-    for action in task.actions() {
-        let affected = variables_of(action.effects) & black;
-        if affected == 0 {
-            continue;
-        }
-        let named = (variables_of(action.preconditions) & black) | affected;
-        for u in members(named) {
-            arcs[u] |= affected & !(1 << u);
-        }
+impl Painting {
+    pub fn new() -> Self {
+        Painting { black: 0, order: Vec::new(), moves: table(None), returns: Returns::new() }
     }
-    arcs
-}
 
-/// Clients first: of those untaken, the lowest with no arc to another untaken one; 7 if there is none.
-fn repair_order(black: u64, arcs: &[u64; 64]) -> Result<Vec<usize>, Refusal> {
-    let mut untaken = black;
-    let mut order = Vec::with_capacity(black.count_ones() as usize);
-    while untaken != 0 {
-        let Some(v) = members(untaken).find(|&v| arcs[v] & untaken == 0) else {
-            return Err(Refusal::new(7, lowest_on_cycle(black, arcs)));
-        };
-        untaken &= !(1 << v);
-        order.push(v);
+    /// Checks 7 and 8.
+    pub fn check(&mut self, task: &Task) -> Result<(), Refusal> {
+        self.black = task.black();
+        self.order.clear();
+        if self.black == 0 {
+            return Ok(());
+        }
+        let arcs = self.find_moves(task);
+        self.find_order(&arcs)?;
+        self.returns.check(task, self.black, &self.moves)
     }
-    Ok(order)
+
+    /// The moves; answers for each black variable the black ones to which it has an arc.
+    fn find_moves(&mut self, task: &Task) -> [u64; 64] {
+        let mut arcs = [0; 64];
+        for (number, action) in task.actions().enumerate() {
+            let affected = variables_of(action.effects) & self.black;
+            self.moves[number % ACTIONS] = Move::of(action, affected);
+            if affected != 0 {
+                let needed = variables_of(action.preconditions) & self.black;
+                members(needed | affected).for_each(|u| arcs[u] |= affected & !(1 << u));
+            }
+        }
+        arcs
+    }
+
+    /// Clients first: of those untaken, the lowest with no arc to another untaken one; 7 if there
+    /// is none.
+    fn find_order(&mut self, arcs: &[u64; 64]) -> Result<(), Refusal> {
+        let mut untaken = self.black;
+        while untaken != 0 {
+            let Some(v) = members(untaken).find(|&v| arcs[v] & untaken == 0) else {
+                return Err(Refusal::new(7, lowest_on_cycle(self.black, arcs)));
+            };
+            untaken &= !(1 << v);
+            self.order.push(v);
+        }
+        Ok(())
+    }
 }
 
 fn lowest_on_cycle(black: u64, arcs: &[u64; 64]) -> usize {
@@ -72,85 +84,51 @@ fn lowest_on_cycle(black: u64, arcs: &[u64; 64]) -> usize {
     members(black).find(|&v| contains(reach[v], v)).unwrap()
 }
 
-/// An action's move of its black variable; no precondition on it stands for every value.
-#[derive(Clone, Copy)]
+/// An action's move of its black variable.
+#[derive(Clone, Copy, Debug)]
 pub struct Move {
     pub variable: u8,
-    pub from: Option<u8>,
+    /// The value left, or `ANYWHERE`.
+    pub from: u8,
     pub to: u8,
 }
 
+/// Stands for no precondition on the moved variable.
+pub const ANYWHERE: u8 = 64;
+
 impl Move {
-    /// The move of an action, which affects at most one black variable.
+    /// The move of an action, by the black variables that it affects.
     #[inline(always)]
-    pub fn of(action: Action, black: u64) -> Option<Move> {
-        let affected = |fact: &&Fact| contains(black, fact.variable());
-        let effect = action.effects.iter().find(affected)?;
-        let own = |fact: &&Fact| fact.variable() == effect.variable();
-        let from = action.preconditions.iter().find(own).map(|fact| fact.value() as u8);
-        Some(Move { variable: effect.variable() as u8, from, to: effect.value() as u8 })
-    }
-
-    /// A fact of the moved variable.
-    #[inline(always)]
-    fn fact(self, value: u8) -> Fact {
-        Fact::new(self.variable as usize, value as usize)
-    }
-
-    #[inline(always)]
-    fn leaves(self, value: u8) -> bool {
-        self.from.is_none_or(|from| from == value)
-    }
-}
-
-/// 8 at the lowest action with an arc that lacks its return.
-fn check_returns(task: &Task, moves: &[Option<Move>]) -> Result<(), Refusal> {
-    let setting = grouped_by_effect(task, moves);
-    let mut union = State::empty();
-    for (number, moved) in moves.iter().enumerate() {
-        let Some(moved) = *moved else { continue };
-        let action = task.action(number);
-        let facts = || action.preconditions.iter().chain(action.effects);
-        facts().for_each(|&fact| union.add(fact));
-        union.fill(moved.variable as usize);
-        if !returns(task, moves, &setting, moved, &union) {
-            return Err(Refusal::new(8, number));
+    fn of(action: Action, affected: u64) -> Option<Move> {
+        if affected == 0 {
+            return None;
         }
-        facts().for_each(|&fact| union.clear(fact.variable()));
+        let variable = affected.trailing_zeros() as usize;
+        let value = |facts: &[Fact]| {
+            let own = facts.iter().find(|fact| fact.variable() == variable);
+            own.map_or(ANYWHERE, |fact| fact.value() as u8)
+        };
+        let (from, to) = (value(action.preconditions), value(action.effects));
+        Some(Move { variable: variable as u8, from, to })
     }
-    Ok(())
-}
 
-fn grouped_by_effect(task: &Task, moves: &[Option<Move>]) -> Groups {
-    let mut setting = Groups::new(task, moves.len());
-    for (number, moved) in moves.iter().enumerate() {
-        if let Some(moved) = moved {
-            setting.insert(moved.fact(moved.to), number);
-        }
+    /// The fact that it sets.
+    #[inline(always)]
+    pub fn target(self) -> Fact {
+        Fact::new(self.variable as usize, self.to as usize)
     }
-    setting
-}
 
-/// Whether each arc of a move has its return; `union` holds the move's outside condition and effect,
-/// and all values of the moved variable, so that the return's condition on that one counts as met.
-fn returns(
-    task: &Task,
-    moves: &[Option<Move>],
-    setting: &Groups,
-    moved: Move,
-    union: &State,
-) -> bool {
-    let sources = match moved.from {
-        Some(from) => from..from + 1,
-        None => 0..task.variables[moved.variable as usize].values,
-    };
-    let mut arcs = sources.filter(|&from| from != moved.to);
-    arcs.all(|from| {
-        setting.of(moved.fact(from)).any(|number| {
-            let back = moves[number].unwrap();
-            back.leaves(moved.to) && union.holds_all(task.action(number).preconditions)
-        })
-    })
+    #[inline(always)]
+    pub fn leaves(self, value: u8) -> bool {
+        self.from == value || self.from == ANYWHERE
+    }
+
+    /// The values it leaves for another one, of so many, as a set.
+    #[inline(always)]
+    pub fn sources(self, values: u8) -> u64 {
+        let all = if self.from == ANYWHERE { !0 >> (64 - values) } else { 1 << self.from };
+        all & !(1 << self.to)
+    }
 }
 
 #[cfg(test)]

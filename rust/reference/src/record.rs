@@ -1,8 +1,8 @@
-//! The record: checked, read and written.
+//! The record: checked, read and written (SPECIFICATION, The record).
 
 use crate::bits::{BitWriter, Bits};
 use crate::refusal::Refusal;
-use crate::task::{Action, Fact, Task, Variable, FACTS};
+use crate::task::{Action, Fact, Loader, Task, Variable, FACTS};
 
 pub const MAX_VARIABLES: usize = 64;
 pub const MAX_ACTIONS: usize = 1024;
@@ -19,8 +19,17 @@ pub fn check(bytes: &[u8]) -> Result<(), Refusal> {
 
 pub fn read(bytes: &[u8]) -> Result<Task, Refusal> {
     let mut task = Task::default();
-    scan(bytes, &mut task)?;
+    load(bytes, &mut task)?;
     Ok(task)
+}
+
+/// Reads a record into a task that may hold another one, in one pass with the check. After a
+/// refusal the task means nothing.
+pub fn load(bytes: &[u8], task: &mut Task) -> Result<(), Refusal> {
+    let mut loader = Loader::new(task);
+    scan(bytes, &mut loader)?;
+    loader.finish();
+    Ok(())
 }
 
 /// Packs a task; what does not fit its field is cut, so that faulty records can be written too.
@@ -58,37 +67,43 @@ fn write_action(out: &mut BitWriter, action: Action) {
 
 /// Takes the fields of a record as they are read.
 trait Sink {
-    fn header(&mut self, variables: usize, actions: usize, most_facts: usize);
+    fn reserve(&mut self, actions: usize, most_facts: usize);
     fn variable(&mut self, variable: Variable);
     fn action(&mut self, cost: u16, preconditions: usize, effects: usize);
-    fn facts(&mut self, facts: &[Fact]);
+    fn fact(&mut self, fact: Fact);
+    fn facts(&mut self, four: [Fact; 4]);
 }
 
 impl Sink for () {
-    fn header(&mut self, _: usize, _: usize, _: usize) {}
+    fn reserve(&mut self, _: usize, _: usize) {}
     fn variable(&mut self, _: Variable) {}
     fn action(&mut self, _: u16, _: usize, _: usize) {}
-    fn facts(&mut self, _: &[Fact]) {}
+    fn fact(&mut self, _: Fact) {}
+    fn facts(&mut self, _: [Fact; 4]) {}
 }
 
-impl Sink for Task {
-    fn header(&mut self, variables: usize, actions: usize, most_facts: usize) {
-        self.variables.reserve(variables);
-        self.reserve_actions(actions, most_facts);
+impl Sink for Loader<'_> {
+    fn reserve(&mut self, actions: usize, most_facts: usize) {
+        Loader::reserve(self, actions, most_facts);
     }
 
     fn variable(&mut self, variable: Variable) {
-        self.variables.push(variable);
+        Loader::variable(self, variable);
     }
 
     #[inline(always)]
     fn action(&mut self, cost: u16, preconditions: usize, effects: usize) {
-        self.open_action(cost, preconditions, effects);
+        Loader::action(self, cost, preconditions, effects);
     }
 
     #[inline(always)]
-    fn facts(&mut self, facts: &[Fact]) {
-        self.push_facts(facts);
+    fn fact(&mut self, fact: Fact) {
+        Loader::fact(self, fact);
+    }
+
+    #[inline(always)]
+    fn facts(&mut self, four: [Fact; 4]) {
+        Loader::facts(self, four);
     }
 }
 
@@ -143,29 +158,46 @@ impl<'a, S: Sink> Scanner<'a, S> {
         refuse_unless(actions <= MAX_ACTIONS, 3, 11)?;
         debug_assert_eq!(self.at, HEADER_BITS);
         let most_facts = (self.end / FACT_BITS).min(30 * actions);
-        self.sink.header(variables, actions, most_facts);
+        self.sink.reserve(actions, most_facts);
         Ok((variables, actions))
     }
 
     fn variable(&mut self, number: usize) -> Result<(), Refusal> {
         let first = self.at;
-        let values = self.field(6)? + 1;
-        let black = self.field(1)? == 1;
-        let initial = self.field(6)?;
+        if first + VARIABLE_BITS > self.end {
+            return Err(self.cut_variable());
+        }
+        let field = self.bits.field(first, VARIABLE_BITS);
+        let (values, black, initial) = ((field >> 14) + 1, field >> 13 & 1, field >> 7 & 63);
+        let (present, goal) = (field >> 6 & 1 == 1, field & 63);
         refuse_unless(initial < values, 4, first + 7)?;
-        let present = self.field(1)? == 1;
-        let goal = self.field(6)?;
         let limit = if present { values } else { 1 };
         refuse_unless(goal < limit, 4, first + 14)?;
-        debug_assert_eq!(self.at, first + VARIABLE_BITS);
+        self.at += VARIABLE_BITS;
         self.values[number] = values as u8;
         self.sink.variable(Variable {
             values: values as u8,
-            black,
+            black: black == 1,
             initial: initial as u8,
             goal: present.then_some(goal as u8),
         });
         Ok(())
+    }
+
+    /// The refusal for a variable that is cut short, unless its initial value is wrong.
+    #[cold]
+    fn cut_variable(&mut self) -> Refusal {
+        let first = self.at;
+        let mut fields = || {
+            let values = self.field(6)? + 1;
+            self.field(1)?;
+            let initial = self.field(6)?;
+            refuse_unless(initial < values, 4, first + 7)?;
+            self.field(1)?;
+            self.field(6)
+        };
+        let answer: Result<usize, Refusal> = fields();
+        answer.unwrap_err()
     }
 
     #[inline(always)]
@@ -199,13 +231,17 @@ impl<'a, S: Sink> Scanner<'a, S> {
             lowest = next;
             at += 4 * FACT_BITS;
         }
-        while at < last {
-            let fact = Fact::from_index(self.bits.field(at, FACT_BITS));
+        let window = self.bits.window(at);
+        for shift in [52, 40, 28, 16] {
+            if at == last {
+                break;
+            }
+            let fact = Fact::from_index((window >> shift) as usize % FACTS);
             if at + FACT_BITS > self.end || !self.sound(fact, lowest) {
                 self.at = at;
                 return Err(self.faulty_fact(lowest, variables));
             }
-            self.sink.facts(&[fact]);
+            self.sink.fact(fact);
             lowest = fact.variable() + 1;
             at += FACT_BITS;
         }
@@ -225,7 +261,7 @@ impl<'a, S: Sink> Scanner<'a, S> {
         if !sound {
             return None;
         }
-        self.sink.facts(&facts);
+        self.sink.facts(facts);
         Some(facts[3].variable() + 1)
     }
 
@@ -290,6 +326,7 @@ mod tests {
                 "no-bytes" => Err(Refusal::new(1, 0)),
                 "variables-65" => Err(Refusal::new(3, 4)),
                 "actions-1025" => Err(Refusal::new(3, 11)),
+                "repeated-variable" => Err(Refusal::new(5, 78)),
                 _ => Ok(()),
             };
             assert_eq!(check(&bytes), expected, "{name}");

@@ -1,4 +1,4 @@
-/// Number and place of document 01's table.
+/// Number and place (9.5).
 #[derive(Clone, Copy, Debug, PartialEq, Eq)]
 pub struct Refusal {
     pub number: u8,
@@ -15,7 +15,7 @@ impl Refusal {
     }
 }
 
-/// What the control program gets back: 0 for accepted, else 32 × place + number.
+/// 9.4: 0 for success, else 32 × place + number.
 pub fn code<T>(answer: &Result<T, Refusal>) -> u64 {
     match answer {
         Ok(_) => 0,

@@ -1,187 +1,238 @@
-//! Relaxed plan repair.
+//! Relaxed plan repair (SPECIFICATION, Repair).
 
-use crate::index::{Groups, Waiting};
-use crate::painting::{Move, Painting};
+use crate::index::{Numbers, Waiting, ACTIONS};
+use crate::painting::{Move, Painting, ANYWHERE};
 use crate::paths::Paths;
 use crate::refusal::Refusal;
+use crate::room::{table, Table};
 use crate::set::contains;
 use crate::state::State;
-use crate::task::{variables_of, Fact, Task, Variable};
+use crate::task::{Fact, Task};
 
-/// Repairs a relaxed plan, or 11 as soon as the plan cannot fit the capacity any more: steps are
-/// only added, never taken away.
-pub fn repaired(
-    task: &Task,
-    needing: &Groups,
-    painting: &Painting,
-    relaxed: &[u16],
-    capacity: usize,
-) -> Result<Vec<u16>, Refusal> {
-    let mut repair = Repair::new(task, needing, painting, capacity);
-    for &number in relaxed {
-        repair.restore(task.action(number as usize).preconditions)?;
-        repair.apply(number)?;
-    }
-    let goals: Vec<Fact> = task.goals().collect();
-    repair.restore(&goals)?;
-    Ok(repair.plan)
+/// Room for repairs.
+pub struct Repair {
+    waiting: Waiting,
+    paths: Paths,
+    supports: Supports,
+    /// 6.3: R and B.
+    held: State,
+    /// Actions of the plan applied for the first time, whose effects are not held yet.
+    fresh: Vec<u16>,
 }
 
-struct Repair<'a> {
+impl Repair {
+    pub fn new() -> Self {
+        Repair {
+            waiting: Waiting::new(),
+            paths: Paths::new(),
+            supports: Supports::new(),
+            held: State::empty(),
+            fresh: Vec::new(),
+        }
+    }
+
+    /// Repairs a relaxed plan into the list, whose length is the capacity; answers the steps, or 11
+    /// as soon as they do not fit: steps are only added, never taken away.
+    pub fn run(
+        &mut self,
+        task: &Task,
+        painting: &Painting,
+        relaxed: &[u16],
+        plan: &mut [u16],
+    ) -> Result<usize, Refusal> {
+        let capacity = plan.len();
+        let full = |_: Full| Refusal::new(11, capacity);
+        if painting.black == 0 {
+            return copy(relaxed, plan).map_err(full);
+        }
+        let mut course = Course::start(self, task, painting, plan);
+        relaxed.iter().try_for_each(|&number| course.take(number)).map_err(full)?;
+        course.finish().map_err(full)?;
+        Ok(course.steps)
+    }
+}
+
+fn copy(relaxed: &[u16], plan: &mut [u16]) -> Result<usize, Full> {
+    plan.get_mut(..relaxed.len()).ok_or(Full)?.copy_from_slice(relaxed);
+    Ok(relaxed.len())
+}
+
+/// For each action its black preconditions on other variables than the moved one, in the order of
+/// the repair.
+struct Supports {
+    first: Table<u16, { ACTIONS + 1 }>,
+    facts: Vec<Fact>,
+}
+
+impl Supports {
+    fn new() -> Self {
+        Supports { first: table(0), facts: Vec::new() }
+    }
+
+    fn fill(&mut self, task: &Task, painting: &Painting) {
+        let mut rank = [0u8; 64];
+        painting.order.iter().enumerate().for_each(|(i, &v)| rank[v] = i as u8);
+        self.facts.clear();
+        for (number, action) in task.actions().enumerate() {
+            let start = self.facts.len();
+            let own = painting.moves[number % ACTIONS].map_or(64, |moved| moved.variable as usize);
+            let black = painting.black & !(1u64.checked_shl(own as u32).unwrap_or(0));
+            let supports = action.preconditions.iter().filter(|f| contains(black, f.variable()));
+            self.facts.extend(supports);
+            let added = &mut self.facts[start..];
+            if added.len() > 1 {
+                added.sort_unstable_by_key(|fact| rank[fact.variable()]);
+            }
+            self.first[number + 1] = self.facts.len() as u16;
+        }
+    }
+
+    #[inline(always)]
+    fn places(&self, number: u16) -> std::ops::Range<usize> {
+        let number = number as usize % ACTIONS;
+        self.first[number] as usize..self.first[number + 1] as usize
+    }
+}
+
+/// A repair while it goes on.
+struct Course<'a> {
     task: &'a Task,
     painting: &'a Painting,
-    capacity: usize,
-    plan: Vec<u16>,
-    /// Red facts held now, and black facts held at any time so far.
-    held: State,
-    waiting: Waiting<'a>,
-    moves: &'a [Option<Move>],
-    /// For each action the variables of its preconditions.
-    needs: Vec<u64>,
+    room: &'a mut Repair,
+    plan: &'a mut [u16],
+    steps: usize,
     /// The value of each black variable.
-    current: [usize; 64],
-    /// Usable arcs of each black variable.
-    paths: Vec<Paths>,
-    /// The moves to insert, and room for them to be rewritten.
-    list: Vec<u16>,
-    spare: Vec<u16>,
-    /// The variables that entries of the list need.
-    needed: u64,
+    current: [u8; 64],
+    /// Actions of the plan so far. One that was applied before adds nothing to what is held.
+    applied: Numbers,
+    /// Whether something was inserted, so that usable moves are known.
+    prepared: bool,
 }
 
-impl<'a> Repair<'a> {
-    fn new(task: &'a Task, needing: &'a Groups, painting: &'a Painting, capacity: usize) -> Self {
-        let variables = || task.variables.iter();
-        let paths = |v: &Variable| Paths::new(if v.black { v.values as usize } else { 0 });
-        let mut repair = Repair {
-            task,
-            painting,
-            capacity,
-            plan: Vec::new(),
-            held: State::empty(),
-            waiting: Waiting::new(task, needing),
-            moves: &painting.moves,
-            needs: task.actions().map(|action| variables_of(action.preconditions)).collect(),
-            current: [0; 64],
-            paths: variables().map(paths).collect(),
-            list: Vec::new(),
-            spare: Vec::new(),
-            needed: 0,
-        };
-        for number in repair.waiting.free() {
-            add_usable(&mut repair.paths, repair.moves, number);
-        }
-        for (v, variable) in variables().enumerate() {
-            repair.hold(Fact::new(v, variable.initial as usize));
-        }
-        repair
+/// There is no room for a step.
+struct Full;
+
+impl<'a> Course<'a> {
+    fn start(
+        room: &'a mut Repair,
+        task: &'a Task,
+        painting: &'a Painting,
+        plan: &'a mut [u16],
+    ) -> Self {
+        room.fresh.clear();
+        room.held.start(task);
+        room.supports.fill(task, painting);
+        let mut current = [0; 64];
+        task.variables.iter().zip(&mut current).for_each(|(v, now)| *now = v.initial);
+        let applied = Numbers::default();
+        Course { task, painting, room, plan, steps: 0, current, applied, prepared: false }
     }
 
-    #[inline(always)]
-    fn hold(&mut self, fact: Fact) {
-        self.current[fact.variable()] = fact.value();
-        if !self.held.holds(fact) {
-            self.held.add(fact);
-            let (paths, moves) = (&mut self.paths, self.moves);
-            self.waiting.meet(fact, |number| add_usable(paths, moves, number));
-        }
-    }
-
-    fn apply(&mut self, number: u16) -> Result<(), Refusal> {
-        self.fits(1)?;
-        self.plan.push(number);
-        for &fact in self.task.action(number as usize).effects {
-            self.hold(fact);
-        }
-        Ok(())
-    }
-
-    fn fits(&self, more: usize) -> Result<(), Refusal> {
-        if self.plan.len() + more > self.capacity {
-            return Err(Refusal::new(11, self.capacity));
-        }
-        Ok(())
-    }
-
-    /// Inserts moves if a black one of these facts is unmet.
-    fn restore(&mut self, facts: &[Fact]) -> Result<(), Refusal> {
-        let black = self.painting.black;
-        let unmet =
-            |f: &Fact| contains(black, f.variable()) && self.current[f.variable()] != f.value();
-        if !facts.iter().any(unmet) {
-            return Ok(());
-        }
-        self.list_moves(facts)?;
-        let list = std::mem::take(&mut self.list);
-        list.iter().try_for_each(|&number| self.apply(number))?;
-        self.list = list;
-        Ok(())
-    }
-
-    /// Lists the moves to the wanted values, black variables clients first.
-    fn list_moves(&mut self, wanted: &[Fact]) -> Result<(), Refusal> {
-        let mut values = [None; 64];
-        wanted.iter().for_each(|fact| values[fact.variable()] = Some(fact.value()));
-        self.list.clear();
-        self.needed = 0;
-        let painting = self.painting;
-        painting.order.iter().try_for_each(|&v| self.insert_moves(v, values[v]))
-    }
-
-    /// Inserts the moves of one black variable into the list.
-    fn insert_moves(&mut self, v: usize, wanted: Option<usize>) -> Result<(), Refusal> {
-        let mut at = self.current[v];
-        if contains(self.needed, v) {
-            at = self.insert_before_entries(v)?;
-        }
-        if let Some(value) = wanted {
-            self.append_path(v, at, value);
-        }
-        self.fits(self.list.len())
-    }
-
-    /// Rewrites the list with a path before each entry that needs the variable; answers its value
-    /// at the end.
-    fn insert_before_entries(&mut self, v: usize) -> Result<usize, Refusal> {
-        let mut at = self.current[v];
-        let entries = std::mem::take(&mut self.list);
-        self.list = std::mem::take(&mut self.spare);
-        self.list.clear();
-        for (i, &entry) in entries.iter().enumerate() {
-            if contains(self.needs[entry as usize], v) {
-                let value = self.needed_value(entry, v);
-                self.append_path(v, at, value);
-                self.fits(self.list.len() + entries.len() - i)?;
-                at = value;
+    #[cold]
+    fn prepare(&mut self) {
+        let (task, painting) = (self.task, self.painting);
+        self.prepared = true;
+        let Repair { waiting, paths, held, .. } = &mut *self.room;
+        waiting.clear(task);
+        paths.clear(task, painting.black);
+        for (number, moved) in painting.moves[..task.action_count()].iter().enumerate() {
+            if let Some(moved) = *moved {
+                if waiting.start(task, held, number) {
+                    paths.add(&painting.moves, moved, number);
+                }
             }
-            self.list.push(entry);
         }
-        self.spare = entries;
-        Ok(at)
-    }
-
-    /// Preconditions rise by variable, so the place is the count of lower variables.
-    #[inline(always)]
-    fn needed_value(&self, number: u16, v: usize) -> usize {
-        let lower = self.needs[number as usize] & ((1 << v) - 1);
-        self.task.action(number as usize).preconditions[lower.count_ones() as usize].value()
     }
 
     #[inline(always)]
-    fn append_path(&mut self, v: usize, from: usize, to: usize) {
-        let mut at = from;
-        while at != to {
-            let number = self.paths[v].first(at, to);
-            self.list.push(number);
-            self.needed |= self.needs[number as usize];
-            at = self.moves[number as usize].unwrap().to as usize;
-        }
+    fn is_at(&self, fact: Fact) -> bool {
+        self.current[fact.variable()] as usize == fact.value()
     }
-}
 
-fn add_usable(paths: &mut [Paths], moves: &[Option<Move>], number: usize) {
-    if let Some(moved) = moves[number] {
-        let from = moved.from.map(usize::from);
-        paths[moved.variable as usize].add(number, from, moved.to as usize);
+    /// Inserts the moves before an action of the relaxed plan, and applies both.
+    #[inline(always)]
+    fn take(&mut self, number: u16) -> Result<(), Full> {
+        let moved = self.painting.moves[number as usize % ACTIONS];
+        if let Some(Move { variable, from, .. }) = moved {
+            let source = Fact::new(variable as usize, from as usize);
+            if from != ANYWHERE && !self.is_at(source) {
+                self.reach(source)?;
+            }
+        }
+        self.support(number)?;
+        self.push(number)?;
+        if let Some(moved) = moved {
+            self.current[moved.variable as usize % 64] = moved.to;
+        }
+        while let Some(number) = self.room.fresh.pop() {
+            self.hold_effects(number as usize);
+        }
+        Ok(())
+    }
+
+    /// Moves to the black goals.
+    fn finish(&mut self) -> Result<(), Full> {
+        for &v in &self.painting.order {
+            let Some(goal) = self.task.variables[v].goal else { continue };
+            let goal = Fact::new(v, goal as usize);
+            if !self.is_at(goal) {
+                self.reach(goal)?;
+            }
+        }
+        Ok(())
+    }
+
+    /// Appends the path of a black variable to a value, before each move the paths of what it needs.
+    /// Variables come clients first and no path needs what a client moves, so the list is the one
+    /// that going through it variable by variable gives.
+    fn reach(&mut self, to: Fact) -> Result<(), Full> {
+        if !self.prepared {
+            self.prepare();
+        }
+        let v = to.variable();
+        let row = self.room.paths.row(&self.painting.moves, to);
+        while !self.is_at(to) {
+            let (number, value) = self.room.paths.next(row, self.current[v] as usize);
+            self.support(number)?;
+            self.push(number)?;
+            self.current[v] = value as u8;
+        }
+        Ok(())
+    }
+
+    #[inline(always)]
+    fn support(&mut self, number: u16) -> Result<(), Full> {
+        for place in self.room.supports.places(number) {
+            let fact = self.room.supports.facts[place];
+            if !self.is_at(fact) {
+                self.reach(fact)?;
+            }
+        }
+        Ok(())
+    }
+
+    #[inline(always)]
+    fn push(&mut self, number: u16) -> Result<(), Full> {
+        *self.plan.get_mut(self.steps).ok_or(Full)? = number;
+        self.steps += 1;
+        if self.applied.insert(number as usize) {
+            self.room.fresh.push(number);
+        }
+        Ok(())
+    }
+
+    fn hold_effects(&mut self, number: usize) {
+        let (task, moves) = (self.task, &self.painting.moves);
+        let Repair { waiting, paths, held, .. } = &mut *self.room;
+        for &fact in task.effects(number) {
+            let new = !held.holds(fact);
+            held.add(fact);
+            if new && self.prepared {
+                waiting.wake(task, held, fact, |number| {
+                    let moved = moves[number % ACTIONS];
+                    moved.into_iter().for_each(|moved| paths.add(moves, moved, number));
+                });
+            }
+        }
     }
 }

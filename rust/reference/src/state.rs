@@ -1,4 +1,4 @@
-//! States, and runs under the three semantics.
+//! States (3.1), and runs under the three semantics (3.4, 3.7).
 
 use crate::task::{Action, Fact, Task};
 
@@ -39,10 +39,21 @@ impl State {
 
     pub fn initial(task: &Task) -> Self {
         let mut state = State::empty();
-        for (v, variable) in task.variables.iter().enumerate() {
-            state.sets[v] = 1 << variable.initial;
-        }
+        state.start(task);
         state
+    }
+
+    /// Becomes the initial state in the task's variables.
+    #[inline(always)]
+    pub fn start(&mut self, task: &Task) {
+        let sets = task.variables.iter().zip(&mut self.sets);
+        sets.for_each(|(variable, set)| *set = 1 << variable.initial);
+    }
+
+    /// Holds nothing of the task's variables any more.
+    #[inline(always)]
+    pub fn clear_all(&mut self, task: &Task) {
+        self.sets[..task.variables.len().min(64)].fill(0);
     }
 
     #[inline(always)]
@@ -60,16 +71,16 @@ impl State {
         self.sets[fact.variable()] |= 1 << fact.value();
     }
 
-    /// Adds every value of a variable.
+    /// The values of a variable.
     #[inline(always)]
-    pub fn fill(&mut self, variable: usize) {
-        self.sets[variable % 64] = !0;
+    pub fn of(&self, variable: usize) -> u64 {
+        self.sets[variable % 64]
     }
 
-    /// Takes away every value of a variable.
+    /// Takes away every value of a fact's variable.
     #[inline(always)]
-    pub fn clear(&mut self, variable: usize) {
-        self.sets[variable % 64] = 0;
+    pub fn clear(&mut self, fact: Fact) {
+        self.sets[fact.variable()] = 0;
     }
 
     #[inline(always)]
@@ -85,21 +96,9 @@ impl State {
     }
 }
 
-/// The steps before the first that does not apply, and whether the list is a plan.
+/// How far a list runs, and whether it is a plan.
 #[derive(Clone, Copy, Debug, Default, PartialEq, Eq)]
 pub struct Run {
     pub steps: u32,
     pub plan: bool,
-}
-
-pub fn run(task: &Task, list: &[u16], semantics: &Semantics) -> Run {
-    let mut state = State::initial(task);
-    for (step, &number) in list.iter().enumerate() {
-        let action = task.action(number as usize);
-        if !state.holds_all(action.preconditions) {
-            return Run { steps: step as u32, plan: false };
-        }
-        state.apply(action, semantics);
-    }
-    Run { steps: list.len() as u32, plan: state.meets_goals(task) }
 }

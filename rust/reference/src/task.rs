@@ -1,5 +1,5 @@
 /// A variable and a value in one number: variable × 64 + value.
-#[derive(Clone, Copy, Debug, PartialEq, Eq, PartialOrd, Ord)]
+#[derive(Clone, Copy, Debug, Default, PartialEq, Eq, PartialOrd, Ord)]
 pub struct Fact(u16);
 
 /// The number of possible facts.
@@ -74,13 +74,9 @@ impl Task {
     }
 
     pub fn push(&mut self, cost: u16, preconditions: &[Fact], effects: &[Fact]) {
-        self.open_action(cost, preconditions.len(), effects.len());
-        self.push_facts(preconditions);
-        self.push_facts(effects);
-    }
-
-    pub fn fact_count(&self) -> usize {
-        self.facts.len()
+        self.open_action(self.facts.len(), cost, preconditions.len(), effects.len());
+        self.facts.extend_from_slice(preconditions);
+        self.facts.extend_from_slice(effects);
     }
 
     pub fn action_count(&self) -> usize {
@@ -90,9 +86,33 @@ impl Task {
     #[inline(always)]
     pub fn action(&self, number: usize) -> Action<'_> {
         let span = self.spans[number];
-        let facts = &self.facts[span.first as usize..];
-        let (preconditions, rest) = facts.split_at(span.preconditions as usize);
-        Action { cost: span.cost, preconditions, effects: &rest[..span.effects as usize] }
+        let (needs, sets) = (span.preconditions as usize, span.effects as usize);
+        let facts = &self.facts[span.first as usize..][..needs + sets];
+        let (preconditions, effects) = facts.split_at(needs);
+        Action { cost: span.cost, preconditions, effects }
+    }
+
+    #[inline(always)]
+    pub fn preconditions(&self, number: usize) -> &[Fact] {
+        let Span { first, preconditions, .. } = self.spans[number];
+        &self.facts[first as usize..][..preconditions as usize]
+    }
+
+    #[inline(always)]
+    pub fn effects(&self, number: usize) -> &[Fact] {
+        let Span { first, preconditions, effects, .. } = self.spans[number];
+        &self.facts[first as usize + preconditions as usize..][..effects as usize]
+    }
+
+    #[inline(always)]
+    pub fn cost(&self, number: usize) -> u32 {
+        self.spans[number].cost.into()
+    }
+
+    /// The black variables as a set.
+    pub fn black(&self) -> u64 {
+        let numbered = self.variables.iter().enumerate();
+        numbered.fold(0, |set, (v, variable)| set | u64::from(variable.black) << v)
     }
 
     pub fn actions(&self) -> impl ExactSizeIterator<Item = Action<'_>> + DoubleEndedIterator {
@@ -120,23 +140,58 @@ impl Task {
         numbered.filter_map(|(v, variable)| Some(Fact::new(v, variable.goal? as usize)))
     }
 
-    pub(crate) fn reserve_actions(&mut self, actions: usize, facts: usize) {
-        self.spans.reserve(actions);
-        self.facts.reserve(facts);
-    }
-
     #[inline(always)]
-    pub(crate) fn open_action(&mut self, cost: u16, preconditions: usize, effects: usize) {
+    fn open_action(&mut self, first: usize, cost: u16, preconditions: usize, effects: usize) {
         self.spans.push(Span {
             cost,
             preconditions: preconditions as u8,
             effects: effects as u8,
-            first: self.facts.len() as u32,
+            first: first as u32,
         });
+    }
+}
+
+/// Fills a task that may hold another one.
+pub(crate) struct Loader<'a> {
+    task: &'a mut Task,
+    filled: usize,
+}
+
+impl<'a> Loader<'a> {
+    pub fn new(task: &'a mut Task) -> Self {
+        task.variables.clear();
+        task.spans.clear();
+        Loader { task, filled: 0 }
+    }
+
+    /// Facts are written over what is there; `finish` cuts the rest off.
+    pub fn reserve(&mut self, actions: usize, most_facts: usize) {
+        self.task.spans.reserve(actions);
+        self.task.facts.resize(most_facts, Fact::default());
+    }
+
+    pub fn variable(&mut self, variable: Variable) {
+        self.task.variables.push(variable);
     }
 
     #[inline(always)]
-    pub(crate) fn push_facts(&mut self, facts: &[Fact]) {
-        self.facts.extend_from_slice(facts);
+    pub fn action(&mut self, cost: u16, preconditions: usize, effects: usize) {
+        self.task.open_action(self.filled, cost, preconditions, effects);
+    }
+
+    #[inline(always)]
+    pub fn fact(&mut self, fact: Fact) {
+        self.task.facts[self.filled] = fact;
+        self.filled += 1;
+    }
+
+    #[inline(always)]
+    pub fn facts(&mut self, four: [Fact; 4]) {
+        self.task.facts[self.filled..][..4].copy_from_slice(&four);
+        self.filled += 4;
+    }
+
+    pub fn finish(self) {
+        self.task.facts.truncate(self.filled);
     }
 }

@@ -1,8 +1,10 @@
-//! The store examples of document 01, through every entry point that they speak of.
+//! The examples of clause 12, through every entry point that they speak of.
 
 use reference::entry::{ForwardResult, Judgement, PlanResult, NO_ENTRY};
 use reference::state::Run;
 use reference::{examples, listing, record, search, Refusal, Task};
+use std::fs;
+use std::path::{Path, PathBuf};
 
 const REST: u16 = NO_ENTRY;
 
@@ -78,6 +80,87 @@ fn tray() {
     let (answer, list) = plan(&examples::tray(), 3, 3);
     assert_eq!(answer, Ok(PlanResult { steps: 2, cost: 2, runs: 1, real: false }));
     assert_eq!(list, [0, 1, REST]);
+}
+
+#[test]
+fn clients_come_before_their_servants() {
+    let (answer, list) = plan(&examples::door(), 8, 8);
+    assert_eq!(answer, Ok(PlanResult { steps: 7, cost: 14, runs: 7, real: true }));
+    assert_eq!(list, [0, 2, 1, 4, 0, 3, 1, REST]);
+}
+
+#[test]
+fn inserted_moves_add_red_facts() {
+    let (answer, list) = plan(&examples::lit_return(), 6, 6);
+    assert_eq!(answer, Ok(PlanResult { steps: 5, cost: 13, runs: 5, real: true }));
+    assert_eq!(list, [1, 3, 2, 4, 0, REST]);
+}
+
+#[test]
+fn a_variable_stands_once_in_a_list() {
+    assert_eq!(refused(&examples::repeated_variable()), (5, 78));
+}
+
+fn root() -> PathBuf {
+    Path::new(env!("CARGO_MANIFEST_DIR")).join("../..")
+}
+
+fn file(name: &str) -> Vec<u8> {
+    fs::read(root().join("examples").join(name).with_extension("record")).unwrap()
+}
+
+#[test]
+fn files_are_as_written() {
+    for (name, bytes) in examples::files() {
+        assert_eq!(file(name), bytes, "{name}");
+    }
+}
+
+/// A definition of bytes in the proved table: the name in the comment above it, and the bytes.
+fn proved(block: &str) -> Option<(&str, Vec<u8>)> {
+    let (comment, rest) = block.split_once('\n')?;
+    let (_, bytes) = rest.split_once(" : List ℕ\n")?.1.split_once(" =\n")?;
+    let (name, _) = comment.strip_prefix("-- ")?.split_once(',')?;
+    let numbers = bytes.split('∷').map(str::trim).filter(|&number| number != "[]");
+    Some((name, numbers.map(|number| number.parse().unwrap()).collect()))
+}
+
+#[test]
+fn proved_records_are_the_files() {
+    let table = root().join("crates/planning/proofs/Acceptance.antt");
+    let text = fs::read_to_string(table).unwrap();
+    let records: Vec<_> = text.split("\n\n").filter_map(proved).collect();
+    assert_eq!(records.len(), 11);
+    for (name, bytes) in records {
+        assert_eq!(file(name), bytes, "{name}");
+    }
+}
+
+/// The bytes that the specification shows, in hexadecimal, all of them one after the other.
+fn shown() -> String {
+    let text = fs::read_to_string(root().join("docs/SPECIFICATION.md")).unwrap();
+    let hex = |word: &&str| word.len() == 2 && u8::from_str_radix(word, 16).is_ok();
+    let rows = text.lines().filter(|line| line.starts_with("    "));
+    rows.flat_map(|row| row.split_whitespace().filter(hex)).collect()
+}
+
+#[test]
+fn the_specification_shows_the_files() {
+    let shown = shown();
+    let hex = |bytes: &[u8]| bytes.iter().map(|byte| format!("{byte:02x}")).collect::<String>();
+    for (name, bytes) in examples::files() {
+        assert!(bytes.len() > 50 || shown.contains(&hex(&bytes)), "{name}");
+    }
+}
+
+#[test]
+fn the_specification_shows_the_sheets() {
+    let (shown, mut bytes) = (shown(), [0; 16]);
+    for (list, cost, real) in [(&[0, 2, 1, 3][..], 10, true), (&[0, 1], 2, false), (&[], 0, true)] {
+        let size = reference::write_sheet(list, cost, real, &mut bytes).unwrap() as usize;
+        let hex: String = bytes[..size].iter().map(|byte| format!("{byte:02x}")).collect();
+        assert!(shown.contains(&hex), "{list:?}");
+    }
 }
 
 #[test]

@@ -28,7 +28,7 @@ fn two_shelves_plan_bit_by_bit() {
 
 #[test]
 fn what_is_written_is_read() {
-    for steps in [0, 1, 2, 3, 4, 5, 6, 7, 8, 9, 100, 32_767, 32_768] {
+    for steps in (0..10).chain([100, 32_767, 32_768]) {
         let list: Vec<u16> = (0..steps).map(|i| (i * 37 % 1024) as u16).collect();
         let bytes = written(&list, 0x8765_4321, steps % 2 == 0);
         let mut read = vec![1; steps + 2];

@@ -4,7 +4,8 @@ use reference::record::{MAX_ACTIONS, MAX_VARIABLES};
 use reference::Fact;
 
 use crate::store::{Action, Store, Variable};
-use crate::token::{lines, Error, Line, Position, Token};
+use crate::template::expand;
+use crate::token::{Error, Line, Position, Token};
 
 const MAX_VALUES: usize = 64;
 const MAX_FACTS: usize = 15;
@@ -12,28 +13,26 @@ const MAX_COST: usize = 65_535;
 
 pub fn parse(text: &str) -> Result<Store, Error> {
     let mut parser = Parser { store: Store::default(), block: Block::None };
-    for line in lines(text) {
-        parser.line(line)?;
-    }
+    expand(text, &mut |line| parser.line(line))?;
     parser.finish(Position::behind(text))
 }
 
 /// What `initial`, `goal`, `needs` and `sets` belong to.
-enum Block<'a> {
+enum Block {
     None,
-    Variable { name: Token<'a>, initial: bool },
+    Variable { name: Token, initial: bool },
     Action,
 }
 
-struct Parser<'a> {
+struct Parser {
     store: Store,
-    block: Block<'a>,
+    block: Block,
 }
 
-impl<'a> Parser<'a> {
-    fn line(&mut self, mut line: Line<'a>) -> Result<(), Error> {
+impl Parser {
+    fn line(&mut self, mut line: Line) -> Result<(), Error> {
         let Some(keyword) = line.token() else { return Ok(()) };
-        match keyword.text {
+        match keyword.text.as_str() {
             "variable" => self.variable(keyword, &mut line)?,
             "initial" => self.initial(keyword, &mut line)?,
             "goal" => self.goal(keyword, &mut line)?,
@@ -46,7 +45,7 @@ impl<'a> Parser<'a> {
 
     fn expected(&self) -> &'static str {
         match self.block {
-            Block::None => "`variable` or `action`",
+            Block::None => "`variable`, `action`, `list` or `for`",
             Block::Variable { .. } => "`initial`, `goal`, `variable` or `action`",
             Block::Action => "`needs`, `sets`, `action` or `variable`",
         }
@@ -69,18 +68,17 @@ impl<'a> Parser<'a> {
         }
     }
 
-    fn variable(&mut self, keyword: Token, line: &mut Line<'a>) -> Result<(), Error> {
+    fn variable(&mut self, keyword: Token, line: &mut Line) -> Result<(), Error> {
         self.check_initial()?;
-        check_count(self.store.variables.len(), MAX_VARIABLES, "variables", keyword)?;
+        check_count(self.store.variables.len(), MAX_VARIABLES, "variables", &keyword)?;
         let name = line.name("a variable name")?;
-        if self.store.variable(name.text).is_some() {
+        if self.store.variable(&name.text).is_some() {
             return Err(name.twice("a new variable name"));
         }
         let black = colour(line)?;
         line.pass(":")?;
         let values = values(line)?;
-        let variable =
-            Variable { name: name.text.to_owned(), values, black, initial: 0, goal: None };
+        let variable = Variable { name: name.text.clone(), values, black, initial: 0, goal: None };
         self.store.variables.push(variable);
         self.block = Block::Variable { name, initial: false };
         Ok(())
@@ -115,14 +113,14 @@ impl<'a> Parser<'a> {
 
     fn action(&mut self, keyword: Token, line: &mut Line) -> Result<(), Error> {
         self.check_initial()?;
-        check_count(self.store.actions.len(), MAX_ACTIONS, "actions", keyword)?;
+        check_count(self.store.actions.len(), MAX_ACTIONS, "actions", &keyword)?;
         let name = line.name("an action name")?;
         if self.store.actions.iter().any(|action| action.name == name.text) {
             return Err(name.twice("a new action name"));
         }
         line.pass("cost")?;
         let cost = line.number("a cost", MAX_COST)? as u16;
-        let name = name.text.to_owned();
+        let name = name.text;
         self.store.actions.push(Action { name, cost, needs: Vec::new(), sets: Vec::new() });
         self.block = Block::Action;
         Ok(())
@@ -147,7 +145,7 @@ impl<'a> Parser<'a> {
     }
 }
 
-fn check_count(count: usize, limit: usize, what: &str, found: Token) -> Result<(), Error> {
+fn check_count(count: usize, limit: usize, what: &str, found: &Token) -> Result<(), Error> {
     if count < limit {
         return Ok(());
     }
@@ -156,7 +154,7 @@ fn check_count(count: usize, limit: usize, what: &str, found: Token) -> Result<(
 
 fn colour(line: &mut Line) -> Result<bool, Error> {
     let colour = line.name("`black` or `red`")?;
-    match colour.text {
+    match colour.text.as_str() {
         "black" => Ok(true),
         "red" => Ok(false),
         _ => Err(colour.instead_of("`black` or `red`")),
@@ -167,11 +165,11 @@ fn values(line: &mut Line) -> Result<Vec<String>, Error> {
     let mut values = Vec::new();
     while values.is_empty() || !line.at_end() {
         let value = line.name("a value name")?;
-        check_count(values.len(), MAX_VALUES, "values", value)?;
-        if values.iter().any(|known| known == value.text) {
+        check_count(values.len(), MAX_VALUES, "values", &value)?;
+        if values.contains(&value.text) {
             return Err(value.twice("a new value name"));
         }
-        values.push(value.text.to_owned());
+        values.push(value.text);
     }
     Ok(values)
 }
@@ -179,7 +177,7 @@ fn values(line: &mut Line) -> Result<Vec<String>, Error> {
 fn value_of(variable: &Variable, line: &mut Line) -> Result<usize, Error> {
     let expected = format!("a value of `{}` ({})", variable.name, variable.values.join(", "));
     let value = line.name(&expected)?;
-    let known = variable.values.iter().position(|name| name == value.text);
+    let known = variable.values.iter().position(|name| *name == value.text);
     known.ok_or_else(|| value.instead_of(&expected))
 }
 
@@ -191,7 +189,7 @@ fn fact(variables: &[Variable], list: &[Fact], line: &mut Line) -> Result<Fact, 
     if list.iter().any(|fact| fact.variable() == variable) {
         return Err(name.twice("a variable once in a list"));
     }
-    check_count(list.len(), MAX_FACTS, "facts in a list", name)?;
+    check_count(list.len(), MAX_FACTS, "facts in a list", &name)?;
     line.pass("=")?;
     Ok(Fact::new(variable, value_of(&variables[variable], line)?))
 }

@@ -104,6 +104,10 @@ impl Store {
         self.variables.iter().position(|variable| variable.name == name)
     }
 
+    pub fn action(&self, name: &str) -> Option<usize> {
+        self.actions.iter().position(|action| action.name == name)
+    }
+
     pub fn goals(&self) -> impl Iterator<Item = Fact> + '_ {
         let numbered = self.variables.iter().enumerate();
         numbered.filter_map(|(v, variable)| Some(Fact::new(v, variable.goal?)))
@@ -115,24 +119,8 @@ impl Store {
         named.join(", ")
     }
 
-    fn fact(&self, fact: Fact) -> String {
+    pub fn fact(&self, fact: Fact) -> String {
         let variable = &self.variables[fact.variable()];
         format!("{} = {}", variable.name, variable.values[fact.value()])
-    }
-
-    /// A refusal of document 01's table in words, with the store's names.
-    pub fn explain(&self, refusal: Refusal) -> String {
-        let place = refusal.place as usize;
-        match refusal.number {
-            7 => format!(
-                "variable {} is on a cycle of the black causal graph",
-                self.variables[place].name
-            ),
-            8 => format!("action {} has an arc that lacks its return", self.actions[place].name),
-            10 => format!("no plan: {place} facts are reached and a goal is not among them"),
-            11 => format!("the plan has more than {place} steps"),
-            13 => format!("the list has more than {place} steps"),
-            number => format!("refusal {number} at {place}"),
-        }
     }
 }

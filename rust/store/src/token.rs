@@ -1,6 +1,7 @@
 //! Lines of text, cut into names and symbols that know where they stand.
 
 use std::fmt;
+use std::rc::Rc;
 
 /// Line and column, counted from 1; a column is a character.
 #[derive(Clone, Copy, Debug, PartialEq, Eq)]
@@ -17,34 +18,45 @@ impl Position {
     }
 }
 
+/// A fault of a text. In a template `round` says which values the loops had.
 #[derive(Clone, Debug, PartialEq, Eq)]
 pub struct Error {
     pub at: Position,
     pub message: String,
+    pub round: String,
 }
 
 impl Error {
     pub fn new(at: Position, message: impl Into<String>) -> Self {
-        Error { at, message: message.into() }
+        Error { at, message: message.into(), round: String::new() }
+    }
+
+    fn in_round(self, round: &str) -> Self {
+        Error { round: round.to_owned(), ..self }
     }
 }
 
 impl fmt::Display for Error {
     fn fmt(&self, out: &mut fmt::Formatter) -> fmt::Result {
-        write!(out, "line {}, column {}: {}", self.at.line, self.at.column, self.message)
+        write!(out, "line {}, column {}: {}", self.at.line, self.at.column, self.message)?;
+        if self.round.is_empty() {
+            return Ok(());
+        }
+        write!(out, " (with {})", self.round)
     }
 }
 
 /// A name, or a single character that stands for itself.
-#[derive(Clone, Copy, Debug)]
-pub struct Token<'a> {
-    pub text: &'a str,
+#[derive(Clone, Debug)]
+pub struct Token {
+    pub text: String,
     pub at: Position,
+    round: Rc<str>,
 }
 
-impl Token<'_> {
+impl Token {
     pub fn error(&self, message: impl Into<String>) -> Error {
-        Error::new(self.at, message)
+        Error::new(self.at, message).in_round(&self.round)
     }
 
     /// The error for a token where another was expected.
@@ -56,56 +68,108 @@ impl Token<'_> {
         self.error(format!("expected {expected}, found `{}` a second time", self.text))
     }
 
-    fn is_name(&self) -> bool {
+    pub fn is_name(&self) -> bool {
         self.text.starts_with(in_name)
+    }
+
+    /// The token's place with another text, in a round of a template.
+    pub fn with_text(&self, text: String, round: &Rc<str>) -> Token {
+        Token { text, at: self.at, round: round.clone() }
+    }
+
+    /// The number that the token is, if it has digits only and is not above a limit.
+    pub fn number(&self, limit: usize) -> Option<usize> {
+        let digits = self.text.bytes().all(|byte| byte.is_ascii_digit());
+        self.text.parse().ok().filter(|&number| digits && number <= limit)
     }
 }
 
-/// Names take any character but blanks, control characters and the four that have a meaning.
+/// Names take any character but blanks, control characters and the four that have a meaning. Braces
+/// belong to names here and are taken out by templates.
 fn in_name(c: char) -> bool {
     let plain = !c.is_whitespace() && !c.is_control();
     plain && !matches!(c, '#' | '=' | ':' | ',' | '\u{fffe}' | '\u{ffff}')
 }
 
 /// What is left to read of a line.
-#[derive(Clone)]
-pub struct Line<'a> {
-    rest: &'a str,
-    at: Position,
+#[derive(Clone, Debug)]
+pub struct Line {
+    tokens: std::vec::IntoIter<Token>,
+    end: Position,
+    round: Rc<str>,
 }
 
 /// The lines of a text; comments are left out.
-pub fn lines(text: &str) -> impl Iterator<Item = Line<'_>> {
+pub fn lines(text: &str) -> impl Iterator<Item = Line> + '_ {
     let text = text.strip_prefix('\u{feff}').unwrap_or(text);
-    text.lines().enumerate().map(|(number, line)| {
-        let rest = line.split('#').next().unwrap_or("").trim_end();
-        Line { rest, at: Position { line: number + 1, column: 1 } }
+    let round: Rc<str> = "".into();
+    text.lines().enumerate().map(move |(number, line)| {
+        let line = line.split('#').next().unwrap_or("").trim_end();
+        let at =
+            |bytes: usize| Position { line: number + 1, column: line[..bytes].chars().count() + 1 };
+        let cut = cut(line).into_iter();
+        let tokens = cut.map(|(first, text)| Token {
+            text: text.to_owned(),
+            at: at(first),
+            round: round.clone(),
+        });
+        Line::new(tokens.collect(), at(line.len()), &round)
     })
 }
 
-impl<'a> Line<'a> {
-    fn skip(&mut self, bytes: usize) -> &'a str {
-        let (skipped, rest) = self.rest.split_at(bytes);
-        self.rest = rest;
-        self.at.column += skipped.chars().count();
-        skipped
+/// The tokens of a line, each behind the byte at which it starts.
+fn cut(line: &str) -> Vec<(usize, &str)> {
+    let (mut at, mut tokens) = (0, Vec::new());
+    while let Some(first) = line[at..].chars().next() {
+        let name = line[at..].find(|c| !in_name(c)).unwrap_or(line.len() - at);
+        let length = name.max(first.len_utf8());
+        if !first.is_whitespace() {
+            tokens.push((at, &line[at..at + length]));
+        }
+        at += length;
+    }
+    tokens
+}
+
+impl Line {
+    pub fn new(tokens: Vec<Token>, end: Position, round: &Rc<str>) -> Self {
+        Line { tokens: tokens.into_iter(), end, round: round.clone() }
     }
 
-    pub fn token(&mut self) -> Option<Token<'a>> {
-        self.skip(self.rest.len() - self.rest.trim_start().len());
-        let first = self.rest.chars().next()?;
-        let name = self.rest.find(|c| !in_name(c)).unwrap_or(self.rest.len());
-        let at = self.at;
-        Some(Token { text: self.skip(name.max(first.len_utf8())), at })
+    pub fn token(&mut self) -> Option<Token> {
+        self.tokens.next()
     }
 
-    fn expect(&mut self, expected: &str) -> Result<Token<'a>, Error> {
-        let missing = Error::new(self.at, format!("expected {expected}, found end of line"));
+    pub fn peek(&self) -> Option<&Token> {
+        self.rest().first()
+    }
+
+    /// The tokens not read yet.
+    pub fn rest(&self) -> &[Token] {
+        self.tokens.as_slice()
+    }
+
+    pub fn at_end(&self) -> bool {
+        self.rest().is_empty()
+    }
+
+    /// Where the line ends.
+    pub fn end_position(&self) -> Position {
+        self.end
+    }
+
+    /// An error at the end of the line.
+    pub fn error(&self, message: impl Into<String>) -> Error {
+        Error::new(self.end, message).in_round(&self.round)
+    }
+
+    fn expect(&mut self, expected: &str) -> Result<Token, Error> {
+        let missing = self.error(format!("expected {expected}, found end of line"));
         self.token().ok_or(missing)
     }
 
     /// The next token if it is a name.
-    pub fn name(&mut self, expected: &str) -> Result<Token<'a>, Error> {
+    pub fn name(&mut self, expected: &str) -> Result<Token, Error> {
         let token = self.expect(expected)?;
         if token.is_name() {
             Ok(token)
@@ -129,17 +193,7 @@ impl<'a> Line<'a> {
     pub fn number(&mut self, what: &str, limit: usize) -> Result<usize, Error> {
         let expected = format!("{what} from 0 to {limit}");
         let token = self.expect(&expected)?;
-        let digits = token.text.bytes().all(|byte| byte.is_ascii_digit());
-        let number = token.text.parse().ok().filter(|&number| digits && number <= limit);
-        number.ok_or_else(|| token.instead_of(&expected))
-    }
-
-    pub fn at_end(&self) -> bool {
-        self.rest.is_empty()
-    }
-
-    pub fn position(&self) -> Position {
-        self.at
+        token.number(limit).ok_or_else(|| token.instead_of(&expected))
     }
 
     pub fn end(&mut self) -> Result<(), Error> {

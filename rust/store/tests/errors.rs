@@ -22,11 +22,11 @@ fn statements() {
     );
     assert_eq!(
         error("  vari box\n"),
-        "line 1, column 3: expected `variable` or `action`, found `vari`"
+        "line 1, column 3: expected `variable`, `action`, `list` or `for`, found `vari`"
     );
     assert_eq!(
         error("goal x\n"),
-        "line 1, column 1: expected `variable` or `action`, found `goal`"
+        "line 1, column 1: expected `variable`, `action`, `list` or `for`, found `goal`"
     );
     assert_eq!(
         after_box("  needs box = here"),

@@ -1,9 +1,10 @@
-//! The paper's examples as text.
+//! The examples of clause 12 as text.
 
 mod common;
 
 use common::{example, path, EXAMPLES};
-use store::plan::{show, Plan};
+use store::plan::Plan;
+use store::show;
 
 #[test]
 fn each_text_gives_the_bytes_of_the_record_beside_it() {
@@ -34,7 +35,7 @@ fn two_shelves_shows_its_inserted_move() {
 2  drive-back  carriage = shelf-0  (inserted)
 3  put-down    box = shelf-0
 ";
-    assert_eq!(show(&store, &plan).unwrap(), expected);
+    assert_eq!(show::plan(&store, &plan).unwrap().text, expected);
 }
 
 #[test]
@@ -45,30 +46,16 @@ fn tray_says_why_it_is_unreal() {
 2 steps, cost 2, unreal: 1 step runs
 0  load-1  tray = taken, box-1 = tray
 1  load-2  tray = taken, box-2 = tray
-step 1 does not run: it needs tray = free
+real run: step 1, load-2, needs tray = free
 ";
-    assert_eq!(show(&store, &plan).unwrap(), expected);
+    assert_eq!(show::plan(&store, &plan).unwrap().text, expected);
 }
 
 #[test]
 fn goal_met_has_no_steps() {
     let store = example("goal-met");
     let plan = Plan::find(&store).unwrap();
-    assert_eq!(show(&store, &plan).unwrap(), "0 steps, cost 0, real: 0 steps run\n");
-}
-
-#[test]
-fn refusals_are_explained_with_names() {
-    let explained = |name: &str| {
-        let store = example(name);
-        let refusal = Plan::find(&store).unwrap_err();
-        (refusal.number, refusal.place, store.explain(refusal))
-    };
-    let no_return = "action drive-out has an arc that lacks its return".to_owned();
-    assert_eq!(explained("two-shelves-without-1"), (8, 0, no_return.clone()));
-    assert_eq!(explained("lamp-2"), (8, 0, no_return));
-    let cycle = "variable carriage is on a cycle of the black causal graph".to_owned();
-    assert_eq!(explained("two-black-effects"), (7, 0, cycle));
-    let reached = "no plan: 3 facts are reached and a goal is not among them".to_owned();
-    assert_eq!(explained("two-shelves-without-2"), (10, 3, reached));
+    let shown = show::plan(&store, &plan).unwrap();
+    assert_eq!(shown.text, "0 steps, cost 0, real: 0 steps run\n");
+    assert_eq!(shown.fault, None);
 }

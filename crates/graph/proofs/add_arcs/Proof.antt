@@ -6,6 +6,7 @@ use native.Mathlib.Omega.{arith}
 use Rattle.graph.proofs.add_arcs.Statement.{statement}
 use Rattle.graph.proofs.add_arcs.Tie as tie
 
+-- The rows so far with the arcs from the facts still to come are the rows at the end.
 abbrev Inv-loop : tie.InvT-loop
 Inv-loop rows₀ table from to affected paint k₀ rows k = Adding table from to affected paint rows₀ rows k
 
@@ -37,7 +38,9 @@ mul-rows : tie.Need-mul-rows Inv-loop μ-loop
 mul-rows c = search needs
 
 element-write-rows : tie.Need-element-write-rows Inv-loop μ-loop
-element-write-rows c = let l = c .before .before .before .before .before in fact-variable _ _ _ (l .before .before .pre .0) (l .loop .k) _ (omega arith) (omega arith) (c .before .before .wide .ensures)
+element-write-rows c =
+    let l = c .before .before .before .before .before in
+    fact-variable _ _ _ (l .before .before .pre .0) (l .loop .k) _ (omega arith) (omega arith) (c .before .before .wide .ensures)
 
 add-k : tie.Need-add-k Inv-loop μ-loop
 add-k c = search needs
@@ -46,7 +49,9 @@ loop-less : tie.Need-loop-less Inv-loop μ-loop
 loop-less c = search needs
 
 loop-again : tie.Need-loop-again Inv-loop μ-loop
-loop-again c = let l = c .before .before .before .before .before in adding-turn _ _ _ _ _ _ (l .before .before .pre .0) _ _ (l .loop .inv) (omega arith) _ _ _ (c .before .before .wide .ensures) refl (c .joined .ensures)
+loop-again c =
+    let l = c .before .before .before .before .before in
+    adding-turn _ _ _ _ _ _ (l .before .before .pre .0) _ _ (l .loop .inv) (omega arith) _ _ _ (c .before .before .wide .ensures) refl (c .joined .ensures)
 
 returns : tie.Need-returns Inv-loop μ-loop
 returns c = record { long = c .before .loop .inv .long; states = adding-end _ _ _ _ _ _ (c .before .before .before .pre .0) _ _ (c .before .loop .inv) (omega arith) }

@@ -1,12 +1,13 @@
-use borrow.Author.Tests.{eq-eqb, ne-eqb}
-use Rattle.state.specs.Sets.{inSet, setsOf}
-use Rattle.graph.proofs.Searches.{Searched, searched-start, searched-turn, searched-hit, searched-end}
-use borrow.Author.Needs.{needs}
+use mathlib.Core.Path.{sym, _∙_}
 use Prim.Native.Nat.{_-_}
 use native.Mathlib.Omega.{arith}
+use Rattle.state.specs.Sets.{setsOf}
+use Rattle.graph.proofs.Searches.{Searched, searched-start, searched-turn, searched-hit, searched-end}
+use borrow.Author.Needs.{needs}
 use Rattle.graph.proofs.lowest_on_cycle.Statement.{statement}
 use Rattle.graph.proofs.lowest_on_cycle.Tie as tie
 
+-- No variable below v has a way to itself.
 abbrev Inv-loop : tie.InvT-loop
 Inv-loop rows n v₀ v = Searched n (λ u. setsOf rows u u) v
 
@@ -16,18 +17,18 @@ abbrev μ-loop : tie.MeasureT-loop
 loop-holds : tie.Need-loop-holds Inv-loop μ-loop
 loop-holds c = searched-start _ _
 
-mul-if1 : tie.Need-mul-if1 Inv-loop μ-loop
-mul-if1 c = search needs
+mul-member : tie.Need-mul-member Inv-loop μ-loop
+mul-member c = search needs
 
-element-copy-out-if1 : tie.Need-element-copy-out-if1 Inv-loop μ-loop
-element-copy-out-if1 c = search needs
+element-copy-out-member : tie.Need-element-copy-out-member Inv-loop μ-loop
+element-copy-out-member c = search needs
 
-shr-if1 : tie.Need-shr-if1 Inv-loop μ-loop
-shr-if1 c = search needs
+member-requires : tie.Need-member-requires Inv-loop μ-loop
+member-requires c κs = search needs
 
 returns : tie.Need-returns Inv-loop μ-loop
-unfolding inSet setsOf
-returns c = searched-hit _ _ _ (c .before .before .before .loop .inv) (omega arith) (eq-eqb _ _ (c .if1 .taken))
+unfolding setsOf
+returns c = searched-hit _ _ _ (c .before .before .before .before .loop .inv) (omega arith) (sym (c .before .member .ensures) ∙ c .if1 .taken)
 
 add-v : tie.Need-add-v Inv-loop μ-loop
 add-v c = search needs
@@ -36,8 +37,8 @@ loop-less : tie.Need-loop-less Inv-loop μ-loop
 loop-less c = search needs
 
 loop-again : tie.Need-loop-again Inv-loop μ-loop
-unfolding inSet setsOf
-loop-again c = searched-turn _ _ _ (c .before .before .before .loop .inv) (omega arith) (ne-eqb _ _ (c .if1 .left))
+unfolding setsOf
+loop-again c = searched-turn _ _ _ (c .before .before .before .before .loop .inv) (omega arith) (sym (c .before .member .ensures) ∙ c .if1 .left)
 
 returns-2 : tie.Need-returns-2 Inv-loop μ-loop
 returns-2 c = searched-end _ _ _ (c .before .loop .inv) (omega arith)
@@ -49,9 +50,9 @@ lowest-on-cycle-spec =
     Inv-loop
     μ-loop
     loop-holds
-    mul-if1
-    element-copy-out-if1
-    shr-if1
+    mul-member
+    element-copy-out-member
+    member-requires
     returns
     add-v
     loop-less

@@ -1,16 +1,16 @@
-use Rattle.graph.proofs.Rows.{Touching, fact-variable, touching-end, touching-start, touching-turn}
-use borrow.Author.Needs.{needs}
 use Prim.Native.Nat.{_-_}
 use native.Mathlib.Omega.{arith}
-use lib.ListN.{set}
+use Rattle.graph.proofs.Rows.{Touching, fact-variable, touching-end, touching-start, touching-turn}
+use borrow.Author.Needs.{needs}
 use Rattle.graph.proofs.touched.Statement.{statement}
 use Rattle.graph.proofs.touched.Tie as tie
 
+-- The set so far with the variables of the facts still to come are the variables of all facts.
 abbrev Inv-loop : tie.InvT-loop
-Inv-loop table from to set₀ k₀ set k = Touching table from to set k
+Inv-loop task from to set₀ k₀ set k = Touching task from to set k
 
 abbrev μ-loop : tie.MeasureT-loop
-μ-loop table from to set₀ k₀ set k = to - k
+μ-loop task from to set₀ k₀ set k = to - k
 
 loop-holds : tie.Need-loop-holds Inv-loop μ-loop
 loop-holds c = touching-start _ _ _ (c .before .pre)
@@ -24,8 +24,8 @@ shared-slice-read-wide c = search needs
 wide-requires : tie.Need-wide-requires Inv-loop μ-loop
 wide-requires c κs = search needs
 
-shl-set : tie.Need-shl-set Inv-loop μ-loop
-shl-set c = let l = c .before .before .before in fact-variable _ _ _ (l .before .before .pre) (l .loop .k) _ (omega arith) (omega arith) (c .wide .ensures)
+single-requires : tie.Need-single-requires Inv-loop μ-loop
+single-requires c κs = let l = c .before .before .before in fact-variable _ _ _ (l .before .before .pre) (l .loop .k) _ (omega arith) (omega arith) (c .wide .ensures)
 
 add-k : tie.Need-add-k Inv-loop μ-loop
 add-k c = search needs
@@ -34,7 +34,7 @@ loop-less : tie.Need-loop-less Inv-loop μ-loop
 loop-less c = search needs
 
 loop-again : tie.Need-loop-again Inv-loop μ-loop
-loop-again c = let l = c .before .before .before in touching-turn _ _ _ (l .before .before .pre) _ _ (l .loop .inv) (omega arith) _ (c .wide .ensures)
+loop-again c = let w = c .before in let l = w .before .before .before in touching-turn _ _ _ (l .before .before .pre) _ _ (l .loop .inv) (omega arith) _ _ (w .wide .ensures) (c .single .ensures)
 
 returns : tie.Need-returns Inv-loop μ-loop
 returns c = touching-end _ _ _ (c .before .before .before .pre) _ _ (c .before .loop .inv) (omega arith)
@@ -49,7 +49,7 @@ touched-spec =
     mul-wide
     shared-slice-read-wide
     wide-requires
-    shl-set
+    single-requires
     add-k
     loop-less
     loop-again

@@ -2,7 +2,7 @@ use borrow.Author.Needs.{needs}
 use mathlib.Core.Path.{_≡_, ap, _∙_}
 use Prim.Native.Nat.{ℕ}
 use native.Mathlib.Omega.{arith}
-use Rattle.planning.specs.Record.{taskOf}
+use Rattle.task.specs.Task.{taskIn}
 use Rattle.planning.specs.Runs.{actions}
 use Rattle.planning.specs.Calls.{entriesCheck}
 use Rattle.judge.specs.Answers.{leading}
@@ -11,7 +11,7 @@ use Rattle.judge.proofs.check_list.Statement.{statement}
 use Rattle.judge.proofs.check_list.Tie as tie
 
 returns : tie.Need-returns
-returns c = let a = c .before .before .before .args in long-refused (entriesCheck (taskOf (a .bytes .now)) (a .list .now)) (a .list .now) (omega arith)
+returns c = let a = c .before .before .before .args in long-refused (entriesCheck (taskIn (a .task .now)) (a .list .now)) (a .list .now) (omega arith)
 
 actions-requires : tie.Need-actions-requires
 actions-requires c κs = search needs
@@ -19,20 +19,20 @@ actions-requires c κs = search needs
 leading-requires : tie.Need-leading-requires
 leading-requires c κs = search needs
 
-ensured : (c : tie.After-leading) → c .leading .result ≡ leading (actions (taskOf (c .before .before .before .before .before .args .bytes .now))) (c .before .before .before .before .before .args .list .now)
+ensured : (c : tie.After-leading) → c .leading .result ≡ leading (actions (taskIn (c .before .before .before .before .before .args .task .now))) (c .before .before .before .before .before .args .list .now)
 ensured c = c .leading .ensures .0 ∙ ap (λ (n : ℕ). leading n (c .before .before .before .before .before .args .list .now)) (c .before .actions .ensures)
 
 cast-t7 : tie.Need-cast-t7
 cast-t7 c = search needs
 
 returns-2 : tie.Need-returns-2
-returns-2 c = let a = c .before .before .before .before .before .before .args in list-refused (taskOf (a .bytes .now)) (a .list .now) _ (omega arith) (ensured (c .before)) (omega arith)
+returns-2 c = let a = c .before .before .before .before .before .before .args in list-refused (taskIn (a .task .now)) (a .list .now) _ (omega arith) (ensured (c .before)) (omega arith)
 
 cast-t9 : tie.Need-cast-t9
 cast-t9 c = search needs
 
 returns-3 : tie.Need-returns-3
-returns-3 c = let a = c .before .before .before .before .before .before .args in list-passed (taskOf (a .bytes .now)) (a .list .now) _ (omega arith) (ensured (c .before)) (omega arith) (c .before .leading .ensures .1)
+returns-3 c = let a = c .before .before .before .before .before .before .args in list-passed (taskIn (a .task .now)) (a .list .now) _ (omega arith) (ensured (c .before)) (omega arith) (c .before .leading .ensures .1)
 
 pub check-list-spec : {M : Type 1} → statement M
 check-list-spec =

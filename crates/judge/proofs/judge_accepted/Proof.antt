@@ -1,37 +1,56 @@
+use mathlib.Core.Path.{refl, _∙_}
+use mathlib.Core.Bool.{true, false}
+use Rattle.task.proofs.Size.{room-enough}
+use Rattle.judge.proofs.Entry.{judge-later}
 use borrow.Author.Needs.{needs}
-use mathlib.Core.Path.{_≡_, sym, ap}
-use mathlib.Core.Option.{none}
-use Rattle.bits.specs.Answers.{refusalOf}
-use Rattle.bits.proofs.Stages.{passed, handed-on}
-use Rattle.judge.proofs.Entry.{listCheck, judge-list, judge-done, list-ready}
 use Rattle.judge.proofs.judge_accepted.Statement.{statement}
 use Rattle.judge.proofs.judge_accepted.Tie as tie
 
-check-list-requires : tie.Need-check-list-requires
-check-list-requires c κs = search needs
+is-short-requires : tie.Need-is-short-requires
+is-short-requires c κs = search needs
 
-enum-known-l : tie.Need-enum-known-l
-enum-known-l c = search needs
+slice-aggregate-load : tie.Need-slice-aggregate-load
+slice-aggregate-load c = search needs
 
-enum-told : tie.Need-enum-told
-enum-told c = search needs
+load-requires : tie.Need-load-requires
+load-requires c κs = (c .before .before .before .before .before .pre, room-enough _ _ (c .before .before .is-short .result) true (c .before .before .is-short .ensures) (c .before .if1 .taken) refl)
 
-passes : (c : tie.After-enum-told) → listCheck (c .before .before .before .before .before .args .bytes .now) (c .before .before .before .before .before .args .list .now) ≡ none
-passes c = passed _ _ _ _ (c .enum-told .given .1) (c .before .before .check-list .ensures) .0
+slice-aggregate-judge-loaded : tie.Need-slice-aggregate-judge-loaded
+slice-aggregate-judge-loaded c = search needs
 
 judge-loaded-requires : tie.Need-judge-loaded-requires
-judge-loaded-requires c κs =
-    let a = c .before .before .before .before .before .args in
-    let L = list-ready (a .bytes .now) (a .list .now) (passes c) in
-    (c .before .before .before .before .before .pre, L .0, L .1)
+judge-loaded-requires c κs = search needs
 
 returns : tie.Need-returns
-returns c = let a = c .before .before .before .before .before .before .args in judge-done (a .bytes .now) (a .list .now) _ (c .before .before .before .before .before .before .pre) (passes (c .before)) (c .judge-loaded .ensures)
+returns c = c .judge-loaded .ensures ∙ judge-later (c .before .before .before .before .before .before .before .before .before .args .bytes .now) (c .before .before .before .before .before .before .before .before .before .args .list .now) (c .before .before .before .before .before .before .before .before .before .pre) _ (c .before .before .before .load .ensures .1)
+
+slice-aggregate-load-2 : tie.Need-slice-aggregate-load-2
+slice-aggregate-load-2 c = search needs
+
+load-requires-2 : tie.Need-load-requires-2
+load-requires-2 c κs = (c .before .before .before .before .before .pre, room-enough _ _ (c .before .before .is-short .result) false (c .before .before .is-short .ensures) (c .before .if1 .left) refl)
+
+slice-aggregate-judge-loaded-2 : tie.Need-slice-aggregate-judge-loaded-2
+slice-aggregate-judge-loaded-2 c = search needs
+
+judge-loaded-requires-2 : tie.Need-judge-loaded-requires-2
+judge-loaded-requires-2 c κs = search needs
 
 returns-2 : tie.Need-returns-2
-returns-2 c = let a = c .before .before .before .before .before .before .args in judge-list (a .bytes .now) (a .list .now) _ _ (c .before .before .before .before .before .before .pre) (handed-on _ _ _ _ _ (c .before .l .given .1) (sym (ap refusalOf (c .before .l .given .1))) (c .before .before .before .check-list .ensures))
+returns-2 c = c .judge-loaded2 .ensures ∙ judge-later (c .before .before .before .before .before .before .before .before .before .args .bytes .now) (c .before .before .before .before .before .before .before .before .before .args .list .now) (c .before .before .before .before .before .before .before .before .before .pre) _ (c .before .before .before .load2 .ensures .1)
 
 pub judge-accepted-spec : {M : Type 1} → statement M
 judge-accepted-spec =
     tie.close
-    (tie.spec check-list-requires enum-known-l enum-told judge-loaded-requires returns returns-2)
+    (tie.spec
+    is-short-requires
+    slice-aggregate-load
+    load-requires
+    slice-aggregate-judge-loaded
+    judge-loaded-requires
+    returns
+    slice-aggregate-load-2
+    load-requires-2
+    slice-aggregate-judge-loaded-2
+    judge-loaded-requires-2
+    returns-2)

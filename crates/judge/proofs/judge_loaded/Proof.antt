@@ -1,50 +1,42 @@
+use mathlib.Core.Path.{_≡_, sym, ap}
+use mathlib.Core.Option.{none}
+use Rattle.answers.specs.Answers.{refusalOf}
+use Rattle.answers.proofs.Stages.{passed, handed-on}
+use Rattle.task.specs.Task.{taskIn}
+use Rattle.judge.specs.Answers.{listCheck}
+use Rattle.judge.proofs.Entry.{list-refused-by, list-judged, list-ready}
 use borrow.Author.Needs.{needs}
-use native.Mathlib.Omega.{arith}
-use Rattle.table.proofs.Size.{tableSize-bytes, tableSize-max}
 use Rattle.judge.proofs.judge_loaded.Statement.{statement}
 use Rattle.judge.proofs.judge_loaded.Tie as tie
 
-slice-aggregate-load : tie.Need-slice-aggregate-load
-slice-aggregate-load c = search needs
+check-list-requires : tie.Need-check-list-requires
+check-list-requires c κs = search needs
 
-load-requires : tie.Need-load-requires
-load-requires c κs = (c .before .before .before .before .pre .0, omega (arith, tableSize-bytes _ (c .before .before .before .before .pre .0)))
+enum-known-l : tie.Need-enum-known-l
+enum-known-l c = search needs
 
-slice-aggregate-judge-all : tie.Need-slice-aggregate-judge-all
-slice-aggregate-judge-all c = search needs
+enum-told : tie.Need-enum-told
+enum-told c = search needs
+
+passes : (c : tie.After-enum-told) → listCheck (taskIn (c .before .before .before .before .before .args .task .now)) (c .before .before .before .before .before .args .list .now) ≡ none
+passes c = passed _ _ _ _ (c .enum-told .given .1) (c .before .before .check-list .ensures) .0
 
 judge-all-requires : tie.Need-judge-all-requires
-judge-all-requires c κs = search needs
+judge-all-requires c κs =
+    let a = c .before .before .before .before .before .args in
+    let L = list-ready (taskIn (a .task .now)) (a .list .now) (passes c) in
+    record { loaded = c .before .before .before .before .before .pre; short = L .0; entries = L .1 }
 
 returns : tie.Need-returns
-returns c = search needs
-
-slice-aggregate-load-2 : tie.Need-slice-aggregate-load-2
-slice-aggregate-load-2 c = search needs
-
-load-requires-2 : tie.Need-load-requires-2
-load-requires-2 c κs = (c .before .before .before .before .pre .0, tableSize-max _ (c .before .before .before .before .pre .0))
-
-slice-aggregate-judge-all-2 : tie.Need-slice-aggregate-judge-all-2
-slice-aggregate-judge-all-2 c = search needs
-
-judge-all-requires-2 : tie.Need-judge-all-requires-2
-judge-all-requires-2 c κs = search needs
+returns c = let a = c .before .before .before .before .before .before .args in list-judged (taskIn (a .task .now)) (a .list .now) _ (passes (c .before)) (c .judge-all .ensures)
 
 returns-2 : tie.Need-returns-2
-returns-2 c = search needs
+returns-2 c =
+    let a = c .before .before .before .before .before .before .args in
+    let e = c .before .l .given .1 in
+    list-refused-by (taskIn (a .task .now)) (a .list .now) _ _ (handed-on _ _ _ _ _ e (sym (ap refusalOf e)) (c .before .before .before .check-list .ensures))
 
 pub judge-loaded-spec : {M : Type 1} → statement M
 judge-loaded-spec =
     tie.close
-    (tie.spec
-    slice-aggregate-load
-    load-requires
-    slice-aggregate-judge-all
-    judge-all-requires
-    returns
-    slice-aggregate-load-2
-    load-requires-2
-    slice-aggregate-judge-all-2
-    judge-all-requires-2
-    returns-2)
+    (tie.spec check-list-requires enum-known-l enum-told judge-all-requires returns returns-2)

@@ -25,14 +25,14 @@ same-length c = search needs
 returns : tie.Need-returns
 returns c = search needs
 
-slice-reshare-prefix-report : tie.Need-slice-reshare-prefix-report
-slice-reshare-prefix-report c = subst (λ i. Front i (c .before .before .before .before .before .read .last .0)) (c .before .input .given .1) (c .before .before .before .before .before .read .ensures) .0
+slice-reshare-prefix-print : tie.Need-slice-reshare-prefix-print
+slice-reshare-prefix-print c = subst (λ i. Front i (c .before .before .before .before .before .read .last .0)) (c .before .input .given .1) (c .before .before .before .before .before .read .ensures) .0
 
-slice-aggregate-report : tie.Need-slice-aggregate-report
-slice-aggregate-report c = subst (λ i. Front i (c .before .before .before .before .before .before .read .last .0)) (c .before .before .input .given .1) (c .before .before .before .before .before .before .read .ensures) .1
+slice-aggregate-print : tie.Need-slice-aggregate-print
+slice-aggregate-print c = subst (λ i. Front i (c .before .before .before .before .before .before .read .last .0)) (c .before .before .input .given .1) (c .before .before .before .before .before .before .read .ensures) .1
 
-report-requires : tie.Need-report-requires
-report-requires c κs = search needs
+print-requires : tie.Need-print-requires
+print-requires c κs = search needs
 
 slice-aggregate-write-all-2 : tie.Need-slice-aggregate-write-all-2
 slice-aggregate-write-all-2 c = search needs
@@ -43,23 +43,11 @@ write-all-requires-2 c κs = search needs
 same-length-2 : tie.Need-same-length-2
 same-length-2 c = search needs
 
-same-length-3 : tie.Need-same-length-3
-same-length-3 c = search needs
-
-same-length-4 : tie.Need-same-length-4
-same-length-4 c = search needs
-
 returns-2 : tie.Need-returns-2
 returns-2 c = search needs
 
-same-length-5 : tie.Need-same-length-5
-same-length-5 c = search needs
-
-same-length-6 : tie.Need-same-length-6
-same-length-6 c = search needs
-
-same-length-7 : tie.Need-same-length-7
-same-length-7 c = search needs
+same-length-3 : tie.Need-same-length-3
+same-length-3 c = search needs
 
 returns-3 : tie.Need-returns-3
 returns-3 c = search needs
@@ -75,16 +63,12 @@ list-spec =
     write-all-requires
     same-length
     returns
-    slice-reshare-prefix-report
-    slice-aggregate-report
-    report-requires
+    slice-reshare-prefix-print
+    slice-aggregate-print
+    print-requires
     slice-aggregate-write-all-2
     write-all-requires-2
     same-length-2
-    same-length-3
-    same-length-4
     returns-2
-    same-length-5
-    same-length-6
-    same-length-7
+    same-length-3
     returns-3)

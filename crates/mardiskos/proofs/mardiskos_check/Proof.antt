@@ -1,5 +1,5 @@
 use mathlib.Core.Path.{sym, ap, _∙_}
-use Rattle.record.specs.Stages.{checkedOf}
+use Rattle.answers.specs.Answers.{checkOf}
 use Rattle.mardiskos.proofs.Laws.{code-accepted, code-refused}
 use borrow.Author.Needs.{needs}
 use Rattle.mardiskos.proofs.mardiskos_check.Statement.{statement}
@@ -15,13 +15,13 @@ enum-told : tie.Need-enum-told
 enum-told c = search needs
 
 returns : tie.Need-returns
-returns c = code-accepted _ (sym (ap checkedOf (c .enum-told .given .1)) ∙ c .before .before .check .ensures)
+returns c = code-accepted _ (sym (ap checkOf (c .enum-told .given .1)) ∙ c .before .before .check .ensures)
 
 code-of-requires : tie.Need-code-of-requires
 code-of-requires c κs = search needs
 
 returns-2 : tie.Need-returns-2
-returns-2 c = c .code-of .ensures ∙ code-refused _ _ _ (sym (ap checkedOf (c .before .before .c .given .1)) ∙ c .before .before .before .before .check .ensures)
+returns-2 c = c .code-of .ensures ∙ code-refused _ _ _ (sym (ap checkOf (c .before .before .c .given .1)) ∙ c .before .before .before .before .check .ensures)
 
 pub mardiskos-check-spec : {M : Type 1} → statement M
 mardiskos-check-spec =

@@ -1,7 +1,8 @@
-use Rattle.painting.proofs.Arcs.{fact-var, fact-val}
-use borrow.Author.Tests.{eq-eqb, ne-eqb}
-use native.Mathlib.Omega.{arith}
 use mathlib.Core.Path.{refl, _∙_}
+use native.Mathlib.Omega.{arith}
+use borrow.Author.Tests.{eq-eqb, ne-eqb}
+use Rattle.painting.proofs.Arcs.{fact-var, fact-val}
+use borrow.Author.Needs.{needs}
 use Rattle.painting.proofs.arc_returned.Statement.{statement}
 use Rattle.painting.proofs.arc_returned.Tie as tie
 
@@ -9,16 +10,21 @@ returns : tie.Need-returns
 returns c = rw (eq-eqb _ _ (c .if1 .taken)) refl
 
 mul-is-returned : tie.Need-mul-is-returned
-mul-is-returned c = omega arith
+mul-is-returned c = search needs
 
 add-is-returned : tie.Need-add-is-returned
-add-is-returned c = omega arith
+add-is-returned c = search needs
 
 is-returned-requires : tie.Need-is-returned-requires
-is-returned-requires c κs = let p = c .before .before .before .pre in (p .0, omega (arith, p .1, p .3), rw (fact-var _ _ (p .3)) (p .2))
+is-returned-requires c κs =
+    let p = c .before .before .before .pre in
+    record { loaded = p .0 .loaded; chained = p .0 .chained; small = omega (arith, p .0 .small, p .1); on = rw (fact-var _ _ (p .1)) (p .0 .on) }
 
 returns-2 : tie.Need-returns-2
-returns-2 c = let p = c .before .before .before .before .pre in c .is-returned .ensures ∙ rw (fact-var _ _ (p .3), fact-val _ _ (p .3), ne-eqb _ _ (c .before .if1 .left)) refl
+returns-2 c =
+    let e = c .before .before in
+    let p = e .before .before .pre in
+    c .is-returned .ensures ∙ rw (fact-var _ _ (p .1), fact-val _ _ (p .1), ne-eqb _ _ (e .if1 .left)) refl
 
 pub arc-returned-spec : {M : Type 1} → statement M
 arc-returned-spec =

@@ -1,36 +1,92 @@
-use Rattle.painting.proofs.Chains.{Linking, linking-back, linking-end, linking-start}
-use Rattle.planning.proofs.Formed.{formed-of}
-use Rattle.graph.proofs.Rows.{given-listed}
-use mathlib.Core.Path.{refl}
 use native.Mathlib.Omega.{arith}
+use Rattle.painting.proofs.Chains.{Linking, linking-start, linking-loaded, linking-below, linking-back, linking-long, linking-end}
+use borrow.Author.Needs.{needs}
 use Rattle.painting.proofs.link_all.Statement.{statement}
 use Rattle.painting.proofs.link_all.Tie as tie
 
+-- The heads have the first action from i on that sets each black fact, and each such action has the next one behind it.
 abbrev Inv-loop : tie.InvT-loop
-Inv-loop bytes table paint acts head₀ chain₀ i₀ head chain i = Linking bytes head chain i
+Inv-loop task₀ paint i₀ n task i = Linking task₀ task i
 
 abbrev μ-loop : tie.MeasureT-loop
-μ-loop bytes table paint acts head₀ chain₀ i₀ head chain i = i
+μ-loop task₀ paint i₀ n task i = i
+
+actions-requires : tie.Need-actions-requires Inv-loop μ-loop
+actions-requires c κs = search needs
+
+variables-requires : tie.Need-variables-requires Inv-loop μ-loop
+variables-requires c κs = search needs
+
+mul-unlink : tie.Need-mul-unlink Inv-loop μ-loop
+mul-unlink c = search needs
+
+unlink-requires : tie.Need-unlink-requires Inv-loop μ-loop
+unlink-requires c κs = let v = c .before in let p = v .before .before .before .before .before .pre in (omega (arith, v .variables .ensures, p .loaded .formed .variables-max), p .loaded .head)
 
 loop-holds : tie.Need-loop-holds Inv-loop μ-loop
-loop-holds c = let p = c .before .before .pre in linking-start _ _ _ _ (p .0) (p .1) _ _ _ (p .2) (p .3) refl
+loop-holds c =
+    let u = c .before .before in
+    let v = u .before .before in
+    let a = v .before .before in
+    let p = a .before .before .before .pre in
+    linking-start _ _ _ p _ (u .unlink .ensures) _ (v .variables .ensures) (a .actions .ensures)
 
 sub-i : tie.Need-sub-i Inv-loop μ-loop
-sub-i c = omega arith
+sub-i c = search needs
 
 link-requires : tie.Need-link-requires Inv-loop μ-loop
-link-requires c κs = let l = c .before .before .before in let p = l .before .before .before .pre in let i = l .loop .inv in (given-listed _ _ _ _ (p .0) _ (omega (arith, i .within, p .0 .all)), omega (arith, i .within, formed-of _ (p .0 .accepted) .actions-max))
+link-requires c κs =
+    let l = c .before .before in
+    let u = l .before .before .before in
+    let v = u .before .before in
+    let a = v .before .before in
+    let p = a .before .before .before .pre in
+    (linking-loaded _ _ _ p _ (u .unlink .ensures) _ _ (l .loop .inv), linking-below _ _ _ p _ (u .unlink .ensures) _ _ (l .loop .inv) (omega arith))
 
 loop-less : tie.Need-loop-less Inv-loop μ-loop
-loop-less c = omega arith
+loop-less c = search needs
 
 loop-again : tie.Need-loop-again Inv-loop μ-loop
-loop-again c = let l = c .before .before .before .before in let p = l .before .before .before .pre in linking-back _ _ _ _ (p .0) (p .1) _ _ _ (l .loop .inv) (omega arith) _ _ (c .link .ensures)
+loop-again c =
+    let l = c .before .before .before .before .before in
+    let u = l .before .before .before in
+    let v = u .before .before in
+    let a = v .before .before in
+    let p = a .before .before .before .pre in
+    linking-back _ _ _ p _ (u .unlink .ensures) _ _ (l .loop .inv) (omega arith) _ (c .before .before .link .ensures)
+
+same-length : tie.Need-same-length Inv-loop μ-loop
+same-length c =
+    let l = c .before in
+    let u = l .before .before .before in
+    let v = u .before .before in
+    let a = v .before .before in
+    let p = a .before .before .before .pre in
+    linking-long _ _ _ p _ (u .unlink .ensures) _ _ (l .loop .inv)
 
 returns : tie.Need-returns Inv-loop μ-loop
-returns c = let p = c .before .before .before .before .pre in linking-end _ _ _ _ (p .0) (p .1) _ _ _ (c .before .loop .inv) (omega arith)
+returns c =
+    let l = c .before in
+    let u = l .before .before .before in
+    let v = u .before .before in
+    let a = v .before .before in
+    let p = a .before .before .before .pre in
+    linking-end _ _ _ p _ (u .unlink .ensures) _ _ (l .loop .inv) (omega arith)
 
 pub link-all-spec : {M : Type 1} → statement M
 link-all-spec =
     tie.close
-    (tie.spec Inv-loop μ-loop loop-holds sub-i link-requires loop-less loop-again returns)
+    (tie.spec
+    Inv-loop
+    μ-loop
+    actions-requires
+    variables-requires
+    mul-unlink
+    unlink-requires
+    loop-holds
+    sub-i
+    link-requires
+    loop-less
+    loop-again
+    same-length
+    returns)

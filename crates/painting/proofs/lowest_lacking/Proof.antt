@@ -1,37 +1,48 @@
-use Rattle.painting.proofs.Arcs.{Scanning, scanning-start, scanning-turn, scanning-hit, scanning-end}
-use Rattle.painting.proofs.Marks.{unmarked-start}
-use Rattle.planning.specs.Record.{taskOf}
 use Prim.Native.Nat.{_-_}
 use native.Mathlib.Omega.{arith}
+use Rattle.task.specs.Task.{taskIn}
+use Rattle.painting.proofs.Marks.{unmarked-start}
+use Rattle.painting.proofs.Arcs.{Scanning, scanning-start, scanning-turn, scanning-hit, scanning-end}
+use borrow.Author.Needs.{needs}
 use Rattle.painting.proofs.lowest_lacking.Statement.{statement}
 use Rattle.painting.proofs.lowest_lacking.Tie as tie
 
+-- No action below i lacks a return, and no fact is marked by an action from i on.
 abbrev Inv-loop : tie.InvT-loop
-Inv-loop bytes table paint acts head chain marks₀ i₀ marks i = Scanning (taskOf bytes) acts marks i
+Inv-loop task paint n marks₀ last₀ i₀ marks last i = Scanning (taskIn task) n marks i
 
 abbrev μ-loop : tie.MeasureT-loop
-μ-loop bytes table paint acts head chain marks₀ i₀ marks i = acts - i
+μ-loop task paint n marks₀ last₀ i₀ marks last i = n - i
+
+actions-requires : tie.Need-actions-requires Inv-loop μ-loop
+actions-requires c κs = search needs
 
 loop-holds : tie.Need-loop-holds Inv-loop μ-loop
-loop-holds c = let p = c .before .before .pre in scanning-start _ _ (p .1) _ unmarked-start
+loop-holds c = scanning-start _ _ (c .actions .ensures) _ unmarked-start
 
 is-lacking-requires : tie.Need-is-lacking-requires Inv-loop μ-loop
-is-lacking-requires c κs = let l = c .before .before in let p = l .before .before .before .pre in (p .0, omega (arith, p .1), l .loop .inv .unmarked)
+is-lacking-requires c κs = let l = c .before .before .before in let a = l .before in let p = a .before .before .pre in (p .0, p .1, omega (arith, a .actions .ensures), l .loop .inv .unmarked)
 
 returns : tie.Need-returns Inv-loop μ-loop
-returns c = let l = c .before .before .before .before in let p = l .before .before .before .pre in scanning-hit _ _ (p .1) _ _ (l .loop .inv) _ _ (c .before .is-lacking .ensures) (omega arith) (c .if1 .taken)
+returns c =
+    let r = c .before in
+    let l = r .before .before .before .before in
+    scanning-hit _ _ (l .before .actions .ensures) _ _ (l .loop .inv) _ _ (r .is-lacking .ensures) (omega arith) (c .if1 .taken)
 
 add-i : tie.Need-add-i Inv-loop μ-loop
-add-i c = omega arith
+add-i c = search needs
 
 loop-less : tie.Need-loop-less Inv-loop μ-loop
-loop-less c = omega arith
+loop-less c = search needs
 
 loop-again : tie.Need-loop-again Inv-loop μ-loop
-loop-again c = let l = c .before .before .before .before in let p = l .before .before .before .pre in scanning-turn _ _ (p .1) _ _ (l .loop .inv) _ _ (c .before .is-lacking .ensures) (omega arith) (c .if1 .left)
+loop-again c =
+    let r = c .before in
+    let l = r .before .before .before .before in
+    scanning-turn _ _ (l .before .actions .ensures) _ _ (l .loop .inv) _ _ (r .is-lacking .ensures) (omega arith) (c .if1 .left)
 
 returns-2 : tie.Need-returns-2 Inv-loop μ-loop
-returns-2 c = let p = c .before .before .before .before .pre in scanning-end _ _ (p .1) _ _ (c .before .loop .inv) (omega arith)
+returns-2 c = let l = c .before in scanning-end _ _ (l .before .actions .ensures) _ _ (l .loop .inv) (omega arith)
 
 pub lowest-lacking-spec : {M : Type 1} → statement M
 lowest-lacking-spec =
@@ -39,6 +50,7 @@ lowest-lacking-spec =
     (tie.spec
     Inv-loop
     μ-loop
+    actions-requires
     loop-holds
     is-lacking-requires
     returns

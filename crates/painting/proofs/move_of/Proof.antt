@@ -1,49 +1,69 @@
-use Rattle.painting.proofs.Walks.{Walking, walking-start, walking-turn, walking-hit, walking-end, walking-small, move-hit, move-skip, move-none}
-use Rattle.painting.specs.Chains.{moveOf}
-use Rattle.state.specs.Sets.{inSet, modeOf}
-use borrow.Author.Tests.{eq-eqb, ne-eqb}
+use mathlib.Core.Path.{sym, _∙_}
 use Prim.Native.Nat.{ℕ, _-_}
 use native.Mathlib.Omega.{arith}
+use Rattle.planning.specs.Runs.{act}
+use Rattle.task.specs.Task.{taskIn}
+use Rattle.state.specs.Sets.{modeOf}
+use Rattle.state.proofs.Listing.{loaded-listed}
+use Rattle.graph.proofs.Rows.{listed-effects}
+use Rattle.painting.specs.Chains.{moveOf}
+use Rattle.painting.proofs.Walks.{Walking, walking-start, walking-turn, walking-hit, walking-end, walking-small, eff-facts, move-hit, move-skip, move-none}
+use borrow.Author.Needs.{needs}
 use Rattle.painting.proofs.move_of.Statement.{statement}
 use Rattle.painting.proofs.move_of.Tie as tie
 
+-- The move of all effects is the move of those from place k on: the ones passed are of red variables.
 abbrev Inv-loop : tie.InvT-loop
-Inv-loop table from to paint k₀ k = Walking ℕ (moveOf (modeOf paint)) table from to k
+Inv-loop task i paint end k₀ k = Walking ℕ (moveOf (modeOf paint)) (act (taskIn task) i .eff) task end k
 
 abbrev μ-loop : tie.MeasureT-loop
-μ-loop table from to paint k₀ k = to - k
+μ-loop task i paint end k₀ k = end - k
+
+eff-end-requires : tie.Need-eff-end-requires Inv-loop μ-loop
+eff-end-requires c κs = search needs
+
+eff-start-requires : tie.Need-eff-start-requires Inv-loop μ-loop
+eff-start-requires c κs = search needs
 
 loop-holds : tie.Need-loop-holds Inv-loop μ-loop
-loop-holds c = walking-start _ _ _ _ _ (c .before .pre)
+loop-holds c =
+    let e = c .before in
+    let p = e .before .before .pre in
+    let L = loaded-listed _ (p .0) _ (p .1) in
+    walking-start _ _ _ _ _ _ (listed-effects _ _ L _ _ (c .eff-start .ensures) (e .eff-end .ensures)) (eff-facts _ _ L _ _ (c .eff-start .ensures) (e .eff-end .ensures))
 
 mul-wide : tie.Need-mul-wide Inv-loop μ-loop
-mul-wide c = omega arith
+mul-wide c = search needs
 
 shared-slice-read-wide : tie.Need-shared-slice-read-wide Inv-loop μ-loop
-shared-slice-read-wide c = omega arith
+shared-slice-read-wide c = let l = c .before .before in omega (arith, l .loop .inv .facts .within)
 
 wide-requires : tie.Need-wide-requires Inv-loop μ-loop
-wide-requires c κs = tt
+wide-requires c κs = search needs
 
-shr-if1 : tie.Need-shr-if1 Inv-loop μ-loop
-shr-if1 c = let l = c .before .before .before in let p = l .before .before .pre in let q = walking-small _ _ _ _ _ p _ (l .loop .inv) (omega arith) _ (c .wide .ensures) in omega (arith, q)
+member-requires : tie.Need-member-requires Inv-loop μ-loop
+member-requires c κs = let l = c .before .before .before in let q = walking-small _ _ _ _ _ _ (l .loop .inv) (omega arith) _ (c .wide .ensures) in omega (arith, q)
 
 returns : tie.Need-returns Inv-loop μ-loop
-unfolding inSet
-returns c = let l = c .before .before .before .before in let p = l .before .before .pre in walking-hit _ _ _ _ _ p _ (l .loop .inv) (omega arith) _ (c .before .wide .ensures) _ (move-hit _ _ (eq-eqb _ _ (c .if1 .taken)))
+returns c =
+    let w = c .before .before in
+    let l = w .before .before .before in
+    walking-hit _ _ _ _ _ _ (l .loop .inv) (omega arith) _ (w .wide .ensures) _ (move-hit _ _ (sym (c .before .member .ensures) ∙ c .if1 .taken))
 
 add-k : tie.Need-add-k Inv-loop μ-loop
-add-k c = omega arith
+add-k c = search needs
 
 loop-less : tie.Need-loop-less Inv-loop μ-loop
-loop-less c = omega arith
+loop-less c = search needs
 
 loop-again : tie.Need-loop-again Inv-loop μ-loop
-unfolding inSet
-loop-again c = let l = c .before .before .before .before in let p = l .before .before .pre in walking-turn _ _ _ _ _ p _ (l .loop .inv) (omega arith) _ (c .before .wide .ensures) (move-skip _ _ (ne-eqb _ _ (c .if1 .left)))
+loop-again c =
+    let w = c .before .before in
+    let l = w .before .before .before in
+    walking-turn _ _ _ _ _ _ (l .loop .inv) (omega arith) _ (w .wide .ensures) (move-skip _ _ (sym (c .before .member .ensures) ∙ c .if1 .left))
 
 returns-2 : tie.Need-returns-2 Inv-loop μ-loop
-returns-2 c = walking-end _ _ _ _ _ (c .before .before .before .pre) _ (c .before .loop .inv) (omega arith) _ (move-none _)
+returns-2 c = walking-end _ _ _ _ _ _ (c .before .loop .inv) (omega arith) _ (move-none _)
 
 pub move-of-spec : {M : Type 1} → statement M
 move-of-spec =
@@ -51,11 +71,13 @@ move-of-spec =
     (tie.spec
     Inv-loop
     μ-loop
+    eff-end-requires
+    eff-start-requires
     loop-holds
     mul-wide
     shared-slice-read-wide
     wide-requires
-    shr-if1
+    member-requires
     returns
     add-k
     loop-less

@@ -1,4 +1,4 @@
-use Rattle.graph.specs.Given.{foundOf}
+use Rattle.graph.specs.Graph.{foundOf}
 use Rattle.planning.specs.Basics.{refuseAt}
 use native.Mathlib.Omega.{arith}
 use mathlib.Core.Path.{ap, refl}

@@ -1,12 +1,11 @@
 use mathlib.Core.Path.{refl}
-use Rattle.judge.proofs.Lists.{entries-below}
 use Rattle.planner.proofs.Drafts.{assessed}
 use borrow.Author.Needs.{needs}
 use Rattle.planner.proofs.assess.Statement.{statement}
 use Rattle.planner.proofs.assess.Tie as tie
 
 cost-requires : tie.Need-cost-requires
-cost-requires c κs = let R = c .before .before .before .pre .0 in (R .accepted, R .tabled, entries-below _ _ (R .entries), R .short)
+cost-requires c κs = search needs
 
 cast-sum : tie.Need-cast-sum
 cast-sum c = search needs
@@ -14,11 +13,11 @@ cast-sum c = search needs
 judge-one-requires : tie.Need-judge-one-requires
 judge-one-requires c κs = search needs
 
-cast-t9 : tie.Need-cast-t9
-cast-t9 c = search needs
+cast-t7 : tie.Need-cast-t7
+cast-t7 c = search needs
 
 returns : tie.Need-returns
-returns c = assessed _ _ (c .before .before .before .before .before .pre .0 .accepted) _ _ (c .judge-one .result) refl (c .before .cost .ensures .0) (c .judge-one .ensures)
+returns c = assessed _ (c .before .before .before .before .pre .loaded .formed) _ _ _ (c .judge-one .result) refl (c .before .cost .ensures .0) (c .judge-one .ensures)
 
 pub assess-spec : {M : Type 1} → statement M
-assess-spec = tie.close (tie.spec cost-requires cast-sum judge-one-requires cast-t9 returns)
+assess-spec = tie.close (tie.spec cost-requires cast-sum judge-one-requires cast-t7 returns)

@@ -1,56 +1,61 @@
 use mathlib.Core.Path.{refl}
-use native.Mathlib.Omega.{arith}
-use Rattle.table.proofs.Size.{tableSize-bytes, tableSize-max}
+use mathlib.Core.Bool.{true, false}
+use Rattle.task.proofs.Size.{room-enough}
+use Rattle.planner.proofs.Drafts.{called}
 use borrow.Author.Needs.{needs}
 use Rattle.planner.proofs.plan_accepted.Statement.{statement}
 use Rattle.planner.proofs.plan_accepted.Tie as tie
 
+is-short-requires : tie.Need-is-short-requires
+is-short-requires c κs = search needs
+
 slice-aggregate-load : tie.Need-slice-aggregate-load
-slice-aggregate-load c = refl
+slice-aggregate-load c = search needs
 
 load-requires : tie.Need-load-requires
-load-requires c κs = (c .before .before .before .before .before .pre, omega (arith, tableSize-bytes _ (c .before .before .before .before .before .pre)))
+load-requires c κs = (c .before .before .before .before .before .before .before .pre, room-enough _ _ (c .before .before .is-short .result) true (c .before .before .is-short .ensures) (c .before .if1 .taken) refl)
 
 slice-aggregate-plan-loaded : tie.Need-slice-aggregate-plan-loaded
-slice-aggregate-plan-loaded c = omega arith
+slice-aggregate-plan-loaded c = search needs
 
 plan-loaded-requires : tie.Need-plan-loaded-requires
 plan-loaded-requires c κs = search needs
 
 same-length : tie.Need-same-length
-same-length c = omega arith
+same-length c = search needs
 
 same-length-2 : tie.Need-same-length-2
-same-length-2 c = omega arith
+same-length-2 c = search needs
 
 returns : tie.Need-returns
-returns c = search needs
+returns c = called (c .before .before .before .before .before .before .before .before .before .before .before .before .before .before .before .before .before .before .args .given) (c .before .before .before .before .before .before .before .before .before .before .before .before .before .before .before .before .before .before .args .bytes .now) _ (c .before .before .before .before .before .before .before .before .before .before .load .ensures .1) _ _ _ _ (c .before .before .before .before .before .before .before .before .before .before .before .before .before .before .before .before .before .before .pre) (c .before .before .before .before .before .plan-loaded .ensures)
 
 slice-aggregate-load-2 : tie.Need-slice-aggregate-load-2
-slice-aggregate-load-2 c = refl
+slice-aggregate-load-2 c = search needs
 
 load-requires-2 : tie.Need-load-requires-2
-load-requires-2 c κs = (c .before .before .before .before .before .pre, tableSize-max _ (c .before .before .before .before .before .pre))
+load-requires-2 c κs = (c .before .before .before .before .before .before .before .pre, room-enough _ _ (c .before .before .is-short .result) false (c .before .before .is-short .ensures) (c .before .if1 .left) refl)
 
 slice-aggregate-plan-loaded-2 : tie.Need-slice-aggregate-plan-loaded-2
-slice-aggregate-plan-loaded-2 c = omega arith
+slice-aggregate-plan-loaded-2 c = search needs
 
 plan-loaded-requires-2 : tie.Need-plan-loaded-requires-2
 plan-loaded-requires-2 c κs = search needs
 
 same-length-3 : tie.Need-same-length-3
-same-length-3 c = omega arith
+same-length-3 c = search needs
 
 same-length-4 : tie.Need-same-length-4
-same-length-4 c = omega arith
+same-length-4 c = search needs
 
 returns-2 : tie.Need-returns-2
-returns-2 c = search needs
+returns-2 c = called (c .before .before .before .before .before .before .before .before .before .before .before .before .before .before .before .before .before .before .args .given) (c .before .before .before .before .before .before .before .before .before .before .before .before .before .before .before .before .before .before .args .bytes .now) _ (c .before .before .before .before .before .before .before .before .before .before .load2 .ensures .1) _ _ _ _ (c .before .before .before .before .before .before .before .before .before .before .before .before .before .before .before .before .before .before .pre) (c .before .before .before .before .before .plan-loaded2 .ensures)
 
 pub plan-accepted-spec : {M : Type 1} → statement M
 plan-accepted-spec =
     tie.close
     (tie.spec
+    is-short-requires
     slice-aggregate-load
     load-requires
     slice-aggregate-plan-loaded

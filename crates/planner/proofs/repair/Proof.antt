@@ -2,12 +2,13 @@ use mathlib.Core.Path.{ap, _∙_}
 use lib.ListN.{length}
 use Rattle.planning.specs.Calls.{workList}
 use Rattle.planner.proofs.Settled.{repair-settled}
+use Rattle.planner.proofs.Drafts.{repair-called}
 use borrow.Author.Needs.{needs}
 use Rattle.planner.proofs.repair.Statement.{statement}
 use Rattle.planner.proofs.repair.Tie as tie
 
-repair-checked-requires : tie.Need-repair-checked-requires
-repair-checked-requires c κs = tt
+plan-checked-requires : tie.Need-plan-checked-requires
+plan-checked-requires c κs = tt
 
 finish-requires : tie.Need-finish-requires
 finish-requires c κs = tt
@@ -20,16 +21,14 @@ same-length-2 c = search needs
 
 returns : tie.Need-returns
 returns c =
-    let at-finish = c .before .before .before .before in
-    let at-work = at-finish .before .before .before .before in
-    let at-repair-checked = at-work .before .before .before in
-    let at-start = at-repair-checked .before .before .before .before .before .before .before in
-    let a = at-start .args in
-    let D = at-repair-checked .repair-checked .ensures in
-    let E = at-finish .finish .ensures in
-    let S = repair-settled (a .bytes .now) (a .list .now) (length (a .plan .now)) (length (a .work .now)) _ (at-work .before .before .plan .given) _ D _ (E .0) in
-    (D .answer, (S .0, (E .1 ∙ ap workList (at-work .work .given), S .1)))
+    let a = c .before .before .before .before .before .before .before .before .before .before .before .before .before .before .before .before .before .before .args in
+    let n = length (a .plan .now) in
+    let w = length (a .work .now) in
+    let D = repair-called (a .bytes .now) (a .list .now) n w _ _ (c .before .before .before .before .before .before .before .before .before .before .before .plan-checked .ensures) in
+    let E = c .before .before .before .before .finish .ensures in
+    let S = repair-settled (a .bytes .now) (a .list .now) n w _ (c .before .before .before .before .before .before .before .before .before .before .plan .given) _ D _ (E .0) in
+    (D .answer, (S .0, (E .1 ∙ ap workList (c .before .before .before .before .before .before .before .before .work .given), S .1)))
 
 pub repair-spec : {M : Type 1} → statement M
 repair-spec =
-    tie.close (tie.spec repair-checked-requires finish-requires same-length same-length-2 returns)
+    tie.close (tie.spec plan-checked-requires finish-requires same-length same-length-2 returns)

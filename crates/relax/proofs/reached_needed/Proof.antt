@@ -1,4 +1,4 @@
-use mathlib.Core.Path.{_≡_, refl, sym, ap, _∙_}
+use mathlib.Core.Path.{_≡_, sym, ap, _∙_}
 use Prim.Native.Nat.{_-_, _≤_}
 use native.Mathlib.Omega.{arith}
 use borrow.Author.Needs.{needs}
@@ -18,7 +18,7 @@ use Rattle.relax.proofs.reached_needed.Tie as tie
 abbrev Inv-loop : tie.InvT-loop
 Inv-loop needed first task i to k₀ k =
     (to ≡ endAt task i) × (effAt task i ≤ k) × (k ≤ to)
-    × (reachedNeeded (byOf first) (setsOf needed) i (factsIn task (effAt task i) (endAt task i)) ≡ reachedNeeded (byOf first) (setsOf needed) i (factsIn task k (endAt task i)))
+    × (reachedNeeded (byOf first) (setsOf needed) i (act (taskIn task) i .eff) ≡ reachedNeeded (byOf first) (setsOf needed) i (factsIn task k (endAt task i)))
 
 abbrev μ-loop : tie.MeasureT-loop
 μ-loop needed first task i to k₀ k = to - k
@@ -29,15 +29,6 @@ start c = c .before .before .before .before
 listed : (c : tie.At-loop Inv-loop μ-loop) → Listed (start c .args .task .now) (start c .args .i)
 listed c = loaded-listed _ (start c .pre .0) _ (start c .pre .1)
 
--- the test over the facts by their places is the one over the effects
-whole : (c : tie.At-loop Inv-loop μ-loop) → let a = start c .args in
-    reachedNeeded (byOf (a .first .now)) (setsOf (a .needed .now)) (a .i) (factsIn (a .task .now) (effAt (a .task .now) (a .i)) (endAt (a .task .now) (a .i)))
-    ≡ reachedNeeded (byOf (a .first .now)) (setsOf (a .needed .now)) (a .i) (act (taskIn (a .task .now)) (a .i) .eff)
-unfolding actionIn
-whole c =
-    let a = start c .args in
-    ap (λ (x : Action). reachedNeeded (byOf (a .first .now)) (setsOf (a .needed .now)) (a .i) (x .eff)) (listed c .states)
-
 eff-end-requires : tie.Need-eff-end-requires Inv-loop μ-loop
 eff-end-requires c κs = search needs
 
@@ -45,12 +36,15 @@ eff-start-requires : tie.Need-eff-start-requires Inv-loop μ-loop
 eff-start-requires c κs = search needs
 
 loop-holds : tie.Need-loop-holds Inv-loop μ-loop
+unfolding actionIn
 loop-holds c =
-    let p = c .before .before .before .pre in
-    let L = loaded-listed _ (p .0) _ (p .1) in
+    let at-start = c .before .before .before in
+    let a = at-start .args in
+    let L = loaded-listed _ (at-start .pre .0) _ (at-start .pre .1) in
     let to = c .before .eff-end .ensures in
     let from = c .eff-start .ensures in
-    (to, omega (arith, from), omega (arith, from, to, L .eff-below), rw from refl)
+    let effects = ap (λ (x : Action). reachedNeeded (byOf (a .first .now)) (setsOf (a .needed .now)) (a .i) (x .eff)) (sym (L .states)) in
+    (to, omega (arith, from), omega (arith, from, to, L .eff-below), rw from effects)
 
 mul-wide : tie.Need-mul-wide Inv-loop μ-loop
 mul-wide c = record { fits = omega (arith, listed (c .before) .end-below, c .before .loop .inv .0) }
@@ -75,7 +69,7 @@ returns c =
     let a = start head .args in
     let I = head .loop .inv in
     reachedNeeded-hit (byOf (a .first .now)) (setsOf (a .needed .now)) (a .i) (a .task .now) _ _ (omega (arith, I .0)) (listed head .end-below) _ (at-wide .wide .ensures)
-    (sym (c .if1 .taken) ∙ c .before .first-needed .ensures) ∙ sym (I .3) ∙ whole head
+    _ (c .before .first-needed .ensures) (c .if1 .taken) ∙ sym (I .3)
 
 add-k : tie.Need-add-k Inv-loop μ-loop
 add-k c = search needs
@@ -90,7 +84,7 @@ loop-again c =
     let a = start head .args in
     let I = head .loop .inv in
     let step = reachedNeeded-miss (byOf (a .first .now)) (setsOf (a .needed .now)) (a .i) (a .task .now) _ _ (omega (arith, I .0)) (listed head .end-below) _ (at-wide .wide .ensures)
-    (sym (c .if1 .left) ∙ c .before .first-needed .ensures) in
+    _ (c .before .first-needed .ensures) (c .if1 .left) in
     (I .0, omega (arith, I .1), omega arith, I .3 ∙ step)
 
 returns-2 : tie.Need-returns-2 Inv-loop μ-loop
@@ -98,7 +92,7 @@ returns-2 c =
     let head = c .before in
     let a = start head .args in
     let I = head .loop .inv in
-    reachedNeeded-end (byOf (a .first .now)) (setsOf (a .needed .now)) (a .i) (a .task .now) _ _ (omega (arith, I .0, I .2)) ∙ sym (I .3) ∙ whole head
+    reachedNeeded-end (byOf (a .first .now)) (setsOf (a .needed .now)) (a .i) (a .task .now) _ _ (omega (arith, I .0, I .2)) ∙ sym (I .3)
 
 pub reached-needed-spec : {M : Type 1} → statement M
 reached-needed-spec =

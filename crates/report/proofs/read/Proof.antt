@@ -1,3 +1,4 @@
+-- What was read stands in front; each turn reads into the rest.
 use lib.Seq.{length-take-le}
 use borrow.Author.Needs.{needs}
 use mathlib.Core.Path.{_≡_, sym}

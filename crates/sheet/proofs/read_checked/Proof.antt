@@ -5,7 +5,7 @@ use native.Mathlib.Omega.{arith}
 use Rattle.planning.specs.Basics.{done}
 use Rattle.planning.specs.Calls.{Read}
 use Rattle.planning.specs.Sheet.{sheetCheck, stepsIn}
-use Rattle.bits.proofs.Stages.{answer-done}
+use Rattle.answers.proofs.Stages.{answer-done}
 use Rattle.sheet.proofs.Checks.{accepted, read-refused, over-list, reads}
 use Rattle.sheet.proofs.read_checked.Statement.{statement}
 use Rattle.sheet.proofs.read_checked.Tie as tie

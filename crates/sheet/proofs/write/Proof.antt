@@ -15,7 +15,8 @@ use Rattle.sheet.proofs.Promises.{write-refused, write-done}
 use Rattle.sheet.proofs.Writing.{sheet-written}
 use Rattle.sheet.proofs.write.Statement.{statement}
 use Rattle.sheet.proofs.write.Tie as tie
-use Rattle.sheet.specs.Answers.{sheet, writtenAs}
+use Rattle.sheet.specs.Answers.{sheet}
+use Rattle.answers.specs.Answers.{valueOf}
 
 abbrev known-told-to-start : tie.After-known-told → tie.Start
 known-told-to-start c = c .before .before .before .before .before .before
@@ -36,19 +37,17 @@ same-length : tie.Need-same-length
 same-length c = omega arith
 
 returns : tie.Need-returns
-unfolding writtenAs
 returns c =
     let at-enum-told = c .before .before .before .before in
     let at-start = at-enum-told .before .before .before .before .before in
     let o = at-start .args in
     let w = at-enum-told .before .before .size-for .ensures (o .cost) (o .real) in
-    let t = sym w ∙ ap writtenAs (at-enum-told .enum-told .given .1) in
+    let t = sym w ∙ ap valueOf (at-enum-told .enum-told .given .1) in
     let p = write-refused (sheet (o .list .now) (o .cost) (o .real)) (length (o .bytes .now)) _ _ _ t (c .before .before .clear .ensures) in
     (w, (p .0, λ n h. p .1 n (sym w ∙ h)))
 
 called : (c : tie.After-known-told) → writeCall (sheet ((known-told-to-start c) .args .list .now) ((known-told-to-start c) .args .cost) ((known-told-to-start c) .args .real)) (length ((known-told-to-start c) .args .bytes .now)) ≡ done (c .before .a .given .0 .0)
-unfolding writtenAs
-called c = sym (c .before .before .before .size-for .ensures ((known-told-to-start c) .args .cost) ((known-told-to-start c) .args .real)) ∙ ap writtenAs (c .before .a .given .1)
+called c = sym (c .before .before .before .size-for .ensures ((known-told-to-start c) .args .cost) ((known-told-to-start c) .args .real)) ∙ ap valueOf (c .before .a .given .1)
 
 fit : (c : tie.After-known-told) → Fitting (sheet ((known-told-to-start c) .args .list .now) ((known-told-to-start c) .args .cost) ((known-told-to-start c) .args .real)) (length ((known-told-to-start c) .args .bytes .now)) (c .before .a .given .0 .0)
 fit c = fitting _ _ _ (called c)
@@ -82,7 +81,6 @@ same-length-2 : tie.Need-same-length-2
 same-length-2 c = omega arith
 
 returns-2 : tie.Need-returns-2
-unfolding writtenAs
 returns-2 c =
     let at-write-steps = c .before .before .before .before .before .before in
     let at-write-bits = at-write-steps .before .before .before .before in

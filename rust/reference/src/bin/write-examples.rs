@@ -1,4 +1,4 @@
-//! Writes the store examples of document 01 as records into the folder named.
+//! Writes the examples of clause 12 as records into the folder named.
 
 use std::fs;
 use std::path::PathBuf;

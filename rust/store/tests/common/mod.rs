@@ -2,12 +2,14 @@
 #![allow(dead_code)]
 
 use std::fs;
-use std::path::PathBuf;
+use std::path::{Path, PathBuf};
+use std::process::{Command, Output};
+use std::sync::atomic::{AtomicUsize, Ordering};
 
 use reference::{Fact, Task, Variable};
 use store::{parse, Store};
 
-pub const EXAMPLES: [&str; 8] = [
+pub const EXAMPLES: [&str; 10] = [
     "two-shelves",
     "two-shelves-without-1",
     "two-shelves-without-2",
@@ -16,6 +18,8 @@ pub const EXAMPLES: [&str; 8] = [
     "two-black-effects",
     "goal-met",
     "tray",
+    "door",
+    "lit-return",
 ];
 
 pub fn path(name: &str, extension: &str) -> PathBuf {
@@ -29,6 +33,65 @@ pub fn example_text(name: &str) -> String {
 
 pub fn example(name: &str) -> Store {
     parse(&example_text(name)).unwrap()
+}
+
+/// A folder for one test, removed at its end.
+pub struct Folder(PathBuf);
+
+impl Folder {
+    pub fn new() -> Self {
+        static COUNT: AtomicUsize = AtomicUsize::new(0);
+        let number = COUNT.fetch_add(1, Ordering::Relaxed);
+        let name = format!("store-{}-{number}", std::process::id());
+        let folder = std::env::temp_dir().join(name);
+        fs::create_dir(&folder).unwrap();
+        Folder(folder)
+    }
+
+    /// A folder with some examples in it.
+    pub fn with(names: &[&str]) -> Self {
+        let folder = Folder::new();
+        for name in names {
+            let (stem, extension) = name.split_once('.').unwrap();
+            fs::copy(path(stem, extension), folder.path().join(name)).unwrap();
+        }
+        folder
+    }
+
+    pub fn path(&self) -> &Path {
+        &self.0
+    }
+
+    pub fn write(&self, name: &str, bytes: impl AsRef<[u8]>) {
+        fs::write(self.0.join(name), bytes).unwrap();
+    }
+
+    pub fn read(&self, name: &str) -> Vec<u8> {
+        fs::read(self.0.join(name)).unwrap()
+    }
+
+    /// Runs a line of shell in the folder, with the tool in reach.
+    pub fn shell(&self, line: &str) -> Output {
+        let tool = Path::new(env!("CARGO_BIN_EXE_store")).parent().unwrap().to_owned();
+        let others = std::env::var_os("PATH").unwrap_or_default();
+        let folders = std::iter::once(tool).chain(std::env::split_paths(&others));
+        let mut command = Command::new("sh");
+        command.arg("-c").arg(line).current_dir(&self.0);
+        command.env("PATH", std::env::join_paths(folders).unwrap()).output().unwrap()
+    }
+
+    /// Status, standard output and standard error of a line of shell.
+    pub fn run(&self, line: &str) -> (i32, String, String) {
+        let output = self.shell(line);
+        let text = |bytes: Vec<u8>| String::from_utf8(bytes).unwrap();
+        (output.status.code().unwrap(), text(output.stdout), text(output.stderr))
+    }
+}
+
+impl Drop for Folder {
+    fn drop(&mut self) {
+        let _ = fs::remove_dir_all(&self.0);
+    }
 }
 
 pub struct Random(u64);
@@ -139,4 +202,41 @@ fn push_move(task: &mut Task, outside: &[Fact], from: Fact, to: Fact) {
 
 pub fn unnamed(task: &Task) -> Store {
     Store::from_record(&reference::record::write(task)).unwrap()
+}
+
+/// Checks that tags are balanced, attributes quoted, and no stray `<` or `&` is left.
+pub fn well_formed(text: &str) {
+    let mut open = Vec::new();
+    for part in without_comments(text).split('<').skip(1) {
+        let (tag, content) = part.split_once('>').expect("a tag ends");
+        assert!(!content.contains('>'), "{part}");
+        if !tag.starts_with(['?', '!']) {
+            check_entities(content);
+            check_tag(tag, &mut open);
+        }
+    }
+    assert!(open.is_empty(), "{open:?}");
+}
+
+fn without_comments(text: &str) -> String {
+    let mut parts = text.split("<!--");
+    let first = parts.next().unwrap_or("").to_owned();
+    parts.fold(first, |text, part| text + part.split_once("-->").expect("a comment ends").1)
+}
+
+fn check_tag(tag: &str, open: &mut Vec<String>) {
+    assert_eq!(tag.matches('"').count() % 2, 0, "{tag}");
+    assert_eq!(tag.matches("=\"").count() * 2, tag.matches('"').count(), "{tag}");
+    match tag.strip_prefix('/') {
+        Some(closed) => assert_eq!(open.pop().as_deref(), Some(closed)),
+        None if tag.ends_with('/') => {}
+        None => open.push(tag.split([' ', '/', '\n']).next().unwrap().to_owned()),
+    }
+}
+
+fn check_entities(content: &str) {
+    for entity in content.split('&').skip(1) {
+        let known = ["amp;", "lt;", "gt;", "quot;", "#"];
+        assert!(known.iter().any(|known| entity.starts_with(known)), "{entity}");
+    }
 }

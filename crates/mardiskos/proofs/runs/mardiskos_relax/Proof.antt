@@ -1,6 +1,6 @@
 use mathlib.Core.Path.{refl, sym, ap, _∙_}
 use Rattle.planning.specs.Basics.{code}
-use Rattle.relax.specs.Answers.{relaxedOf}
+use Rattle.answers.specs.Answers.{valueOf}
 use Rattle.mardiskos.specs.Runs.{relaxedPlanOf}
 use borrow.Author.Needs.{needs}
 use Rattle.mardiskos.proofs.runs.mardiskos_relax.Statement.{statement}
@@ -15,21 +15,21 @@ enum-known-a c = search needs
 enum-told : tie.Need-enum-told
 enum-told c = search needs
 
-relaxed-code-requires : tie.Need-relaxed-code-requires
-relaxed-code-requires c κs = search needs
+number-code-requires : tie.Need-number-code-requires
+number-code-requires c κs = search needs
 
 same-length : tie.Need-same-length
 same-length c = search needs
 
 returns : tie.Need-returns
 unfolding code
-returns c = let z = c .before .before .before .before .before .relax .ensures in (rw (← z .0, c .relaxed-code .ensures, c .before .enum-told .given .1) refl, z .1)
+returns c = let z = c .before .before .before .before .before .relax .ensures in (rw (← z .0, c .number-code .ensures, c .before .enum-told .given .1) refl, z .1)
 
 same-length-2 : tie.Need-same-length-2
 same-length-2 c = search needs
 
 returns-2 : tie.Need-returns-2
-returns-2 c = let z = c .before .before .before .before .before .relax .ensures in (ap (λ x. relaxedPlanOf (relaxedOf x)) (sym (c .before .a .given .1)) ∙ ap relaxedPlanOf (z .0), z .1)
+returns-2 c = let z = c .before .before .before .before .before .relax .ensures in (ap (λ x. relaxedPlanOf (valueOf x)) (sym (c .before .a .given .1)) ∙ ap relaxedPlanOf (z .0), z .1)
 
 pub mardiskos-relax-spec : {M : Type 1} → statement M
 mardiskos-relax-spec =
@@ -38,7 +38,7 @@ mardiskos-relax-spec =
     relax-requires
     enum-known-a
     enum-told
-    relaxed-code-requires
+    number-code-requires
     same-length
     returns
     same-length-2

@@ -7,7 +7,8 @@ use Rattle.mardiskos.proofs.Codes.{written-zero}
 use Rattle.mardiskos.proofs.sheets.mardiskos_write_sheet.Statement.{statement}
 use Rattle.mardiskos.proofs.sheets.mardiskos_write_sheet.Tie as tie
 use Rattle.mardiskos.specs.Results.{sizeIn}
-use Rattle.sheet.specs.Answers.{sheet, writtenAs}
+use Rattle.sheet.specs.Answers.{sheet}
+use Rattle.answers.specs.Answers.{valueOf}
 
 write-requires : tie.Need-write-requires
 write-requires c κs = search needs
@@ -18,27 +19,27 @@ enum-known-a c = search needs
 enum-told : tie.Need-enum-told
 enum-told c = search needs
 
-written-code-requires : tie.Need-written-code-requires
-written-code-requires c κs = search needs
+number-code-requires : tie.Need-number-code-requires
+number-code-requires c κs = search needs
 
 same-length : tie.Need-same-length
 same-length c = search needs
 
 returns : tie.Need-returns
-unfolding writtenAs sizeIn
+unfolding sizeIn
 returns c = let w = c .before .before .before .before .before .write .ensures in
-    let t = sym (w .0) ∙ ap writtenAs (c .before .enum-told .given .1) in
-    let v = c .written-code .ensures ∙ ap code (w .0) in
+    let t = sym (w .0) ∙ ap valueOf (c .before .enum-told .given .1) in
+    let v = c .number-code .ensures ∙ ap code (w .0) in
     (v, (sym (ap sizeIn t), (w .1 .0, λ z. absurd (written-zero (sheet (c .before .before .before .before .before .before .before .before .before .args .list .now) (c .before .before .before .before .before .before .before .before .before .args .cost) (c .before .before .before .before .before .before .before .before .before .args .real)) (length (c .before .before .before .before .before .before .before .before .before .args .bytes .now)) _ _ _ t v z))))
 
 same-length-2 : tie.Need-same-length-2
 same-length-2 c = search needs
 
 returns-2 : tie.Need-returns-2
-unfolding writtenAs sizeIn code
+unfolding sizeIn code
 returns-2 c = let w = c .before .before .before .before .before .write .ensures in
-    let t = sym (w .0) ∙ ap writtenAs (c .before .a .given .1) in
-    (sym (ap code t), (sym (ap sizeIn t), (w .1 .0, λ _. w .1 .1 _ (ap writtenAs (c .before .a .given .1)))))
+    let t = sym (w .0) ∙ ap valueOf (c .before .a .given .1) in
+    (sym (ap code t), (sym (ap sizeIn t), (w .1 .0, λ _. w .1 .1 _ (ap valueOf (c .before .a .given .1)))))
 
 pub mardiskos-write-sheet-spec : {M : Type 1} → statement M
 mardiskos-write-sheet-spec =
@@ -47,7 +48,7 @@ mardiskos-write-sheet-spec =
     write-requires
     enum-known-a
     enum-told
-    written-code-requires
+    number-code-requires
     same-length
     returns
     same-length-2

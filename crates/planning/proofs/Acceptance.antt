@@ -1,0 +1,265 @@
+-- The examples of clause 12: one table, proved by one theorem. Each record, the bytes of examples/*.record, states the task that the
+-- clause describes, and the planner is called on it; antt computes the rows. The prover takes files by name, so this one comes before
+-- the laws, and a definition that makes a row false is refused here first.
+use Prim.Native.Nat.{ℕ, zero, suc}
+use mathlib.Core.Path.{_≡_, refl}
+use mathlib.Core.Bool.{Bool, true, false}
+use mathlib.Core.List.{List, [], _∷_}
+use mathlib.Core.Option.{Option, none, some}
+use lib.ListN.{length}
+use Rattle.planning.specs.Basics.{Answer, refused, done, times, check, andThen, inOrder, answer, bitAt, bitsAt, holdsField, someBelow, oneIf}
+use Rattle.planning.specs.Basics.{tally, first, total, refuseAt, reach}
+use Rattle.planning.specs.Record.{Fact, Action, Variable, Task, variablesIn, actionsIn, goalOf, variableAt, variablesAt, factsAt, preconditionsIn}
+use Rattle.planning.specs.Record.{effectsIn, effectsFrom, actionEnd, actionAt, actionsAt, actionsEnd, taskOf, fieldCheck, headerChecks, goalFits}
+use Rattle.planning.specs.Record.{variableChecks, variablesChecks, countIn, factChecks, factsChecks, actionChecks, actionsChecks, endsAt}
+use Rattle.planning.specs.Record.{recordEnd, recordChecks, recordCheck}
+use Rattle.planning.specs.Runs.{has, touches, look, holds, step, variable, act, count, black, initial, goalsFrom, goals, run, runs, stepsRun}
+use Rattle.planning.specs.Runs.{allBelow, isPlan, size, factsIn, costOf}
+use Rattle.planning.specs.Relaxed.{adds, forward, addable, forwardRun, forwardEnd, reachesGoals, factsReached, firstAchiever, is, reachedNeeded, keep, relaxedPlan}
+use Rattle.planning.specs.Painting.{causalArc, blackArc, onCycle, cyclic, fits, leaves, orZero, target, arcFrom, outside, returnBy, lacksReturn}
+use Rattle.planning.specs.Painting.{unreturned, acyclicCheck, returnCheck}
+use Rattle.planning.specs.Repair.{known, union, everAfter, usableArc, adjacent, pathIn, shortest, toward, after, pass, fill, ready, clientsFirst}
+use Rattle.planning.specs.Repair.{order, value, blackMet, moves, repairFrom, repaired}
+use Rattle.planning.specs.Existence.{share, blackProduct}
+use Rattle.planning.specs.Calls.{Planned, lent, capacity, capacityOf, roomCheck, goalsCheck, planned, planOf, planCall, planList}
+
+-- two-shelves, clause 12.3
+unfoldable pub twoShelves : List ℕ
+twoShelves =
+    16 ∷ 64 ∷ 16 ∷ 24 ∷ 16 ∷ 2 ∷ 3 ∷ 0 ∷ 0 ∷ 16 ∷ 68 ∷ 0 ∷ 0 ∷ 4 ∷ 0 ∷ 16 ∷ 68 ∷ 0 ∷ 64 ∷ 0 ∷ 0 ∷ 4 ∷ 132 ∷ 0 ∷ 65 ∷ 4 ∷
+    16 ∷ 128 ∷ 0 ∷ 72 ∷ 64 ∷ 0 ∷ 16 ∷ 129 ∷ 0 ∷ []
+
+-- two-shelves-without-1, 12.5
+unfoldable pub withoutOne : List ℕ
+withoutOne =
+    16 ∷ 64 ∷ 12 ∷ 24 ∷ 16 ∷ 2 ∷ 3 ∷ 0 ∷ 0 ∷ 16 ∷ 68 ∷ 0 ∷ 0 ∷ 4 ∷ 0 ∷ 4 ∷ 132 ∷ 0 ∷ 65 ∷ 4 ∷ 16 ∷ 128 ∷ 0 ∷ 72 ∷ 64 ∷ 0 ∷
+    16 ∷ 129 ∷ 0 ∷ []
+
+-- two-shelves-without-2, 12.6
+unfoldable pub withoutTwo : List ℕ
+withoutTwo =
+    16 ∷ 64 ∷ 12 ∷ 24 ∷ 16 ∷ 2 ∷ 3 ∷ 0 ∷ 0 ∷ 16 ∷ 68 ∷ 0 ∷ 0 ∷ 4 ∷ 0 ∷ 16 ∷ 68 ∷ 0 ∷ 64 ∷ 0 ∷ 0 ∷ 4 ∷ 132 ∷ 0 ∷ 1 ∷ 8 ∷
+    16 ∷ 0 ∷ []
+
+-- lamp-1, 12.7
+unfoldable pub lampOne : List ℕ
+lampOne =
+    16 ∷ 64 ∷ 8 ∷ 24 ∷ 0 ∷ 2 ∷ 0 ∷ 0 ∷ 0 ∷ 4 ∷ 72 ∷ 0 ∷ 0 ∷ 4 ∷ 16 ∷ 64 ∷ 0 ∷ 72 ∷ 64 ∷ 4 ∷ 16 ∷ 64 ∷ 0 ∷ []
+
+-- lamp-2, 12.7
+unfoldable pub lampTwo : List ℕ
+lampTwo =
+    16 ∷ 64 ∷ 8 ∷ 24 ∷ 0 ∷ 2 ∷ 0 ∷ 0 ∷ 0 ∷ 4 ∷ 72 ∷ 0 ∷ 0 ∷ 4 ∷ 16 ∷ 64 ∷ 0 ∷ 72 ∷ 64 ∷ 4 ∷ 16 ∷ 128 ∷ 0 ∷ []
+
+-- two-black-effects, 12.8
+unfoldable pub bothBlack : List ℕ
+bothBlack =
+    16 ∷ 64 ∷ 4 ∷ 24 ∷ 0 ∷ 1 ∷ 128 ∷ 0 ∷ 0 ∷ 4 ∷ 8 ∷ 0 ∷ 65 ∷ 4 ∷ []
+
+-- goal-met, 12.10
+unfoldable pub goalMet : List ℕ
+goalMet =
+    16 ∷ 64 ∷ 16 ∷ 24 ∷ 16 ∷ 2 ∷ 3 ∷ 4 ∷ 0 ∷ 16 ∷ 68 ∷ 0 ∷ 0 ∷ 4 ∷ 0 ∷ 16 ∷ 68 ∷ 0 ∷ 64 ∷ 0 ∷ 0 ∷ 4 ∷ 132 ∷ 0 ∷ 65 ∷ 4 ∷
+    16 ∷ 128 ∷ 0 ∷ 72 ∷ 64 ∷ 0 ∷ 16 ∷ 129 ∷ 0 ∷ []
+
+-- tray, 12.11
+unfoldable pub tray : List ℕ
+tray =
+    16 ∷ 96 ∷ 8 ∷ 16 ∷ 0 ∷ 1 ∷ 1 ∷ 4 ∷ 16 ∷ 16 ∷ 64 ∷ 0 ∷ 72 ∷ 128 ∷ 0 ∷ 16 ∷ 0 ∷ 4 ∷ 16 ∷ 64 ∷ 0 ∷ 72 ∷ 128 ∷ 0 ∷ 32 ∷ 0 ∷
+    4 ∷ 32 ∷ 64 ∷ []
+
+-- door, 12.13
+unfoldable pub door : List ℕ
+door =
+    16 ∷ 96 ∷ 20 ∷ 24 ∷ 16 ∷ 1 ∷ 129 ∷ 0 ∷ 16 ∷ 16 ∷ 64 ∷ 0 ∷ 68 ∷ 64 ∷ 0 ∷ 0 ∷ 64 ∷ 0 ∷ 68 ∷ 64 ∷ 4 ∷ 0 ∷ 0 ∷ 1 ∷ 8 ∷ 64 ∷
+    4 ∷ 16 ∷ 1 ∷ 4 ∷ 0 ∷ 16 ∷ 132 ∷ 0 ∷ 65 ∷ 4 ∷ 16 ∷ 0 ∷ 0 ∷ 140 ∷ 64 ∷ 0 ∷ 16 ∷ 66 ∷ 0 ∷ 32 ∷ 64 ∷ []
+
+-- lit-return, 12.14
+unfoldable pub litReturn : List ℕ
+litReturn =
+    16 ∷ 96 ∷ 20 ∷ 24 ∷ 16 ∷ 65 ∷ 0 ∷ 0 ∷ 32 ∷ 16 ∷ 128 ∷ 0 ∷ 72 ∷ 64 ∷ 0 ∷ 16 ∷ 64 ∷ 4 ∷ 0 ∷ 16 ∷ 68 ∷ 0 ∷ 0 ∷ 4 ∷ 0 ∷
+    16 ∷ 72 ∷ 0 ∷ 64 ∷ 0 ∷ 16 ∷ 64 ∷ 0 ∷ 136 ∷ 64 ∷ 4 ∷ 32 ∷ 2 ∷ 4 ∷ 0 ∷ 8 ∷ 132 ∷ 0 ∷ 2 ∷ 4 ∷ 32 ∷ 128 ∷ []
+
+-- repeated-variable, 12.15
+unfoldable pub repeatedVariable : List ℕ
+repeatedVariable =
+    16 ∷ 32 ∷ 4 ∷ 16 ∷ 0 ∷ 0 ∷ 0 ∷ 64 ∷ 128 ∷ 0 ∷ 0 ∷ 64 ∷ []
+
+-- variables-64 and variables-65, 12.12: the two bytes given, 32 times two red variables of 64 values, and the end given
+unfoldable pub redPairs : ℕ → List ℕ → List ℕ
+redPairs zero end = end
+redPairs (suc n) end = 3 ∷ 240 ∷ 0 ∷ 63 ∷ 0 ∷ redPairs n end
+
+unfoldable pub variables64 : List ℕ
+variables64 = 24 ∷ 0 ∷ redPairs 32 (0 ∷ [])
+
+unfoldable pub variables65 : List ℕ
+variables65 = 24 ∷ 32 ∷ redPairs 32 (3 ∷ 240 ∷ 0 ∷ 0 ∷ [])
+
+-- how a clause writes facts, actions and variables
+abbrev pub fact : ℕ → ℕ → Fact
+fact v d = record { var = v; val = d }
+
+abbrev pub action : ℕ → List Fact → List Fact → Action
+action c p e = record { cost = c; pre = p; eff = e }
+
+abbrev pub blackOne : ℕ → ℕ → Option ℕ → Variable
+blackOne n i g = record { count = n; black = true; init = i; goal = g }
+
+abbrev pub redOne : ℕ → ℕ → Option ℕ → Variable
+redOne n i g = record { count = n; black = false; init = i; goal = g }
+
+abbrev pub task : List Variable → List Action → Task
+task vs l = record { vars = vs; acts = l }
+
+-- two shelves, with the box's goal and the actions
+abbrev pub driveOut : Action
+driveOut = action 4 (fact 0 0 ∷ []) (fact 0 1 ∷ [])
+
+abbrev pub driveBack : Action
+driveBack = action 4 (fact 0 1 ∷ []) (fact 0 0 ∷ [])
+
+abbrev pub pickUp : Action
+pickUp = action 1 (fact 0 1 ∷ fact 1 1 ∷ []) (fact 1 2 ∷ [])
+
+abbrev pub putDown : Action
+putDown = action 1 (fact 0 0 ∷ fact 1 2 ∷ []) (fact 1 0 ∷ [])
+
+abbrev pub shelves : ℕ → List Action → Task
+shelves g l = task (blackOne 2 0 (some 0) ∷ redOne 3 1 (some g) ∷ []) l
+
+-- the lamp, whose return needs it at x
+abbrev pub lamp : ℕ → Task
+lamp x =
+    task (blackOne 2 0 none ∷ redOne 3 0 none ∷ [])
+    (action 1 (fact 0 0 ∷ []) (fact 0 1 ∷ fact 1 1 ∷ []) ∷ action 1 (fact 0 1 ∷ fact 1 x ∷ []) (fact 0 0 ∷ []) ∷ [])
+
+abbrev pub trayTask : Task
+trayTask =
+    task (redOne 2 0 none ∷ redOne 2 0 (some 1) ∷ redOne 2 0 (some 1) ∷ [])
+    (action 1 (fact 0 0 ∷ fact 1 0 ∷ []) (fact 0 1 ∷ fact 1 1 ∷ []) ∷ action 1 (fact 0 0 ∷ fact 2 0 ∷ []) (fact 0 1 ∷ fact 2 1 ∷ []) ∷ [])
+
+abbrev pub doorTask : Task
+doorTask =
+    task (blackOne 2 0 (some 0) ∷ blackOne 2 0 (some 0) ∷ redOne 2 0 (some 1) ∷ [])
+    (action 1 (fact 0 0 ∷ []) (fact 0 1 ∷ []) ∷ action 1 (fact 0 1 ∷ []) (fact 0 0 ∷ [])
+    ∷ action 4 (fact 0 1 ∷ fact 1 0 ∷ []) (fact 1 1 ∷ []) ∷ action 4 (fact 0 1 ∷ fact 1 1 ∷ []) (fact 1 0 ∷ [])
+    ∷ action 2 (fact 0 0 ∷ fact 1 1 ∷ fact 2 0 ∷ []) (fact 2 1 ∷ []) ∷ [])
+
+abbrev pub litTask : Task
+litTask =
+    task (blackOne 2 0 (some 1) ∷ redOne 2 0 none ∷ redOne 3 0 (some 2) ∷ [])
+    (action 1 (fact 0 0 ∷ fact 1 1 ∷ []) (fact 0 1 ∷ []) ∷ action 4 (fact 0 0 ∷ []) (fact 0 1 ∷ [])
+    ∷ action 4 (fact 0 1 ∷ []) (fact 0 0 ∷ fact 1 1 ∷ [])
+    ∷ action 2 (fact 0 1 ∷ fact 2 0 ∷ []) (fact 2 1 ∷ []) ∷ action 2 (fact 0 0 ∷ fact 2 1 ∷ []) (fact 2 2 ∷ []) ∷ [])
+
+-- number, place, steps, the plan list of n entries afterwards, cost, real, steps that run
+pub record Outcome : Type 0 where
+  pub number : ℕ
+  pub place : ℕ
+  pub steps : ℕ
+  pub list : List ℕ
+  pub cost : ℕ
+  pub real : Bool
+  pub runs : ℕ
+
+unfoldable pub outcome : Answer Planned → List ℕ → Outcome
+outcome (refused n p) l = record { number = n; place = p; steps = 0; list = l; cost = 0; real = false; runs = 0 }
+outcome (done x) l = record { number = 0; place = 0; steps = x .steps; list = l; cost = x .cost; real = x .real′; runs = x .runs }
+
+unfoldable pub called : List ℕ → ℕ → Outcome
+called s n = outcome (planCall s n n) (planList s n n)
+
+-- a plan: steps, plan list, cost, real, steps that run
+abbrev pub plan : ℕ → List ℕ → ℕ → Bool → ℕ → Outcome
+plan n l c b r = record { number = 0; place = 0; steps = n; list = l; cost = c; real = b; runs = r }
+
+-- a refusal: number, place, plan list
+abbrev pub refusal : ℕ → ℕ → List ℕ → Outcome
+refusal n p l = record { number = n; place = p; steps = 0; list = l; cost = 0; real = false; runs = 0 }
+
+-- The table: a row a line, its proof the refl at the same place below.
+pub starred :
+    (taskOf twoShelves ≡ shelves 0 (driveOut ∷ driveBack ∷ pickUp ∷ putDown ∷ []))
+    × (recordEnd twoShelves ≡ 278)
+    × (length twoShelves ≡ 35)
+    × (addable (taskOf twoShelves) ≡ 3)
+    × (blackProduct (taskOf twoShelves) ≡ 2)
+    × (forwardRun (taskOf twoShelves) ≡ 0 ∷ 2 ∷ 3 ∷ [])
+    × (relaxedPlan (taskOf twoShelves) ≡ 0 ∷ 2 ∷ 3 ∷ [])
+    × (factsReached (taskOf twoShelves) ≡ 5)
+    × (called twoShelves 6 ≡ plan 4 (0 ∷ 2 ∷ 1 ∷ 3 ∷ 65535 ∷ 65535 ∷ []) 10 true 4)
+    × (called twoShelves 4 ≡ plan 4 (0 ∷ 2 ∷ 1 ∷ 3 ∷ []) 10 true 4)
+    × (called twoShelves 3 ≡ refusal 11 3 (65535 ∷ 65535 ∷ 65535 ∷ []))
+    × (taskOf withoutOne ≡ shelves 0 (driveOut ∷ pickUp ∷ putDown ∷ []))
+    × (called withoutOne 3 ≡ refusal 8 0 (65535 ∷ 65535 ∷ 65535 ∷ []))
+    × (taskOf withoutTwo ≡ shelves 0 (driveOut ∷ driveBack ∷ putDown ∷ []))
+    × (called withoutTwo 3 ≡ refusal 10 3 (65535 ∷ 65535 ∷ 65535 ∷ []))
+    × (taskOf lampOne ≡ lamp 1)
+    × (called lampOne 1 ≡ plan 0 (65535 ∷ []) 0 true 0)
+    × (taskOf lampTwo ≡ lamp 2)
+    × (called lampTwo 1 ≡ refusal 8 0 (65535 ∷ []))
+    × (taskOf bothBlack ≡ task (blackOne 2 0 none ∷ blackOne 2 0 none ∷ []) (action 1 [] (fact 0 1 ∷ fact 1 1 ∷ []) ∷ []))
+    × (called bothBlack 1 ≡ refusal 7 0 (65535 ∷ []))
+    × (called [] 2 ≡ refusal 1 0 (65535 ∷ 65535 ∷ []))
+    × (taskOf goalMet ≡ shelves 1 (driveOut ∷ driveBack ∷ pickUp ∷ putDown ∷ []))
+    × (called goalMet 2 ≡ plan 0 (65535 ∷ 65535 ∷ []) 0 true 0)
+    × (taskOf tray ≡ trayTask)
+    × (called tray 2 ≡ plan 2 (0 ∷ 1 ∷ []) 2 false 1)
+    × (called variables64 1 ≡ plan 0 (65535 ∷ []) 0 true 0)
+    × (called variables65 1 ≡ refusal 3 4 (65535 ∷ []))
+    × (taskOf door ≡ doorTask)
+    × (called door 8 ≡ plan 7 (0 ∷ 2 ∷ 1 ∷ 4 ∷ 0 ∷ 3 ∷ 1 ∷ 65535 ∷ []) 14 true 7)
+    × (taskOf litReturn ≡ litTask)
+    × (forwardRun (taskOf litReturn) ≡ 1 ∷ 2 ∷ 3 ∷ 4 ∷ [])
+    × (relaxedPlan (taskOf litReturn) ≡ 1 ∷ 3 ∷ 4 ∷ [])
+    × (called litReturn 6 ≡ plan 5 (1 ∷ 3 ∷ 2 ∷ 4 ∷ 0 ∷ 65535 ∷ []) 13 true 5)
+    × (taskOf repeatedVariable ≡ task (redOne 2 0 none ∷ []) (action 1 [] (fact 0 0 ∷ fact 0 1 ∷ []) ∷ []))
+    × (called repeatedVariable 1 ≡ refusal 5 78 (65535 ∷ []))
+unfolding times share blackProduct check andThen inOrder answer bitAt bitsAt holdsField someBelow oneIf tally first total refuseAt reach variablesIn
+    actionsIn goalOf variableAt variablesAt factsAt preconditionsIn effectsIn effectsFrom actionEnd actionAt actionsAt actionsEnd taskOf fieldCheck
+    headerChecks goalFits variableChecks variablesChecks countIn factChecks factsChecks actionChecks actionsChecks endsAt recordEnd recordChecks
+    recordCheck has touches look holds step variable act count black initial goalsFrom goals run runs stepsRun allBelow isPlan size factsIn costOf
+    adds forward addable forwardRun forwardEnd reachesGoals factsReached firstAchiever is reachedNeeded keep relaxedPlan causalArc blackArc onCycle
+    cyclic fits leaves orZero target arcFrom outside returnBy lacksReturn unreturned acyclicCheck returnCheck known union everAfter usableArc adjacent
+    pathIn shortest toward after pass fill ready clientsFirst order value blackMet moves repairFrom repaired lent capacity capacityOf roomCheck
+    goalsCheck planned planOf planCall planList called outcome redPairs variables64 variables65 twoShelves withoutOne withoutTwo lampOne lampTwo
+    bothBlack goalMet tray door litReturn repeatedVariable
+starred = (
+  refl,
+  refl,
+  refl,
+  refl,
+  refl,
+  refl,
+  refl,
+  refl,
+  refl,
+  refl,
+  refl,
+  refl,
+  refl,
+  refl,
+  refl,
+  refl,
+  refl,
+  refl,
+  refl,
+  refl,
+  refl,
+  refl,
+  refl,
+  refl,
+  refl,
+  refl,
+  refl,
+  refl,
+  refl,
+  refl,
+  refl,
+  refl,
+  refl,
+  refl,
+  refl,
+  refl,
+)

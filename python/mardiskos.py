@@ -1,0 +1,250 @@
+"""The proved planner library, for Python. Needs the standard library and libmardiskos.so.
+
+    import mardiskos
+    record = open("examples/two-shelves.record", "rb").read()
+    plan = mardiskos.plan(record)         # Plan(steps=[0, 2, 1, 3], cost=10, runs=4, real=True)
+    sheet = mardiskos.write_sheet(plan.steps, plan.cost, plan.real)
+
+Records and sheets are bytes or anything like them, lists of actions any iterable of numbers. A refusal raises `Refused`, which
+has number, place and words. A number that fits no field (an action not 0 to 65,535, a cost of over 32 bits) raises OverflowError.
+
+The library is looked for in the file that MARDISKOS_LIB names if it is set; else in build/lib of the repository, where
+`sh tools/build` puts it; else wherever the system finds libmardiskos.so.0. It is proved; this module is not, it is tested.
+"""
+
+import ctypes
+import os
+from array import array
+from ctypes import c_bool, c_char_p, c_size_t, c_uint32, c_uint64, c_void_p
+from typing import Iterable, List, NamedTuple
+
+__version__ = "0.1.0"
+
+MAX_STEPS = 32768
+MAX_VARIABLES = 64
+MAX_ACTIONS = 1024
+MAX_RECORD = 49315
+MAX_SHEET = 40967
+
+WORDS = (
+    "accepted",
+    "the record stops before all its fields are there",
+    "the record's edition is not 1",
+    "the count of variables is not 1 to 64, or there are more than 1,024 actions",
+    "a value does not exist in its variable, or a goal value is given where there is no goal",
+    "a fact's variable does not exist, or the variables of a list do not rise",
+    "padding is not 0, or bytes follow the record",
+    "the black causal graph has a cycle",
+    "an arc of a black variable lacks its return",
+    "a list entry is no action or does not apply, or a goal is missed",
+    "no plan exists",
+    "the result is longer than the room lent",
+    "the sheet is cut short, of another edition or over 32,768 steps, or its end is not clean",
+    "the list is over 32,768 entries, or an entry is too large for a sheet",
+)
+
+
+class Refused(Exception):
+    """The library's refusal: number (1 to 13), place, and the number's meaning in words. docs/GUIDE.md says what the place counts."""
+
+    def __init__(self, number: int, place: int):
+        super().__init__(number, place)
+        self.number = number
+        self.place = place
+        self.words = WORDS[number]
+
+    def __str__(self) -> str:
+        return f"refused {self.number} {self.place}: {self.words}"
+
+
+class Run(NamedTuple):
+    """How many steps run until one does not apply, and whether all run and reach every goal."""
+
+    steps: int
+    is_plan: bool
+
+
+class Judgement(NamedTuple):
+    """A list judged: every variable keeps every value it has had; only the red ones do; each holds one value."""
+
+    relaxed: Run
+    red_black: Run
+    real: Run
+
+
+class ForwardRun(NamedTuple):
+    steps: List[int]
+    reached: int
+
+
+class Plan(NamedTuple):
+    """A repaired plan: its steps, their cost, how many run for real, and whether it is a plan in a real run."""
+
+    steps: List[int]
+    cost: int
+    runs: int
+    real: bool
+
+    @property
+    def runnable(self) -> List[int]:
+        """The steps that run for real: the front of the plan, the whole of it where only a goal is missed."""
+        return self.steps[: self.runs]
+
+
+class Sheet(NamedTuple):
+    steps: List[int]
+    cost: int
+    real: bool
+
+
+# The structs of c/mardiskos.h.
+class _Judgement(ctypes.Structure):
+    _fields_ = [
+        ("code", c_uint64),
+        ("relaxed_steps", c_uint32),
+        ("red_black_steps", c_uint32),
+        ("real_steps", c_uint32),
+        ("relaxed_plan", c_bool),
+        ("red_black_plan", c_bool),
+        ("real_plan", c_bool),
+    ]
+
+
+class _ForwardRun(ctypes.Structure):
+    _fields_ = [("code", c_uint64), ("steps", c_uint32), ("reached", c_uint32)]
+
+
+class _RelaxedPlan(ctypes.Structure):
+    _fields_ = [("code", c_uint64), ("steps", c_uint32)]
+
+
+class _PlanResult(ctypes.Structure):
+    _fields_ = [("code", c_uint64), ("steps", c_uint32), ("cost", c_uint32), ("runs", c_uint32), ("real", c_bool)]
+
+
+class _SheetSize(ctypes.Structure):
+    _fields_ = [("code", c_uint64), ("bytes", c_uint32)]
+
+
+class _Sheet(ctypes.Structure):
+    _fields_ = [("code", c_uint64), ("steps", c_uint32), ("cost", c_uint32), ("real", c_bool)]
+
+
+_BYTES = [c_char_p, c_size_t]
+_LIST = [c_void_p, c_size_t]
+_CALLS = {
+    "mardiskos_check": (c_uint64, _BYTES),
+    "mardiskos_judge": (_Judgement, _BYTES + _LIST),
+    "mardiskos_forward": (_ForwardRun, _BYTES + _LIST),
+    "mardiskos_relax": (_RelaxedPlan, _BYTES + _LIST),
+    "mardiskos_plan": (_PlanResult, _BYTES + _LIST + _LIST),
+    "mardiskos_repair": (_PlanResult, _BYTES + _LIST + _LIST + _LIST),
+    "mardiskos_write_sheet": (_SheetSize, _LIST + [c_uint32, c_bool] + _LIST),
+    "mardiskos_read_sheet": (_Sheet, _BYTES + _LIST),
+}
+
+
+def _load() -> ctypes.CDLL:
+    name = os.environ.get("MARDISKOS_LIB")
+    if not name:
+        name = os.path.join(os.path.dirname(os.path.abspath(__file__)), "..", "build", "lib", "libmardiskos.so")
+        name = name if os.path.exists(name) else "libmardiskos.so.0"
+    try:
+        library = ctypes.CDLL(name)
+    except OSError as why:
+        raise ImportError(f"no library mardiskos ({why}): run `sh tools/build`, or name its file in MARDISKOS_LIB") from None
+    for call, (answer, arguments) in _CALLS.items():
+        function = getattr(library, call)
+        function.restype, function.argtypes = answer, arguments
+    return library
+
+
+_library = _load()
+
+
+def check(record: bytes) -> None:
+    """Checks a record. Refuses with 1 to 6, as every call that takes a record does."""
+    _accept(_library.mardiskos_check(*_bytes(record)))
+
+
+def judge(record: bytes, actions: Iterable[int]) -> Judgement:
+    """Judges a list of actions under the three semantics. Refuses with 13 and 9 too."""
+    actions = array("H", actions)
+    judged = _library.mardiskos_judge(*_bytes(record), *_lend(actions))
+    _accept(judged.code)
+    return Judgement(
+        Run(judged.relaxed_steps, judged.relaxed_plan),
+        Run(judged.red_black_steps, judged.red_black_plan),
+        Run(judged.real_steps, judged.real_plan),
+    )
+
+
+def forward(record: bytes) -> ForwardRun:
+    """As long as a goal is missing, the lowest action that applies and reaches something new. Refuses with 10 too."""
+    room = _room(MAX_STEPS)
+    run = _library.mardiskos_forward(*_bytes(record), *_lend(room))
+    _accept(run.code)
+    return ForwardRun(room[: run.steps].tolist(), run.reached)
+
+
+def relax(record: bytes) -> List[int]:
+    """The relaxed plan: what the forward run needs of itself for the goals. Refuses with 10 too."""
+    room = _room(MAX_STEPS)
+    found = _library.mardiskos_relax(*_bytes(record), *_lend(room))
+    _accept(found.code)
+    return room[: found.steps].tolist()
+
+
+def plan(record: bytes, room: int = MAX_STEPS) -> Plan:
+    """The planner: the repair of the record's relaxed plan. `room` is the most steps wanted. Refuses with 7, 8, 10, 11 too."""
+    steps, work = _room(room), _room(room)
+    return _plan(_library.mardiskos_plan(*_bytes(record), *_lend(steps), *_lend(work)), steps)
+
+
+def repair(record: bytes, actions: Iterable[int], room: int = MAX_STEPS) -> Plan:
+    """The same for the caller's own relaxed plan. Refuses with 7, 8, 13, 9, 11 too."""
+    actions, steps, work = array("H", actions), _room(room), _room(room)
+    lists = _lend(actions) + _lend(steps) + _lend(work)
+    return _plan(_library.mardiskos_repair(*_bytes(record), *lists), steps)
+
+
+def write_sheet(steps: Iterable[int], cost: int, real: bool) -> bytes:
+    """The bytes of a plan sheet. Refuses with 13."""
+    if not 0 <= cost < 2**32:
+        raise OverflowError("a cost has 32 bits")
+    steps, sheet = array("H", steps), array("B", bytes(MAX_SHEET))
+    size = _library.mardiskos_write_sheet(*_lend(steps), cost, real, *_lend(sheet))
+    _accept(size.code)
+    return sheet[: size.bytes].tobytes()
+
+
+def read_sheet(sheet: bytes) -> Sheet:
+    """Reads a plan sheet. Refuses with 12."""
+    room = _room(MAX_STEPS)
+    read = _library.mardiskos_read_sheet(*_bytes(sheet), *_lend(room))
+    _accept(read.code)
+    return Sheet(room[: read.steps].tolist(), read.cost, read.real)
+
+
+def _accept(code: int) -> None:
+    if code:
+        raise Refused(code % 32, code // 32)
+
+
+def _bytes(data) -> tuple:
+    data = memoryview(data).tobytes()
+    return data, len(data)
+
+
+def _lend(items: array) -> tuple:
+    """The address and the count of an array's items; the caller keeps the array."""
+    return items.buffer_info()
+
+
+def _room(entries: int) -> array:
+    return array("H", bytes(2 * entries))
+
+
+def _plan(result: _PlanResult, steps: array) -> Plan:
+    _accept(result.code)
+    return Plan(steps[: result.steps].tolist(), result.cost, result.runs, result.real)

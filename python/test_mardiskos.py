@@ -1,0 +1,128 @@
+"""Tests of the module: python3 -m unittest discover -s python"""
+
+import os
+import subprocess
+import sys
+import threading
+import unittest
+
+import mardiskos
+from mardiskos import Plan, Refused, Run
+
+HERE = os.path.dirname(os.path.abspath(__file__))
+TOP = os.path.dirname(HERE)
+
+
+def example(name: str) -> bytes:
+    with open(os.path.join(TOP, "examples", name + ".record"), "rb") as file:
+        return file.read()
+
+
+TWO_SHELVES = example("two-shelves")
+
+
+class Calls(unittest.TestCase):
+    def refuses(self, number, place, call, *arguments):
+        with self.assertRaises(Refused) as caught:
+            call(*arguments)
+        refusal = caught.exception
+        self.assertEqual((refusal.number, refusal.place), (number, place))
+        self.assertEqual(str(refusal), f"refused {number} {place}: {refusal.words}")
+
+    def test_check(self):
+        self.assertIsNone(mardiskos.check(TWO_SHELVES))
+        self.assertIsNone(mardiskos.check(bytearray(TWO_SHELVES)))
+        self.refuses(1, 0, mardiskos.check, b"")
+        self.refuses(2, 0, mardiskos.check, b"\x20")
+        self.refuses(6, 278, mardiskos.check, TWO_SHELVES + b"\0")
+
+    def test_judge(self):
+        judged = mardiskos.judge(TWO_SHELVES, [0, 2, 3])
+        self.assertEqual(judged, (Run(3, True), Run(2, False), Run(2, False)))
+        self.assertEqual(mardiskos.judge(TWO_SHELVES, []).real, Run(0, False))
+        self.refuses(9, 2, mardiskos.judge, TWO_SHELVES, [0, 2, 4])
+        self.refuses(13, 32768, mardiskos.judge, TWO_SHELVES, [0] * 32769)
+
+    def test_forward_and_relax(self):
+        self.assertEqual(mardiskos.forward(TWO_SHELVES), ([0, 2, 3], 5))
+        self.assertEqual(mardiskos.relax(TWO_SHELVES), [0, 2, 3])
+        self.refuses(10, 3, mardiskos.forward, example("two-shelves-without-2"))
+        self.refuses(10, 3, mardiskos.relax, example("two-shelves-without-2"))
+
+    def test_plan(self):
+        self.assertEqual(mardiskos.plan(TWO_SHELVES), Plan([0, 2, 1, 3], 10, 4, True))
+        self.assertEqual(mardiskos.plan(example("goal-met")), Plan([], 0, 0, True))
+        self.assertEqual(mardiskos.plan(example("tray")).runnable, [0])
+        self.assertEqual(mardiskos.plan(TWO_SHELVES, room=4).cost, 10)
+        self.refuses(11, 3, mardiskos.plan, TWO_SHELVES, 3)
+        self.refuses(11, 0, mardiskos.plan, TWO_SHELVES, 0)
+        self.refuses(7, 0, mardiskos.plan, example("two-black-effects"))
+        self.refuses(8, 0, mardiskos.plan, example("lamp-2"))
+
+    def test_repair(self):
+        self.assertEqual(mardiskos.repair(TWO_SHELVES, (0, 2, 3)).steps, [0, 2, 1, 3])
+        self.refuses(9, 0, mardiskos.repair, TWO_SHELVES, [2, 0, 3])
+        self.refuses(9, 0, mardiskos.repair, TWO_SHELVES, [])
+
+    def test_sheets(self):
+        sheet = mardiskos.write_sheet([0, 2, 1, 3], 10, True)
+        self.assertEqual(sheet.hex(), "180020000000500001002018")
+        self.assertEqual(mardiskos.read_sheet(sheet), ([0, 2, 1, 3], 10, True))
+        longest = mardiskos.write_sheet([1023] * 32768, 2**32 - 1, False)
+        self.assertEqual(len(longest), mardiskos.MAX_SHEET)
+        self.assertEqual(mardiskos.read_sheet(longest), ([1023] * 32768, 2**32 - 1, False))
+        self.refuses(13, 1, mardiskos.write_sheet, [0, 1024], 0, False)
+        self.refuses(12, 83, mardiskos.read_sheet, sheet[:-1])
+        self.refuses(12, 0, mardiskos.read_sheet, b"")
+
+    def test_what_fits_nowhere(self):
+        for actions in [-1], [65536]:
+            self.assertRaises(OverflowError, mardiskos.judge, TWO_SHELVES, actions)
+        for cost in -1, 2**32:
+            self.assertRaises(OverflowError, mardiskos.write_sheet, [], cost, True)
+        self.assertRaises(TypeError, mardiskos.check, 35)
+        self.assertRaises(TypeError, mardiskos.check, "record")
+        self.assertRaises(TypeError, mardiskos.judge, TWO_SHELVES, [0.5])
+
+    def test_threads(self):
+        plans = [None] * 4
+
+        def run(i):
+            plans[i] = [mardiskos.plan(TWO_SHELVES) for _ in range(20)]
+
+        threads = [threading.Thread(target=run, args=(i,)) for i in range(4)]
+        for thread in threads:
+            thread.start()
+        for thread in threads:
+            thread.join()
+        self.assertEqual(plans, [[Plan([0, 2, 1, 3], 10, 4, True)] * 20] * 4)
+
+
+class Header(unittest.TestCase):
+    def test_words_and_constants(self):
+        with open(os.path.join(TOP, "c", "mardiskos.h")) as file:
+            header = file.read()
+        self.assertIn("".join(f'        "{words}",\n' for words in mardiskos.WORDS), header)
+        self.assertIn(f'#define MARDISKOS_VERSION "{mardiskos.__version__}"\n', header)
+        for ours, theirs in (
+            ("MAX_STEPS", "MOST_STEPS"),
+            ("MAX_VARIABLES", "MOST_VARIABLES"),
+            ("MAX_ACTIONS", "MOST_ACTIONS"),
+            ("MAX_RECORD", "LONGEST_RECORD"),
+            ("MAX_SHEET", "LONGEST_SHEET"),
+        ):
+            self.assertIn(f"#define MARDISKOS_{theirs} {getattr(mardiskos, ours)}\n", header)
+
+
+class MissingLibrary(unittest.TestCase):
+    def test_message(self):
+        environment = dict(os.environ, MARDISKOS_LIB="/nowhere/libmardiskos.so")
+        ended = subprocess.run(
+            [sys.executable, "-c", "import mardiskos"], cwd=HERE, env=environment, capture_output=True, text=True
+        )
+        self.assertEqual(ended.returncode, 1)
+        self.assertIn("run `sh tools/build`", ended.stderr.splitlines()[-1])
+
+
+if __name__ == "__main__":
+    unittest.main()

@@ -1,0 +1,140 @@
+//! Each entry point on both sides, as cases of the table.
+
+use bench::table::{Answer, Case, Lent};
+use generate::Random;
+use reference::entry::MAX_STEPS;
+use reference::{entry, record, refusal, sheet, Refusal, Task};
+
+type Records = Vec<Vec<u8>>;
+
+fn records(tasks: &[Task]) -> Records {
+    tasks.iter().map(record::write).collect()
+}
+
+fn sum(answers: impl Iterator<Item = Answer>) -> Answer {
+    answers.fold([0; 4], |sums, numbers| [0, 1, 2, 3].map(|i| sums[i] + numbers[i]))
+}
+
+pub fn check(tasks: &[Task]) -> Case {
+    let records = records(tasks);
+    let library = |records: &Records, _: &mut Lent| {
+        [records.iter().map(|bytes| mardiskos::lent::check(bytes)).sum(), 0, 0, 0]
+    };
+    let reference = |records: &Records, _: &mut Lent| {
+        [records.iter().map(|bytes| refusal::code(&record::check(bytes))).sum(), 0, 0, 0]
+    };
+    Case::new(records, Lent::new(0, 0, 0), library, reference)
+}
+
+pub fn forward(task: &Task) -> Case {
+    let library = |bytes: &Vec<u8>, lent: &mut Lent| {
+        let run = mardiskos::lent::forward(bytes, &mut lent.plan);
+        [run.code, run.steps.into(), run.reached.into(), 0]
+    };
+    let reference = |bytes: &Vec<u8>, lent: &mut Lent| {
+        let run = entry::forward(bytes, &mut lent.plan).unwrap();
+        [0, run.steps.into(), run.reached.into(), 0]
+    };
+    Case::new(record::write(task), Lent::new(1024, 0, 0), library, reference)
+}
+
+pub fn relax(task: &Task) -> Case {
+    let library = |bytes: &Vec<u8>, lent: &mut Lent| {
+        let plan = mardiskos::lent::relax(bytes, &mut lent.plan);
+        [plan.code, plan.steps.into(), 0, 0]
+    };
+    let reference = |bytes: &Vec<u8>, lent: &mut Lent| {
+        [0, entry::relax(bytes, &mut lent.plan).unwrap().into(), 0, 0]
+    };
+    Case::new(record::write(task), Lent::new(1024, 0, 0), library, reference)
+}
+
+/// A record and a list of actions.
+type Listed = (Vec<u8>, Vec<u16>);
+
+/// The actions of a task round and round.
+pub fn judge(task: &Task, steps: usize) -> Case {
+    let library = |(bytes, list): &Listed, _: &mut Lent| {
+        let judged = mardiskos::lent::judge(bytes, list);
+        let steps = [judged.relaxed_steps, judged.red_black_steps, judged.real_steps];
+        let [relaxed, red_black, real] = steps.map(u64::from);
+        [judged.code, relaxed, red_black, real]
+    };
+    let reference = |(bytes, list): &Listed, _: &mut Lent| {
+        let judged = entry::judge(bytes, list).unwrap();
+        let runs = [judged.relaxed, judged.red_black, judged.real];
+        let [relaxed, red_black, real] = runs.map(|run| u64::from(run.steps));
+        [0, relaxed, red_black, real]
+    };
+    let list = (0..task.action_count() as u16).cycle().take(steps).collect();
+    Case::new((record::write(task), list), Lent::new(0, 0, 0), library, reference)
+}
+
+fn library_numbers(result: mardiskos::lent::PlanResult) -> Answer {
+    [result.code, result.steps.into(), result.cost.into(), result.runs.into()]
+}
+
+fn reference_numbers(answer: Result<entry::PlanResult, Refusal>) -> Answer {
+    match answer {
+        Ok(result) => [0, result.steps.into(), result.cost.into(), result.runs.into()],
+        Err(refusal) => [refusal.code(), 0, 0, 0],
+    }
+}
+
+/// Records planned one after another into the same lists.
+pub fn plan(tasks: &[Task], room: usize) -> Case {
+    let library = |records: &Records, lent: &mut Lent| {
+        let (plan, work) = (&mut lent.plan, &mut lent.work);
+        sum(records.iter().map(|bytes| library_numbers(mardiskos::lent::plan(bytes, plan, work))))
+    };
+    let reference = |records: &Records, lent: &mut Lent| {
+        let (plan, work) = (&mut lent.plan, &mut lent.work);
+        sum(records.iter().map(|bytes| reference_numbers(entry::plan(bytes, plan, work))))
+    };
+    Case::new(records(tasks), Lent::new(room, room, 0), library, reference)
+}
+
+/// The repaired plan of a task as a relaxed plan.
+pub fn repair(task: &Task) -> Case {
+    let library = |(bytes, list): &Listed, lent: &mut Lent| {
+        library_numbers(mardiskos::lent::repair(bytes, list, &mut lent.plan, &mut lent.work))
+    };
+    let reference = |(bytes, list): &Listed, lent: &mut Lent| {
+        reference_numbers(entry::repair(bytes, list, &mut lent.plan, &mut lent.work))
+    };
+    let bytes = record::write(task);
+    let mut lent = Lent::new(MAX_STEPS, MAX_STEPS, 0);
+    let steps = entry::plan(&bytes, &mut lent.plan, &mut lent.work).unwrap().steps as usize;
+    let list = lent.plan[..steps].to_vec();
+    Case::new((bytes, list), lent, library, reference)
+}
+
+fn steps(random: &mut Random, count: usize) -> Vec<u16> {
+    (0..count).map(|_| random.below(1024) as u16).collect()
+}
+
+pub fn write_sheet(random: &mut Random, count: usize) -> Case {
+    let library = |list: &Vec<u16>, lent: &mut Lent| {
+        let size = mardiskos::lent::write_sheet(list, 12_345, true, &mut lent.bytes);
+        [size.code, size.bytes.into(), 0, 0]
+    };
+    let reference = |list: &Vec<u16>, lent: &mut Lent| {
+        [0, sheet::write(list, 12_345, true, &mut lent.bytes).unwrap().into(), 0, 0]
+    };
+    let lent = Lent::new(0, 0, sheet::size(count));
+    Case::new(steps(random, count), lent, library, reference)
+}
+
+pub fn read_sheet(random: &mut Random, count: usize) -> Case {
+    let library = |bytes: &Vec<u8>, lent: &mut Lent| {
+        let sheet = mardiskos::lent::read_sheet(bytes, &mut lent.plan);
+        [sheet.code, sheet.steps.into(), sheet.cost.into(), sheet.real.into()]
+    };
+    let reference = |bytes: &Vec<u8>, lent: &mut Lent| {
+        let sheet = sheet::read(bytes, &mut lent.plan).unwrap();
+        [0, sheet.steps.into(), sheet.cost.into(), sheet.real.into()]
+    };
+    let mut bytes = vec![0; sheet::size(count)];
+    sheet::write(&steps(random, count), 12_345, true, &mut bytes).unwrap();
+    Case::new(bytes, Lent::new(count, 0, 0), library, reference)
+}

@@ -1,0 +1,225 @@
+//! The calls with results: lists are allocated here, and a refusal is an error.
+
+use crate::{lent, outcome, Refusal, MAX_SHEET, MAX_STEPS};
+
+/// A run of a list of actions.
+#[derive(Clone, Copy, Debug, PartialEq, Eq)]
+pub struct Run {
+    /// How many steps run until one does not apply.
+    pub steps: usize,
+    /// Whether all steps run and every goal holds at the end.
+    pub is_plan: bool,
+}
+
+/// A list of actions judged under the three semantics.
+#[derive(Clone, Copy, Debug, PartialEq, Eq)]
+pub struct Judgement {
+    /// Every variable keeps every value it has had.
+    pub relaxed: Run,
+    /// Black variables hold one value, red ones keep every value they have had.
+    pub red_black: Run,
+    /// Every variable holds one value.
+    pub real: Run,
+}
+
+/// The forward run of a record.
+#[derive(Clone, Debug, PartialEq, Eq)]
+pub struct ForwardRun {
+    /// The actions taken.
+    pub steps: Vec<u16>,
+    /// Facts reached.
+    pub reached: u32,
+}
+
+/// A repaired plan.
+#[derive(Clone, Debug, PartialEq, Eq)]
+pub struct Plan {
+    /// The actions in turn.
+    pub steps: Vec<u16>,
+    /// The sum of the costs of the steps.
+    pub cost: u32,
+    /// How many steps run for real until one does not apply.
+    pub runs: usize,
+    /// Whether it is a plan in a real run.
+    pub real: bool,
+}
+
+impl Plan {
+    /// The steps that run for real: the front of the plan, the whole of it where only a goal is missed.
+    pub fn runnable(&self) -> &[u16] {
+        &self.steps[..self.runs]
+    }
+}
+
+/// What a plan sheet says.
+#[derive(Clone, Debug, PartialEq, Eq)]
+pub struct Sheet {
+    /// The actions in turn.
+    pub steps: Vec<u16>,
+    /// The cost that was written; nothing checks it.
+    pub cost: u32,
+    /// The verdict that was written; nothing checks it.
+    pub real: bool,
+}
+
+/// Checks a record. Refuses with 1 to 6, and so does every other call that takes a record.
+///
+/// ```
+/// assert_eq!(mardiskos::check(&[]).unwrap_err().number(), 1);
+/// ```
+pub fn check(record: &[u8]) -> Result<(), Refusal> {
+    outcome(lent::check(record))
+}
+
+/// Judges a list of actions under the three semantics. Refuses with 13 and 9 too.
+///
+/// ```
+/// # fn main() -> Result<(), Box<dyn std::error::Error>> {
+/// let record = std::fs::read("../../examples/two-shelves.record")?;
+/// let judged = mardiskos::judge(&record, &[0, 2, 3])?;
+/// assert!(judged.relaxed.is_plan && !judged.real.is_plan);
+/// assert_eq!(judged.real.steps, 2);
+/// # Ok(())
+/// # }
+/// ```
+pub fn judge(record: &[u8], list: &[u16]) -> Result<Judgement, Refusal> {
+    let judged = lent::judge(record, list);
+    outcome(judged.code)?;
+    let run = |steps: u32, is_plan| Run { steps: steps as usize, is_plan };
+    Ok(Judgement {
+        relaxed: run(judged.relaxed_steps, judged.relaxed_plan),
+        red_black: run(judged.red_black_steps, judged.red_black_plan),
+        real: run(judged.real_steps, judged.real_plan),
+    })
+}
+
+/// The forward run: as long as a goal is missing, the lowest action that applies and reaches something new.
+/// Refuses with 10 too.
+pub fn forward(record: &[u8]) -> Result<ForwardRun, Refusal> {
+    let mut plan = list(MAX_STEPS);
+    let run = lent::forward(record, &mut plan);
+    outcome(run.code)?;
+    Ok(ForwardRun { steps: front(plan, run.steps), reached: run.reached })
+}
+
+/// The relaxed plan: what the forward run needs of itself for the goals. Refuses with 10 too.
+///
+/// ```
+/// # fn main() -> Result<(), Box<dyn std::error::Error>> {
+/// let record = std::fs::read("../../examples/two-shelves.record")?;
+/// assert_eq!(mardiskos::relax(&record)?, [0, 2, 3]);
+/// # Ok(())
+/// # }
+/// ```
+pub fn relax(record: &[u8]) -> Result<Vec<u16>, Refusal> {
+    let mut plan = list(MAX_STEPS);
+    let found = lent::relax(record, &mut plan);
+    outcome(found.code)?;
+    Ok(front(plan, found.steps))
+}
+
+/// The planner: the repair of the record's relaxed plan, with room for [`MAX_STEPS`]. Refuses with 7, 8, 10 and 11 too.
+///
+/// ```
+/// # fn main() -> Result<(), Box<dyn std::error::Error>> {
+/// let record = std::fs::read("../../examples/tray.record")?;
+/// let plan = mardiskos::plan(&record)?;
+/// assert_eq!((plan.steps.as_slice(), plan.real), ([0, 1].as_slice(), false));
+/// assert_eq!(plan.runnable(), [0]);
+/// # Ok(())
+/// # }
+/// ```
+pub fn plan(record: &[u8]) -> Result<Plan, Refusal> {
+    plan_within(record, MAX_STEPS)
+}
+
+/// The planner with room for so many steps: a longer plan is refused with 11.
+///
+/// ```
+/// # fn main() -> Result<(), Box<dyn std::error::Error>> {
+/// let record = std::fs::read("../../examples/two-shelves.record")?;
+/// assert_eq!(mardiskos::plan_within(&record, 4)?.steps.len(), 4);
+/// assert_eq!(mardiskos::plan_within(&record, 3).unwrap_err().number(), 11);
+/// # Ok(())
+/// # }
+/// ```
+pub fn plan_within(record: &[u8], room: usize) -> Result<Plan, Refusal> {
+    let (mut plan, mut work) = (list(room), list(room));
+    let planned = lent::plan(record, &mut plan, &mut work);
+    plan_of(planned, plan)
+}
+
+/// The same for the caller's own relaxed plan. Refuses with 7, 8, 13, 9 and 11 too.
+///
+/// ```
+/// # fn main() -> Result<(), Box<dyn std::error::Error>> {
+/// let record = std::fs::read("../../examples/two-shelves.record")?;
+/// assert_eq!(mardiskos::repair(&record, &[0, 2, 3])?.steps, [0, 2, 1, 3]);
+///
+/// let refusal = mardiskos::repair(&record, &[2, 0, 3]).unwrap_err();
+/// assert_eq!((refusal.number(), refusal.place), (9, 0));
+/// # Ok(())
+/// # }
+/// ```
+pub fn repair(record: &[u8], relaxed: &[u16]) -> Result<Plan, Refusal> {
+    repair_within(record, relaxed, MAX_STEPS)
+}
+
+/// The repair with room for so many steps: a longer plan is refused with 11.
+pub fn repair_within(record: &[u8], relaxed: &[u16], room: usize) -> Result<Plan, Refusal> {
+    let (mut plan, mut work) = (list(room), list(room));
+    let repaired = lent::repair(record, relaxed, &mut plan, &mut work);
+    plan_of(repaired, plan)
+}
+
+/// The bytes of a plan sheet. Refuses with 13 alone.
+///
+/// ```
+/// # fn main() -> Result<(), mardiskos::Refusal> {
+/// let sheet = mardiskos::write_sheet(&[0, 2, 1, 3], 10, true)?;
+/// assert_eq!(sheet.len(), 12);
+///
+/// let read = mardiskos::read_sheet(&sheet)?;
+/// assert_eq!((read.steps.as_slice(), read.cost, read.real), ([0, 2, 1, 3].as_slice(), 10, true));
+/// # Ok(())
+/// # }
+/// ```
+pub fn write_sheet(steps: &[u16], cost: u32, real: bool) -> Result<Vec<u8>, Refusal> {
+    let mut bytes = vec![0; MAX_SHEET];
+    let size = lent::write_sheet(steps, cost, real, &mut bytes);
+    outcome(size.code)?;
+    bytes.truncate(size.bytes as usize);
+    Ok(bytes)
+}
+
+/// Reads a plan sheet. Refuses with 12 alone.
+///
+/// ```
+/// assert_eq!(mardiskos::read_sheet(&[0x18]).unwrap_err().to_string().split(':').next(), Some("refused 12 5"));
+/// ```
+pub fn read_sheet(bytes: &[u8]) -> Result<Sheet, Refusal> {
+    let mut steps = list(MAX_STEPS);
+    let sheet = lent::read_sheet(bytes, &mut steps);
+    outcome(sheet.code)?;
+    Ok(Sheet { steps: front(steps, sheet.steps), cost: sheet.cost, real: sheet.real })
+}
+
+fn list(entries: usize) -> Vec<u16> {
+    vec![0; entries]
+}
+
+fn front(mut list: Vec<u16>, steps: u32) -> Vec<u16> {
+    list.truncate(steps as usize);
+    list.shrink_to_fit();
+    list
+}
+
+fn plan_of(result: lent::PlanResult, list: Vec<u16>) -> Result<Plan, Refusal> {
+    outcome(result.code)?;
+    Ok(Plan {
+        steps: front(list, result.steps),
+        cost: result.cost,
+        runs: result.runs as usize,
+        real: result.real,
+    })
+}

@@ -1,0 +1,29 @@
+//! The calls as C has them: the caller lends the lists, and the answer carries a code.
+//!
+//! A code is 0, or 32 × place + number; [`outcome`](crate::outcome) makes a `Result` of it. After a refusal every
+//! other number of an answer is 0, every truth value false, each list lent 65,535 throughout and each byte
+//! area 0 throughout. Nothing is allocated.
+//!
+//! ```
+//! # fn main() -> Result<(), Box<dyn std::error::Error>> {
+//! let record = std::fs::read("../../examples/two-shelves.record")?;
+//! let (mut plan, mut work) = ([0; 6], [0; 6]);
+//! let planned = mardiskos::lent::plan(&record, &mut plan, &mut work);
+//! mardiskos::outcome(planned.code)?;
+//! assert_eq!(plan, [0, 2, 1, 3, 65_535, 65_535]);
+//!
+//! let refused = mardiskos::lent::plan(&record, &mut plan[..3], &mut work);
+//! assert_eq!(refused.code, 32 * 3 + 11);
+//! # Ok(())
+//! # }
+//! ```
+
+mod check;
+mod plan;
+mod runs;
+mod sheet;
+
+pub use check::check;
+pub use plan::{plan, repair, PlanResult};
+pub use runs::{forward, judge, relax, ForwardRun, Judgement, RelaxedPlan};
+pub use sheet::{read_sheet, write_sheet, Sheet, SheetSize};

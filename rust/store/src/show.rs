@@ -1,0 +1,142 @@
+//! Plans and sheets in words.
+
+use mardiskos::Judgement;
+use reference::state::{Semantics, State};
+use reference::{Fact, Refusal};
+
+use crate::library::{judge, Sheet};
+use crate::plan::Plan;
+use crate::store::Store;
+
+/// A text, and why the list that it shows is not what it should be.
+#[derive(Clone, Debug, PartialEq, Eq)]
+pub struct Shown {
+    pub text: String,
+    pub fault: Option<String>,
+}
+
+/// The plan, one step a line, behind a line of its count, cost and verdict.
+pub fn plan(store: &Store, plan: &Plan) -> Result<Shown, Refusal> {
+    let judged = judge(&store.record(), &plan.steps)?;
+    let (verdict, runs) = (verdict(judged.real.is_plan), running(judged.real.steps));
+    let (count, cost) = (steps(plan.steps.len()), plan.cost(store));
+    let mut text = format!("{count}, cost {cost}, {verdict}: {runs}\n");
+    let fault = red_black_fault(store, plan, &judged);
+    text += &fault.iter().map(|fault| format!("{fault}\n")).collect::<String>();
+    text += &step_lines(store, plan);
+    if !judged.real.is_plan {
+        text += &format!("real run: {}\n", trouble(store, &plan.steps, &Semantics::real()));
+    }
+    Ok(Shown { text, fault })
+}
+
+fn red_black_fault(store: &Store, plan: &Plan, judged: &Judgement) -> Option<String> {
+    let semantics = Semantics::red_black(&store.task());
+    let trouble = || trouble(store, &plan.steps, &semantics);
+    (!judged.red_black.is_plan).then(|| format!("not a red-black plan: {}", trouble()))
+}
+
+/// A sheet without a store: the numbers of its steps.
+pub fn sheet(sheet: &Sheet) -> String {
+    let digits = digits(sheet.steps.len());
+    let numbered = sheet.steps.iter().enumerate();
+    let lines = numbered.map(|(step, action)| format!("{step:digits$}  action {action}\n"));
+    std::iter::once(sheet_head(sheet)).chain(lines).collect()
+}
+
+fn sheet_head(sheet: &Sheet) -> String {
+    let (count, verdict) = (steps(sheet.steps.len()), verdict(sheet.real));
+    format!("sheet: {count}, cost {}, {verdict}\n", sheet.cost)
+}
+
+/// A sheet in a store: its steps with names, and what the judge says of them there.
+pub fn sheet_in(store: &Store, sheet: &Sheet) -> Result<Shown, Refusal> {
+    let judged = judge(&store.record(), &sheet.steps)?;
+    let plan = Plan::known(store, sheet.steps.clone());
+    let mut text = sheet_head(sheet) + &step_lines(store, &plan);
+    text += &format!("judge: cost {}, {}\n", plan.cost(store), verdicts(&judged));
+    if !judged.real.is_plan {
+        text += &format!("real run: {}\n", trouble(store, &plan.steps, &Semantics::real()));
+    }
+    let fault = red_black_fault(store, &plan, &judged).or(contradiction(store, sheet, &judged));
+    text += &fault.iter().map(|fault| format!("{fault}\n")).collect::<String>();
+    Ok(Shown { text, fault })
+}
+
+/// Where the sheet says something else than the judge.
+fn contradiction(store: &Store, sheet: &Sheet, judged: &Judgement) -> Option<String> {
+    let cost = Plan { steps: sheet.steps.clone(), relaxed: None }.cost(store);
+    if u64::from(sheet.cost) != cost {
+        return Some(format!("the sheet says cost {}, its steps cost {cost}", sheet.cost));
+    }
+    let (said, is) = (verdict(sheet.real), verdict(judged.real.is_plan));
+    (said != is).then(|| format!("the sheet says {said}, its steps are {is}"))
+}
+
+fn verdicts(judged: &Judgement) -> String {
+    let runs =
+        [("relaxed", judged.relaxed), ("red-black", judged.red_black), ("real", judged.real)];
+    let verdicts = runs.map(|(semantics, run)| {
+        let plan = if run.is_plan { "a plan" } else { "no plan" };
+        format!("{semantics} {plan} ({})", running(run.steps))
+    });
+    verdicts.join(", ")
+}
+
+fn verdict(real: bool) -> &'static str {
+    if real {
+        "real"
+    } else {
+        "unreal"
+    }
+}
+
+fn step_lines(store: &Store, plan: &Plan) -> String {
+    let actions = || plan.steps.iter().map(|&number| &store.actions[number as usize]);
+    let width = actions().map(|action| action.name.chars().count()).max().unwrap_or(0);
+    let digits = digits(plan.steps.len());
+    let inserted = plan.inserted().unwrap_or_else(|| vec![false; plan.steps.len()]);
+    let steps = actions().zip(inserted).enumerate();
+    let lines = steps.map(|(step, (action, inserted))| {
+        let mark = if inserted { "  (inserted)" } else { "" };
+        let line = format!("{step:digits$}  {:width$}  ", action.name);
+        format!("{}\n", (line + &store.facts(&action.sets) + mark).trim_end())
+    });
+    lines.collect()
+}
+
+fn digits(steps: usize) -> usize {
+    steps.saturating_sub(1).to_string().len()
+}
+
+pub fn steps(count: usize) -> String {
+    counted(count, "step")
+}
+
+/// A count with its word.
+pub fn counted(count: usize, word: &str) -> String {
+    format!("{count} {word}{}", if count == 1 { "" } else { "s" })
+}
+
+fn running(count: usize) -> String {
+    format!("{} {}", steps(count), if count == 1 { "runs" } else { "run" })
+}
+
+/// Why a list is not a plan under a semantics.
+pub fn trouble(store: &Store, list: &[u16], semantics: &Semantics) -> String {
+    let task = store.task();
+    let mut state = State::initial(&task);
+    let unmet = |state: &State, facts: &[Fact]| -> Vec<Fact> {
+        facts.iter().copied().filter(|&fact| !state.holds(fact)).collect()
+    };
+    for (step, &number) in list.iter().enumerate() {
+        let missing = unmet(&state, &store.actions[number as usize].needs);
+        if !missing.is_empty() {
+            let name = &store.actions[number as usize].name;
+            return format!("step {step}, {name}, needs {}", store.facts(&missing));
+        }
+        state.apply(task.action(number as usize), semantics);
+    }
+    let missing = unmet(&state, &store.goals().collect::<Vec<_>>());
+    format!("goal missed: {}", store.facts(&missing))
+}
