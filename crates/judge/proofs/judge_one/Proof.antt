@@ -72,7 +72,7 @@ cast-steps-2 : tie.Need-cast-steps-2 Inv-loop μ-loop
 cast-steps-2 c = search needs
 
 all-hold-requires : tie.Need-all-hold-requires Inv-loop μ-loop
-all-hold-requires c κs = let G = c .before .before .before .before .before .load .ensures in (omega arith, omega (arith, G .few), λ k a b. G .small k b)
+all-hold-requires c κs = let G = c .before .before .before .before .before .load .ensures in (omega arith, omega (arith, G .few), λ k a b. G .small k (omega arith))
 
 returns-2 : tie.Need-returns-2 Inv-loop μ-loop
 returns-2 c = going-end _ _ _ _ _ (c .before .before .before .before .before .before .before .before .loop .inv) (omega arith) (c .before .before .before .before .before .before .before .before .before .before .before .before .pre .0 .entries) _ (c .all-hold .ensures ∙ ap (holds _) (c .before .before .before .before .before .before .load .ensures .are))
