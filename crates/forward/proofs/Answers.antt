@@ -8,7 +8,7 @@ use borrow.Author.Tests.{not-true, not-false}
 use lib.ListN.{length, replicate}
 use Rattle.planning.specs.Basics.{Check, check, refuse, andThen, inOrder, Answer, refused, done, answer}
 use Rattle.planning.specs.Record.{Task, taskOf, recordCheck}
-use Rattle.planning.specs.Runs.{State, act, relaxed, run, initial, step, size}
+use Rattle.planning.specs.Runs.{State, act, relaxed, run, initial, step, size, runBy}
 use Rattle.planning.specs.Relaxed.{forwardRun, forwardEnd, reachesGoals, factsReached}
 use Rattle.planning.specs.Calls.{lent, capacity, roomCheck, goalsCheck, Forward, forwardCall, forwardList}
 use Rattle.planning.proofs.Checks.{andThen-last}
@@ -54,7 +54,7 @@ lent-refused x p q n l e = rw e refl
 
 -- the facts of the last state
 within-run : (t : Task) → Formed t → (l : List ℕ) (s : State) → Within t s → Within t (run (act t) relaxed l s)
-unfolding run
+unfolding runBy
 within-run t F [] s W = W
 within-run t F (i ∷ l) s W = within-run t F l (step relaxed (act t i) s) (within-step t relaxed i s F W)
 

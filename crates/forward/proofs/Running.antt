@@ -12,7 +12,7 @@ use lib.ListN.{length, getD, set, take, replicate, length-set, length-append, le
 use lib.Seq.{take-suc-set, length-take-le}
 use Rattle.planning.specs.Basics.{first, total, tally}
 use Rattle.planning.specs.Record.{Fact, Action, Task}
-use Rattle.planning.specs.Runs.{State, has, holds, step, relaxed, run, variables, actions, act, count, variable, initial, goals, size}
+use Rattle.planning.specs.Runs.{State, has, holds, step, relaxed, run, variables, actions, act, count, variable, initial, goals, size, runBy}
 use Rattle.planning.specs.Relaxed.{adds, forward, addable, forwardRun, forwardEnd, reachesGoals, firstAchiever}
 use Rattle.planning.proofs.Tests.{T→true, F→false, and-l}
 use Rattle.planning.proofs.Below.{total-le, total-pred, total-one, tally-pos}
@@ -75,7 +75,7 @@ newly act i s v d = elim (has (act i .eff) v d && not (s v d)) [ true ↦ some i
 
 module _ (act : ℕ → Action) (i : ℕ) (v d : ℕ) where
   firstAchiever-snoc : (l : List ℕ) (s : State) → firstAchiever act (l ++ (i ∷ [])) s v d ≡ orElse (firstAchiever act l s v d) (newly act i (run act relaxed l s) v d)
-  unfolding firstAchiever run orElse newly
+  unfolding firstAchiever runBy orElse newly
   firstAchiever-snoc [] s = refl
   firstAchiever-snoc (j ∷ l) s = go (has (act j .eff) v d && not (s v d)) (firstAchiever-snoc l (step relaxed (act j) s))
     where
@@ -88,7 +88,7 @@ module _ (act : ℕ → Action) (i : ℕ) (v d : ℕ) where
 
   -- what is not reached has no first achiever
   firstAchiever-open : (l : List ℕ) (s : State) → run act relaxed l s v d ≡ false → firstAchiever act l s v d ≡ none
-  unfolding firstAchiever run
+  unfolding firstAchiever runBy
   firstAchiever-open [] s e = refl
   firstAchiever-open (j ∷ l) s e = go (has (act j .eff) v d && not (s v d)) refl (firstAchiever-open l (step relaxed (act j) s) e)
     where
@@ -141,7 +141,7 @@ module _ {t : Task} (F : Formed t) where
   eff-ranged i v e b h = let I = sorted-has (variables t) (count t) 0 (act t i .eff) (F .eff-sorted i) v e h in (I .var-below, I .val-below)
 
   pub going-start : (plan fst : List ℕ) (s : State) → length plan ≡ 1024 → fst ≡ replicate 4096 65535 → s ≡ initial t → Going t plan fst s 0
-  unfolding forwardRun run Achieved firstAchiever achiever
+  unfolding forwardRun runBy Achieved firstAchiever achiever
   going-start plan fst s n e q = record {
     k = addable t;
     fuel = rw q (forwardRun-fuel t F);
@@ -163,7 +163,7 @@ module _ {t : Task} (F : Formed t) where
 
     pub going-take : (i : ℕ) (fst′ : List ℕ) (s′ : State) → holds s (goals t) ≡ false → first (actions t) (adds (act t) s) ≡ some i → Noted s (has (act t i .eff)) i fst fst′
         → s′ ≡ step relaxed (act t i) s → Going t (set plan n i) fst′ s′ (n + 1)
-    unfolding run
+    unfolding runBy
     going-take i fst′ s′ h e N es =
         let T₁ = forward-take (act t) (actions t) (variables t) (count t) (goals t) eff-ranged (G .k) i s (G .fuel) h e in
         let b = going-on i h e in

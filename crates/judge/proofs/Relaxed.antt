@@ -13,7 +13,7 @@ use lib.ListN.{length, take}
 use lib.Seq.{take-length}
 use Rattle.planning.specs.Basics.{done, refused, answer, inOrder, refuseAt}
 use Rattle.planning.specs.Record.{Task}
-use Rattle.planning.specs.Runs.{State, holds, step, act, actions, initial, goals, relaxed, run, runs, stepsRun, isPlan, Judged, judged}
+use Rattle.planning.specs.Runs.{State, holds, step, act, actions, initial, goals, relaxed, run, runs, stepsRun, isPlan, Judged, judged, runBy, runsBy, stepsBy}
 use Rattle.planning.specs.Calls.{lengthCheck, entriesCheck, relaxedFault, relaxedCheck}
 use Rattle.planning.proofs.Calls.{relaxedCheck-of}
 use Rattle.state.specs.Sets.{modeOf}
@@ -45,7 +45,7 @@ faulty-rest t s i l n e (inr q) = inr (rw (runs-pass (act t) relaxed i (take n l
 
 -- the fault is where the run of those entries stops
 fault-of-run : (t : Task) (s : State) (k : ℕ) (l : List ℕ) → Faulty t s l (leading (actions t) l) → relaxedFault t s k l ≡ some (k + stepsRun (act t) relaxed (take (leading (actions t) l) l) s)
-unfolding leading relaxedFault stepsRun runs run
+unfolding leading relaxedFault stepsBy runsBy runBy
 fault-of-run t s k [] (inl h) = absurd (omega arith)
 fault-of-run t s k [] (inr e) = rw (relaxedFault, e) (ap some (omega arith))
 fault-of-run t s k (i ∷ l) f = go (decLt i (actions t)) f (fault-of-run t (step relaxed (act t i) s) (suc k) l)

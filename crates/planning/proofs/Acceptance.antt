@@ -13,15 +13,17 @@ use Rattle.planning.specs.Record.{Fact, Action, Variable, Task, variable
 use Rattle.planning.specs.Record.{effectsIn, effectsFrom, actionEnd, actionAt, actionsAt, actionsEnd, taskOf, fieldCheck, headerChecks, goalFits}
 use Rattle.planning.specs.Record.{variableChecks, variablesChecks, countIn, factChecks, factsChecks, actionChecks, actionsChecks, endsAt}
 use Rattle.planning.specs.Record.{recordEnd, recordChecks, recordCheck}
-use Rattle.planning.specs.Runs.{has, touches, look, holds, step, variable, act, count, black, initial, goalsFrom, goals, run, runs, stepsRun}
+use Rattle.planning.specs.Runs.{has, touches, look, holds, step, variable, act, count, black, initial, goalsFrom, goals, runBy, runsBy, stepsBy}
 use Rattle.planning.specs.Runs.{allBelow, isPlan, size, factsIn, costOf}
 use Rattle.planning.specs.Relaxed.{adds, forward, addable, forwardRun, forwardEnd, reachesGoals, factsReached, firstAchiever, is, reachedNeeded, keep, relaxedPlan}
 use Rattle.planning.specs.Painting.{causalArc, blackArc, onCycle, cyclic, fits, leaves, orZero, target, arcFrom, outside, returnBy, lacksReturn}
 use Rattle.planning.specs.Painting.{unreturned, acyclicCheck, returnCheck}
 use Rattle.planning.specs.Repair.{known, union, everAfter, usableArc, adjacent, pathIn, shortest, toward, after, pass, fill, ready, clientsFirst}
-use Rattle.planning.specs.Repair.{order, value, blackMet, moves, repairFrom, repaired}
+use Rattle.planning.specs.Repair.{order, value, blackMet, moves, stageSteps, allSteps, stagesFrom, stages, repaired}
+use Rattle.planning.specs.Newest.{initialValues, newer, tracked, track, stepsPainted, stopsIn, tabulate, newestValues, Traced, traced}
 use Rattle.planning.specs.Existence.{share, blackProduct}
 use Rattle.planning.specs.Calls.{Planned, lent, capacity, capacityOf, roomCheck, goalsCheck, planned, planOf, planCall, planList}
+use Rattle.planning.specs.Calls.{newestCall, newestList, lengthCheck, notBelow, entriesCheck}
 
 -- two-shelves, clause 12.3
 unfoldable pub twoShelves : List ℕ
@@ -178,6 +180,23 @@ plan n l c b r = record { number = 0; place = 0; steps = n; list = l; cost = c; 
 abbrev pub refusal : ℕ → ℕ → List ℕ → Outcome
 refusal n p l = record { number = n; place = p; steps = 0; list = l; cost = 0; real = false; runs = 0 }
 
+-- 3.12: a box on a red variable, moved to 1 and back to 0, and one that is put where it was
+abbrev pub boxes : Task
+boxes =
+    task (redOne 2 0 none ∷ blackOne 2 0 none ∷ [])
+    (action 1 (fact 0 0 ∷ []) (fact 0 1 ∷ []) ∷ action 1 (fact 0 1 ∷ []) (fact 0 0 ∷ []) ∷ action 1 (fact 0 0 ∷ []) (fact 0 0 ∷ [])
+    ∷ action 1 (fact 1 1 ∷ []) (fact 1 0 ∷ []) ∷ [])
+
+-- what is told of a list, and the values' list of n entries afterwards
+unfoldable pub desk : List ℕ → List ℕ → ℕ → Outcome
+desk s l n = elim (newestCall s l n) [
+  | refused m p ↦ record { number = m; place = p; steps = 0; list = newestList s l n; cost = 0; real = false; runs = 0 }
+  | done x ↦ record { number = 0; place = 0; steps = x .steps; list = newestList s l n; cost = 0; real = false; runs = x .runs }
+]
+
+abbrev pub shown : ℕ → ℕ → List ℕ → Outcome
+shown n r l = record { number = 0; place = 0; steps = n; list = l; cost = 0; real = false; runs = r }
+
 -- The table: a row a line, its proof the refl at the same place below.
 pub starred :
     (taskOf twoShelves ≡ shelves 0 (driveOut ∷ driveBack ∷ pickUp ∷ putDown ∷ []))
@@ -216,16 +235,37 @@ pub starred :
     × (called litReturn 6 ≡ plan 5 (1 ∷ 3 ∷ 2 ∷ 4 ∷ 0 ∷ 65535 ∷ []) 13 true 5)
     × (taskOf repeatedVariable ≡ task (redOne 2 0 none ∷ []) (action 1 [] (fact 0 0 ∷ fact 0 1 ∷ []) ∷ []))
     × (called repeatedVariable 1 ≡ refusal 5 78 (65535 ∷ []))
+    × (newestValues boxes [] ≡ 0 ∷ 0 ∷ [])
+    × (newestValues boxes (0 ∷ []) ≡ 1 ∷ 0 ∷ [])
+    × (newestValues boxes (0 ∷ 1 ∷ []) ≡ 0 ∷ 0 ∷ [])
+    × (newestValues boxes (0 ∷ 2 ∷ []) ≡ 0 ∷ 0 ∷ [])
+    × (newestValues boxes (0 ∷ 2 ∷ 0 ∷ 3 ∷ 2 ∷ []) ≡ 1 ∷ 0 ∷ [])
+    × (traced boxes (0 ∷ 2 ∷ 0 ∷ 3 ∷ 2 ∷ []) ≡ record { steps = 3; runs = 1 })
+    × (desk twoShelves (0 ∷ 2 ∷ 1 ∷ 3 ∷ []) 2 ≡ shown 4 4 (0 ∷ 0 ∷ []))
+    × (desk tray (0 ∷ 1 ∷ []) 4 ≡ shown 2 1 (1 ∷ 1 ∷ 1 ∷ 65535 ∷ []))
+    × (desk tray (0 ∷ 1 ∷ []) 2 ≡ refusal 11 2 (65535 ∷ 65535 ∷ []))
+    × (desk tray (0 ∷ 2 ∷ []) 2 ≡ refusal 9 1 (65535 ∷ 65535 ∷ []))
 unfolding times share blackProduct check andThen inOrder answer bitAt bitsAt holdsField someBelow oneIf tally first total refuseAt reach variablesIn
     actionsIn goalOf variableAt variablesAt factsAt preconditionsIn effectsIn effectsFrom actionEnd actionAt actionsAt actionsEnd taskOf fieldCheck
     headerChecks goalFits variableChecks variablesChecks countIn factChecks factsChecks actionChecks actionsChecks endsAt recordEnd recordChecks
-    recordCheck has touches look holds step variable act count black initial goalsFrom goals run runs stepsRun allBelow isPlan size factsIn costOf
+    recordCheck has touches look holds step variable act count black initial goalsFrom goals runBy runsBy stepsBy allBelow isPlan size factsIn costOf
     adds forward addable forwardRun forwardEnd reachesGoals factsReached firstAchiever is reachedNeeded keep relaxedPlan causalArc blackArc onCycle
     cyclic fits leaves orZero target arcFrom outside returnBy lacksReturn unreturned acyclicCheck returnCheck known union everAfter usableArc adjacent
-    pathIn shortest toward after pass fill ready clientsFirst order value blackMet moves repairFrom repaired lent capacity capacityOf roomCheck
-    goalsCheck planned planOf planCall planList called outcome redPairs variables64 variables65 twoShelves withoutOne withoutTwo lampOne lampTwo
-    bothBlack goalMet tray door litReturn repeatedVariable
+    pathIn shortest toward after pass fill ready clientsFirst order value blackMet moves stageSteps allSteps stagesFrom stages repaired lent
+    capacity capacityOf roomCheck goalsCheck planned planOf planCall planList called outcome redPairs variables64 variables65 twoShelves withoutOne withoutTwo lampOne lampTwo
+    bothBlack goalMet tray door litReturn repeatedVariable initialValues newer tracked track stepsPainted stopsIn tabulate newestValues traced
+    newestCall newestList lengthCheck notBelow entriesCheck desk
 starred = (
+  refl,
+  refl,
+  refl,
+  refl,
+  refl,
+  refl,
+  refl,
+  refl,
+  refl,
+  refl,
   refl,
   refl,
   refl,

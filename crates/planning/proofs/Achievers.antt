@@ -11,7 +11,7 @@ use lib.Dec.{T, T-not, eqb, eqb→eq, eqb-refl}
 use lib.ListN.{length}
 use native.Mathlib.Omega.{arith}
 use Rattle.planning.specs.Record.{Fact, Action, Task}
-use Rattle.planning.specs.Runs.{State, has, holds, step, actions, act, relaxed, initial, goals, run, runs, isPlan}
+use Rattle.planning.specs.Runs.{State, has, holds, step, actions, act, relaxed, initial, goals, run, runs, isPlan, runBy, runsBy}
 use Rattle.planning.specs.Relaxed.{addable, forwardRun, forwardEnd, reachesGoals, firstAchiever, is, reachedNeeded, Kept, keep, relaxedPlan}
 use Rattle.planning.proofs.Tests.{T→true, F→false, or-l, or-r, and-l, and-r, and-i, T-cases}
 use Rattle.planning.proofs.Facts.{_⊆_, has-nil, has-cases, holds→sub, sub→holds}
@@ -103,7 +103,7 @@ module _ (act : ℕ → Action) (by : ℕ → ℕ → Option ℕ) (goal : List F
 
   pub keep-replayed : (l : List ℕ) (s : State) → Reaches act by l s → T (runs act relaxed l s) → has goal ⊆ run act relaxed l s
       → (X : State) → ((v d : ℕ) → T (keep act by goal l .needed v d) → T (s v d) → T (X v d)) → Replayed X (keep act by goal l)
-  unfolding keep run runs
+  unfolding keep runBy runsBy
   keep-replayed [] s R r g X h = record { runs′ = tt; meets = λ v d t. h v d t (g v d t) }
   keep-replayed (i ∷ l) s R r g X h = go (reachedNeeded by N i (act i .eff)) refl h (keep-replayed l (step relaxed (act i) s) (R .1) (search and-r) g)
     where

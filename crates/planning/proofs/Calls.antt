@@ -11,7 +11,7 @@ use native.Mathlib.Omega.{arith}
 use native.Mathlib.Nat.{mul-le-mul-right}
 use Rattle.planning.specs.Basics.{check, refuseAt, Answer, refused, done}
 use Rattle.planning.specs.Record.{Task, taskOf, recordCheck}
-use Rattle.planning.specs.Runs.{State, holds, step, actions, act, relaxed, initial, goals, run, runs, allBelow, isPlan}
+use Rattle.planning.specs.Runs.{State, holds, step, actions, act, relaxed, initial, goals, run, runs, allBelow, isPlan, runBy, runsBy}
 use Rattle.planning.specs.Relaxed.{reachesGoals, factsReached, relaxedPlan}
 use Rattle.planning.specs.Painting.{cyclic, unreturned, acyclicCheck, returnCheck}
 use Rattle.planning.specs.Repair.{repaired}
@@ -26,7 +26,7 @@ use Rattle.planning.proofs.Painting.{repaired-is-plan, repaired-length}
 -- a list without a fault: entries below A that apply in turn, and the goals at the end
 relaxedFault-none : (t : Task) (s : State) (k : ℕ) (l : List ℕ) → relaxedFault t s k l ≡ none
     → T (allBelow (actions t) l) × T (runs (act t) relaxed l s) × T (holds (run (act t) relaxed l s) (goals t))
-unfolding relaxedFault allBelow runs run
+unfolding relaxedFault allBelow runsBy runBy
 relaxedFault-none t s k [] e = go (holds s (goals t)) refl e
   where
     go : (b : Bool) → holds s (goals t) ≡ b → _≡_ {A = Option ℕ} (elim b [ true ↦ none | false ↦ some k ]) none → Unit {0} × Unit {0} × T (holds s (goals t))
@@ -54,7 +54,7 @@ relaxedFault-none t s k (i ∷ l) e = go (ltb i (actions t) && holds s (act t i 
 
 relaxedFault-of : (t : Task) (s : State) (k : ℕ) (l : List ℕ) → T (allBelow (actions t) l) → T (runs (act t) relaxed l s) → T (holds (run (act t) relaxed l s) (goals t))
     → relaxedFault t s k l ≡ none
-unfolding relaxedFault allBelow runs run
+unfolding relaxedFault allBelow runsBy runBy
 relaxedFault-of t s k [] b r g = rw (T→true (holds s (goals t)) g, relaxedFault) refl
 relaxedFault-of t s k (i ∷ l) b r g =
     rw (T→true (ltb i (actions t)) (search and-l), T→true (holds s (act t i .pre)) (search and-l), relaxedFault)

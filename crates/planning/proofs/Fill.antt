@@ -12,7 +12,7 @@ use lib.ListN.{length, length-append}
 use native.Mathlib.Omega.{arith}
 use native.Mathlib.Nat.{mul-le-mul-right}
 use Rattle.planning.specs.Record.{Fact, Action}
-use Rattle.planning.specs.Runs.{State, has, touches, look, holds, Mode, step, run, runs}
+use Rattle.planning.specs.Runs.{State, has, touches, look, holds, Mode, step, run, runs, runBy, runsBy}
 use Rattle.planning.specs.Repair.{toward, after, pass, fill, moves}
 use Rattle.planning.proofs.Tests.{and-i}
 use Rattle.planning.proofs.Facts.{_⊆_, sub→holds, Func, look-some}
@@ -96,7 +96,7 @@ module _ (act : ℕ → Action) (A : ℕ) (m : Mode) where
 -- every variable is settled: the list runs, and meets the need
 module _ (act : ℕ → Action) (Q : ℕ → Type 0) (all : (u : ℕ) → Q u) (m : Mode) (w : List Fact) where
   pub meets→runs : (l : List ℕ) (s : State) → MeetsOn act Q m s l w → T (runs act m l s) × (has w ⊆ run act m l s)
-  unfolding runs run
+  unfolding runsBy runBy
   meets→runs [] s ok = (tt, λ u x h. ok u x h (all u))
   meets→runs (i ∷ l) s ok =
       let r = meets→runs l (step m (act i) s) (ok .1) in

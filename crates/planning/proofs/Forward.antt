@@ -12,7 +12,7 @@ use lib.ListN.{length}
 use native.Mathlib.Omega.{arith}
 use Rattle.planning.specs.Basics.{tally, first, total}
 use Rattle.planning.specs.Record.{Fact, Action, Task}
-use Rattle.planning.specs.Runs.{State, has, holds, Mode, step, variables, actions, variable, act, count, relaxed, initial, goals, run, runs, isPlan, size}
+use Rattle.planning.specs.Runs.{State, has, holds, Mode, step, variables, actions, variable, act, count, relaxed, initial, goals, run, runs, isPlan, size, runBy, runsBy}
 use Rattle.planning.specs.Relaxed.{adds, forward, addable, forwardRun, forwardEnd, reachesGoals}
 use Rattle.planning.proofs.Tests.{and-l, and-r, and-i, T-cases}
 use Rattle.planning.proofs.Below.{First?, first-is, tally-le, tally-cases, tally-pos, tally-sub, total-le, total-lt, total-pred, total-one}
@@ -38,7 +38,7 @@ Closed act A S = (i : ℕ) → i < A → has (act i .pre) ⊆ S → has (act i .
 
 closed-run : (act : ℕ → Action) (A : ℕ) (S : State) → Closed act A S
     → (l : List ℕ) (X : State) → All (λ i. i < A) l → X ⊆ S → T (runs act relaxed l X) → run act relaxed l X ⊆ S
-unfolding run runs
+unfolding runBy runsBy
 closed-run act A S C [] X b x r = x
 closed-run act A S C (i ∷ l) X b x r =
     let p = holds→sub X (act i .pre) (search and-l) in
@@ -76,7 +76,7 @@ module _ (act : ℕ → Action) (A nv : ℕ) (count : ℕ → ℕ) (goal : List 
       go (inr t) = absurd (h i b (and-i (holds s (act i .pre)) (not (holds s (act i .eff))) (sub→holds s (act i .pre) p) t))
 
   pub forward-ran : (k : ℕ) (s : State) → Enough k s → Ran act A nv count goal s (forward act A goal k s)
-  unfolding forward run runs adds
+  unfolding forward runBy runsBy adds
   forward-ran zero s f = record {
     below = tt;
     runs′ = tt;

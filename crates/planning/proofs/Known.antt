@@ -6,7 +6,7 @@ use mathlib.Core.Bool.{not, _&&_}
 use mathlib.Core.List.{List, [], _∷_}
 use lib.Dec.{T, T-not, not-T}
 use Rattle.planning.specs.Record.{Action}
-use Rattle.planning.specs.Runs.{State, Mode, step, relaxed, run}
+use Rattle.planning.specs.Runs.{State, Mode, step, relaxed, run, runBy}
 use Rattle.planning.specs.Repair.{known, union, everAfter}
 use Rattle.planning.proofs.Tests.{or-l, or-r, or-cases, and-l, and-r, and-i, T-cases}
 use Rattle.planning.proofs.Facts.{_⊆_}
@@ -84,12 +84,12 @@ known-step m a s ever w = (to, from)
 
 module _ (act : ℕ → Action) (m : Mode) where
   pub everAfter-now : (l : List ℕ) (s ever : State) → s ⊆ ever → run act m l s ⊆ everAfter act m l s ever
-  unfolding run everAfter
+  unfolding runBy everAfter
   everAfter-now [] s ever w = w
   everAfter-now (i ∷ l) s ever w = everAfter-now l (step m (act i) s) (union ever (step m (act i) s)) (union-new ever (step m (act i) s))
 
   pub known-run : (l : List ℕ) (s ever : State) → s ⊆ ever → run act relaxed l (known m s ever) ≈ known m (run act m l s) (everAfter act m l s ever)
-  unfolding run everAfter
+  unfolding runBy everAfter
   known-run [] s ever w = (λ v d h. h, λ v d h. h)
   known-run (i ∷ l) s ever w =
       let s′ : State = step m (act i) s in

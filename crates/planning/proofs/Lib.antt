@@ -10,6 +10,8 @@ pub mod Steps
 pub mod Fields
 pub mod Formed
 pub mod Plans
+pub mod Prefixes
+pub mod Newest
 pub mod Forward
 pub mod Achievers
 pub mod Arcs

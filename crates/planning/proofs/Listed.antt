@@ -5,13 +5,13 @@ use Rattle.planning.specs.Basics.{times, check, andThen, inOrder, answer
 use Rattle.planning.specs.Record.{variablesIn, actionsIn, goalOf, variableAt, variablesAt, factsAt, preconditionsIn, effectsIn, effectsFrom, actionEnd}
 use Rattle.planning.specs.Record.{actionAt, actionsAt, actionsEnd, taskOf, fieldCheck, headerChecks, goalFits, variableChecks, variablesChecks}
 use Rattle.planning.specs.Record.{countIn, factChecks, factsChecks, actionChecks, actionsChecks, endsAt, recordEnd, recordChecks, recordCheck}
-use Rattle.planning.specs.Runs.{has, touches, look, holds, step, variable, act, count, black, initial, goalsFrom, goals, run, runs, stepsRun, allBelow}
+use Rattle.planning.specs.Runs.{has, touches, look, holds, step, variable, act, count, black, initial, goalsFrom, goals, runBy, runsBy, stepsBy, allBelow}
 use Rattle.planning.specs.Runs.{isPlan, size, factsIn, costOf}
 use Rattle.planning.specs.Relaxed.{adds, forward, addable, forwardRun, forwardEnd, reachesGoals, factsReached, firstAchiever, is, reachedNeeded, keep, relaxedPlan}
 use Rattle.planning.specs.Painting.{causalArc, blackArc, onCycle, cyclic, fits, leaves, orZero, target, arcFrom, outside, returnBy, lacksReturn}
 use Rattle.planning.specs.Painting.{unreturned, acyclicCheck, returnCheck}
 use Rattle.planning.specs.Repair.{known, union, everAfter, usableArc, adjacent, pathIn, shortest, toward, after, pass, fill, ready, clientsFirst}
-use Rattle.planning.specs.Repair.{order, value, blackMet, moves, repairFrom, repaired}
+use Rattle.planning.specs.Repair.{order, value, blackMet, moves, stageSteps, allSteps, stagesFrom, stages, repaired}
 use Rattle.planning.specs.Calls.{capacity, capacityOf, roomCheck, goalsCheck, planned, planOf, planCall, runnable}
 use Rattle.planning.specs.Listing.{digitsUpto, decimal, numbers, line, verdictWord, listing, listingOf}
 use Rattle.planning.proofs.Acceptance.{twoShelves, withoutTwo, tray}
@@ -33,9 +33,9 @@ unfolding listingOf listing digitsUpto decimal numbers line verdictWord times ch
     tally first total refuseAt reach variablesIn actionsIn goalOf variableAt variablesAt factsAt preconditionsIn effectsIn effectsFrom actionEnd
     actionAt actionsAt actionsEnd taskOf fieldCheck headerChecks goalFits variableChecks variablesChecks countIn factChecks factsChecks
     actionChecks actionsChecks endsAt recordEnd recordChecks recordCheck has touches look holds step variable act count black initial goalsFrom
-    goals run runs stepsRun allBelow isPlan size factsIn costOf adds forward addable forwardRun forwardEnd reachesGoals factsReached
+    goals runBy runsBy stepsBy allBelow isPlan size factsIn costOf adds forward addable forwardRun forwardEnd reachesGoals factsReached
     firstAchiever is reachedNeeded keep relaxedPlan causalArc blackArc onCycle cyclic fits leaves orZero target arcFrom outside returnBy
     lacksReturn unreturned acyclicCheck returnCheck known union everAfter usableArc adjacent pathIn shortest toward after pass fill ready
-    clientsFirst order value blackMet moves repairFrom repaired capacity capacityOf roomCheck goalsCheck planned planOf planCall runnable
+    clientsFirst order value blackMet moves stageSteps allSteps stagesFrom stages repaired capacity capacityOf roomCheck goalsCheck planned planOf planCall runnable
     twoShelves withoutTwo tray
 listed = (refl, refl, refl)

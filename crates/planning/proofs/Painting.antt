@@ -15,7 +15,7 @@ use Rattle.planning.specs.Basics.{someBelow}
 use Rattle.planning.specs.Record.{Fact, Variable, Task}
 use Rattle.planning.specs.Runs.{has, touches, holds, variables, actions, variable, act, count, relaxed, black, initial, goals, isPlan}
 use Rattle.planning.specs.Painting.{causalArc, blackArc, onCycle, cyclic, target, arcFrom, outside, returnBy, lacksReturn, unreturned}
-use Rattle.planning.specs.Repair.{known, order, repairFrom, repaired}
+use Rattle.planning.specs.Repair.{known, order, stages, repaired}
 use Rattle.planning.specs.Existence.{share, blackProduct}
 use Rattle.planning.proofs.Tests.{or-l, or-r, and-l, and-r, and-i, T-cases}
 use Rattle.planning.proofs.Below.{some-intro, some-elim, first-none, tally-le, times-same}
@@ -30,7 +30,7 @@ use Rattle.planning.proofs.Fill.{product}
 use Rattle.planning.proofs.Known.{known-start}
 use Rattle.planning.proofs.Conn.{Returns, Invertible, Inv, Conn, inv-same, conn-same}
 use Rattle.planning.proofs.Order.{untaken, clientsFirst-ordered, clientsFirst-product}
-use Rattle.planning.proofs.Repair.{Red, Accepted, repairFrom-leads, repairFrom-short}
+use Rattle.planning.proofs.Repair.{Red, Accepted, repairFrom, repairFrom-leads, repairFrom-short}
 
 pub black-inside : (t : Task) (v : ℕ) → T (black t v) → v < variables t
 unfolding black
@@ -186,7 +186,7 @@ module _ (t : Task) (F : Formed t) where
 
     -- the repair of a relaxed plan: a red-black plan of at most n × P steps
     pub repaired-is-plan : (l : List ℕ) → isPlan t relaxed l ≡ true → isPlan t (black t) (repaired t l) ≡ true
-    unfolding repaired
+    unfolding stages repaired
     repaired-is-plan l p =
         let P = isPlan-elim t relaxed l p in
         let k = known-start (black t) (initial t) in
@@ -198,7 +198,7 @@ module _ (t : Task) (F : Formed t) where
         (record { below = M .below; runs′ = M .runs′; meets = M .meets })
 
     pub repaired-length : (l : List ℕ) → isPlan t relaxed l ≡ true → length (repaired t l) ≤ length l * blackProduct t
-    unfolding repaired
+    unfolding stages repaired
     repaired-length l p =
         let P = isPlan-elim t relaxed l p in
         rw product-order at (repairFrom-short (act t) (actions t) (black t) (count t) (order t) accepted (goals t) l (initial t) (initial t) (P .runs′) (P .meets))

@@ -5,10 +5,10 @@
 -- Length: moves for one need are fewer than P. The first action applies at the start and needs none, so that n actions have at most n
 -- needs (before the second to the last, and at the end): n + n × (P − 1) steps.
 use Prim.Native.Nat.{ℕ, _+_, _*_, _≤_, _<_}
-use mathlib.Core.Path.{_≡_, refl, ap}
+use mathlib.Core.Path.{_≡_, refl, ap, _∙_}
 use mathlib.Core.Logic.{inl, inr}
 use mathlib.Core.Bool.{Bool, true, false, not, _&&_, _||_}
-use mathlib.Core.List.{List, [], _∷_, _++_}
+use mathlib.Core.List.{List, [], _∷_, _++_, append-nil}
 use mathlib.Core.Option.{Option, none, some}
 use lib.Dec.{T, T-not}
 use lib.ListN.{length, length-append}
@@ -16,9 +16,9 @@ use native.Mathlib.Omega.{arith}
 use native.Mathlib.Nat.{mul-le-mul-right}
 use Rattle.planning.specs.Basics.{first}
 use Rattle.planning.specs.Record.{Fact, Action}
-use Rattle.planning.specs.Runs.{State, has, holds, Mode, step, relaxed, run, runs}
+use Rattle.planning.specs.Runs.{State, has, holds, Mode, step, relaxed, run, runs, runBy, runsBy}
 use Rattle.planning.specs.Painting.{orZero}
-use Rattle.planning.specs.Repair.{known, everAfter, shortest, fill, value, blackMet, moves, repairFrom}
+use Rattle.planning.specs.Repair.{known, everAfter, shortest, fill, value, blackMet, moves, stageSteps, allSteps, stagesFrom}
 use Rattle.planning.proofs.Tests.{T→true, or-r, or-cases, and-l, and-r, and-i}
 use Rattle.planning.proofs.Below.{First?, first-is}
 use Rattle.planning.proofs.Facts.{_⊆_, holds→sub, sub→holds, Func}
@@ -28,6 +28,23 @@ use Rattle.planning.proofs.Fill.{withs, Ordered, Sound, fill-meets, mee
 use Rattle.planning.proofs.Short.{shortest-short, shortest-walk}
 use Rattle.planning.proofs.Known.{everAfter-now, known-run}
 use Rattle.planning.proofs.Conn.{Invertible, Inv, Conn, inv-same, conn-same, inv-step, conn-step}
+
+-- the steps of the stages; at the end only the moves for the goals
+abbrev pub repairFrom : (ℕ → Action) → ℕ → Mode → (ℕ → ℕ) → List ℕ → List Fact → List ℕ → State → State → List ℕ
+repairFrom act A m count order goal l s ever = allSteps (stagesFrom act A m count order goal l s ever)
+
+pub repairFrom-nil : (act : ℕ → Action) (A : ℕ) (m : Mode) (count : ℕ → ℕ) (order : List ℕ) (goal : List Fact) (s ever : State)
+    → repairFrom act A m count order goal [] s ever ≡ moves act A m count order s ever goal
+unfolding stageSteps allSteps stagesFrom
+repairFrom-nil act A m count order goal s ever =
+    let l : List ℕ = moves act A m count order s ever goal in
+    append-nil (l ++ []) ∙ append-nil l
+
+pub repairFrom-cons : (act : ℕ → Action) (A : ℕ) (m : Mode) (count : ℕ → ℕ) (order : List ℕ) (goal : List Fact) (i : ℕ) (l : List ℕ) (s ever : State)
+    → let k : List ℕ = moves act A m count order s ever (act i .pre) ++ (i ∷ []) in
+      repairFrom act A m count order goal (i ∷ l) s ever ≡ k ++ repairFrom act A m count order goal l (run act m k s) (everAfter act m k s ever)
+unfolding stageSteps allSteps stagesFrom
+repairFrom-cons act A m count order goal i l s ever = refl
 
 -- a need whose red facts are held is met where its black facts are
 blackMet-holds : (m : Mode) (s : State) (w : List Fact) → blackMet m s w ≡ holds (λ v d. not (m v) || s v d) w
@@ -60,7 +77,7 @@ module _ (act : ℕ → Action) (A : ℕ) (m : Mode) (count : ℕ → ℕ) (orde
   -- the invariant along a run
   inv-run : (l : List ℕ) (s W : State) → All (λ i. i < A) l → T (runs act m l s) → Inv act A m count s W → Conn act A m count W
       → Inv act A m count (run act m l s) (run act relaxed l W) × Conn act A m count (run act relaxed l W)
-  unfolding run runs
+  unfolding runBy runsBy
   inv-run [] s W b r I C = (I, C)
   inv-run (i ∷ l) s W b r I C =
       let h = holds→sub s (act i .pre) (search and-l) in
@@ -85,7 +102,7 @@ module _ (act : ℕ → Action) (A : ℕ) (m : Mode) (count : ℕ → ℕ) (orde
 
   moves-leads : (s ever : State) (w : List Fact) → Func w → has w ⊆ known m s ever
       → Inv act A m count s (known m s ever) → Conn act A m count (known m s ever) → Leads s w (moves act A m count order s ever w)
-  unfolding moves run runs
+  unfolding moves runBy runsBy
   moves-leads s ever w fw ww I C = go (blackMet m s w) refl
     where
       W : State
@@ -112,8 +129,8 @@ module _ (act : ℕ → Action) (A : ℕ) (m : Mode) (count : ℕ → ℕ) (orde
   pub repairFrom-leads : (goal : List Fact) → Func goal → (l : List ℕ) (s ever X : State) → s ⊆ ever → All (λ i. i < A) l
       → X ⊆ known m s ever → T (runs act relaxed l X) → has goal ⊆ run act relaxed l X
       → Inv act A m count s (known m s ever) → Conn act A m count (known m s ever) → Leads s goal (repairFrom act A m count order goal l s ever)
-  unfolding repairFrom run runs
-  repairFrom-leads goal fg [] s ever X e b x r g I C = moves-leads s ever goal fg (λ v d h. x v d (g v d h)) I C
+  unfolding stageSteps allSteps stagesFrom runBy runsBy
+  repairFrom-leads goal fg [] s ever X e b x r g I C = rw (repairFrom-nil act A m count order goal s ever) (moves-leads s ever goal fg (λ v d h. x v d (g v d h)) I C)
   repairFrom-leads goal fg (i ∷ l) s ever X e b x r g I C =
       let W : State = known m s ever in
       let p = holds→sub X (act i .pre) (search and-l) in
@@ -160,8 +177,8 @@ module _ (act : ℕ → Action) (A : ℕ) (m : Mode) (count : ℕ → ℕ) (orde
       go false = omega (arith, fill-short act path (value count s) count (λ v. shortest-short act A W v (count v) (K .sound .pres) (K .sound .effs) (λ i e. K .range i v e) (K .pos v)) order [] w)
 
   repairFrom-long : (goal : List Fact) (l : List ℕ) (s ever : State) → length (repairFrom act A m count order goal l s ever) < (length l + 1) * product count order
-  unfolding repairFrom
-  repairFrom-long goal [] s ever = omega (arith, moves-short s ever goal)
+  unfolding stageSteps allSteps stagesFrom
+  repairFrom-long goal [] s ever = rw (repairFrom-nil act A m count order goal s ever) (omega (arith, moves-short s ever goal))
   repairFrom-long goal (i ∷ l) s ever =
       let k : List ℕ = moves act A m count order s ever (act i .pre) ++ (i ∷ []) in
       simp length-append (omega (arith, moves-short s ever (act i .pre), repairFrom-long goal l (run act m k s) (everAfter act m k s ever)))
@@ -175,8 +192,8 @@ module _ (act : ℕ → Action) (A : ℕ) (m : Mode) (count : ℕ → ℕ) (orde
 
   pub repairFrom-short : (goal : List Fact) (l : List ℕ) (s ever : State) → T (runs act relaxed l s) → has goal ⊆ run act relaxed l s
       → length (repairFrom act A m count order goal l s ever) ≤ length l * product count order
-  unfolding repairFrom run runs
-  repairFrom-short goal [] s ever r g = rw (moves-none s ever goal g) (omega arith)
+  unfolding stageSteps allSteps stagesFrom runBy runsBy
+  repairFrom-short goal [] s ever r g = rw (repairFrom-nil act A m count order goal s ever, moves-none s ever goal g) (omega arith)
   repairFrom-short goal (i ∷ l) s ever r g =
       rw (moves-none s ever (act i .pre) (holds→sub s (act i .pre) (search and-l)))
       (omega (arith, repairFrom-long goal l (step m (act i) s) (everAfter act m (i ∷ []) s ever)))

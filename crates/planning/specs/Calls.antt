@@ -8,7 +8,8 @@ use lib.Dec.{leb, ltb}
 use lib.ListN.{length, take, replicate}
 use Rattle.planning.specs.Basics.{Check, check, inOrder, Answer, answer, refused, done, code, refuseAt}
 use Rattle.planning.specs.Record.{Task, taskOf, recordCheck}
-use Rattle.planning.specs.Runs.{State, holds, step, relaxed, real, actions, act, initial, goals, stepsRun, isPlan, costOf, Judgement, judgement}
+use Rattle.planning.specs.Runs.{State, holds, step, relaxed, real, variables, actions, act, initial, goals, stepsRun, isPlan, costOf, Judgement, judgement}
+use Rattle.planning.specs.Newest.{Traced, traced, newestValues}
 use Rattle.planning.specs.Relaxed.{forwardRun, reachesGoals, factsReached, relaxedPlan}
 use Rattle.planning.specs.Painting.{acyclicCheck, returnCheck}
 use Rattle.planning.specs.Repair.{repaired}
@@ -23,6 +24,16 @@ lent (done _) n l = l ++ replicate (n - length l) 65535
 unfoldable pub lentBytes : {A : Type 0} → Answer A → ℕ → List ℕ → List ℕ
 lentBytes (refused _ _) n l = replicate n 0
 lentBytes (done _) n l = l ++ replicate (n - length l) 0
+
+-- 9.1: a call with an area lent for its result: the checks in order, the result, what stands in the front of the area. From these follow the
+-- answer, and what every entry of a list of n entries, or of an area of n bytes, holds afterwards.
+pub record Call (A : Type 0) : Type 0 where
+  pub checks : List Check
+  pub result : A
+  pub front : List ℕ
+
+abbrev pub answerTo : {A : Type 0} → Call A → Answer A
+answerTo c = answer (inOrder (c .checks)) (c .result)
 
 -- 7.2: the capacity of one list; of plan list and work list
 unfoldable pub capacity : ℕ → ℕ
@@ -71,27 +82,51 @@ checkCode s = code (checkCall s)
 unfoldable pub judgeCall : List ℕ → List ℕ → Answer Judgement
 judgeCall s l = answer (inOrder (recordCheck s ∷ lengthCheck l ∷ entriesCheck (taskOf s) l ∷ [])) (judgement (taskOf s) l)
 
+-- 9.1 and 7.9: newest values of the list l, with a list of n entries lent for them
+abbrev pub tracing : List ℕ → List ℕ → ℕ → Call Traced
+tracing s l n = record {
+  checks = recordCheck s ∷ lengthCheck l ∷ entriesCheck (taskOf s) l ∷ roomCheck (variables (taskOf s)) n ∷ [];
+  result = traced (taskOf s) l;
+  front = newestValues (taskOf s) l;
+}
+
+unfoldable pub newestCall : List ℕ → List ℕ → ℕ → Answer Traced
+newestCall s l n = answerTo (tracing s l n)
+
+unfoldable pub newestList : List ℕ → List ℕ → ℕ → List ℕ
+newestList s l n = lent (newestCall s l n) n (tracing s l n .front)
+
 -- 9.1: forward run, with a plan list of n entries
 pub record Forward : Type 0 where
   pub steps : ℕ
   pub reached : ℕ
 
+abbrev pub forwarding : List ℕ → ℕ → Call Forward
+forwarding s n = record {
+  checks = recordCheck s ∷ goalsCheck (taskOf s) ∷ roomCheck (length (forwardRun (taskOf s))) (capacity n) ∷ [];
+  result = record { steps = length (forwardRun (taskOf s)); reached = factsReached (taskOf s) };
+  front = forwardRun (taskOf s);
+}
+
 unfoldable pub forwardCall : List ℕ → ℕ → Answer Forward
-forwardCall s n =
-    answer (inOrder (recordCheck s ∷ goalsCheck (taskOf s) ∷ roomCheck (length (forwardRun (taskOf s))) (capacity n) ∷ []))
-    (record { steps = length (forwardRun (taskOf s)); reached = factsReached (taskOf s) })
+forwardCall s n = answerTo (forwarding s n)
 
 unfoldable pub forwardList : List ℕ → ℕ → List ℕ
-forwardList s n = lent (forwardCall s n) n (forwardRun (taskOf s))
+forwardList s n = lent (forwardCall s n) n (forwarding s n .front)
 
 -- 9.1: relaxed plan, with a plan list of n entries
+abbrev pub relaxing : List ℕ → ℕ → Call ℕ
+relaxing s n = record {
+  checks = recordCheck s ∷ goalsCheck (taskOf s) ∷ roomCheck (length (relaxedPlan (taskOf s))) (capacity n) ∷ [];
+  result = length (relaxedPlan (taskOf s));
+  front = relaxedPlan (taskOf s);
+}
+
 unfoldable pub relaxCall : List ℕ → ℕ → Answer ℕ
-relaxCall s n =
-    answer (inOrder (recordCheck s ∷ goalsCheck (taskOf s) ∷ roomCheck (length (relaxedPlan (taskOf s))) (capacity n) ∷ []))
-    (length (relaxedPlan (taskOf s)))
+relaxCall s n = answerTo (relaxing s n)
 
 unfoldable pub relaxList : List ℕ → ℕ → List ℕ
-relaxList s n = lent (relaxCall s n) n (relaxedPlan (taskOf s))
+relaxList s n = lent (relaxCall s n) n (relaxing s n .front)
 
 -- 9.2, 3.9, 7.7 and 7.8: steps, cost, verdict and how many steps run for real
 pub record Planned : Type 0 where
@@ -104,31 +139,39 @@ unfoldable pub planned : Task → List ℕ → Planned
 planned t l = record { steps = length l; cost = costOf t l; real′ = isPlan t real l; runs = stepsRun (act t) real l (initial t) }
 
 -- 9.1: repair of the list l, with a plan list of n and a work list of w entries
+abbrev pub repairing : List ℕ → List ℕ → ℕ → ℕ → Call Planned
+repairing s l n w = record {
+  checks =
+      recordCheck s ∷ acyclicCheck (taskOf s) ∷ returnCheck (taskOf s) ∷ lengthCheck l ∷ relaxedCheck (taskOf s) l
+      ∷ roomCheck (length (repaired (taskOf s) l)) (capacityOf n w) ∷ [];
+  result = planned (taskOf s) (repaired (taskOf s) l);
+  front = repaired (taskOf s) l;
+}
+
 unfoldable pub repairCall : List ℕ → List ℕ → ℕ → ℕ → Answer Planned
-repairCall s l n w =
-    answer
-    (inOrder
-    (recordCheck s ∷ acyclicCheck (taskOf s) ∷ returnCheck (taskOf s) ∷ lengthCheck l ∷ relaxedCheck (taskOf s) l
-    ∷ roomCheck (length (repaired (taskOf s) l)) (capacityOf n w) ∷ []))
-    (planned (taskOf s) (repaired (taskOf s) l))
+repairCall s l n w = answerTo (repairing s l n w)
 
 unfoldable pub repairList : List ℕ → List ℕ → ℕ → ℕ → List ℕ
-repairList s l n w = lent (repairCall s l n w) n (repaired (taskOf s) l)
+repairList s l n w = lent (repairCall s l n w) n (repairing s l n w .front)
 
 -- 9.1: planner; the plan is the repaired relaxed plan of the record
 unfoldable pub planOf : Task → List ℕ
 planOf t = repaired t (relaxedPlan t)
 
+abbrev pub planning : List ℕ → ℕ → ℕ → Call Planned
+planning s n w = record {
+  checks =
+      recordCheck s ∷ acyclicCheck (taskOf s) ∷ returnCheck (taskOf s) ∷ goalsCheck (taskOf s)
+      ∷ roomCheck (length (planOf (taskOf s))) (capacityOf n w) ∷ [];
+  result = planned (taskOf s) (planOf (taskOf s));
+  front = planOf (taskOf s);
+}
+
 unfoldable pub planCall : List ℕ → ℕ → ℕ → Answer Planned
-planCall s n w =
-    answer
-    (inOrder
-    (recordCheck s ∷ acyclicCheck (taskOf s) ∷ returnCheck (taskOf s) ∷ goalsCheck (taskOf s)
-    ∷ roomCheck (length (planOf (taskOf s))) (capacityOf n w) ∷ []))
-    (planned (taskOf s) (planOf (taskOf s)))
+planCall s n w = answerTo (planning s n w)
 
 unfoldable pub planList : List ℕ → ℕ → ℕ → List ℕ
-planList s n w = lent (planCall s n w) n (planOf (taskOf s))
+planList s n w = lent (planCall s n w) n (planning s n w .front)
 
 -- 7.6: the work list afterwards
 unfoldable pub workList : ℕ → List ℕ
@@ -145,13 +188,18 @@ runnable (refused _ _) l = []
 runnable (done p) l = take (p .runs) l
 
 -- 9.1 and 8.3: write a sheet into n bytes
+abbrev pub writing : Sheet → ℕ → Call ℕ
+writing x n = record {
+  checks = lengthCheck (x .steps) ∷ refuseAt 13 (notBelow 1024 0 (x .steps)) ∷ roomCheck (sheetSize (length (x .steps))) n ∷ [];
+  result = sheetSize (length (x .steps));
+  front = sheetBytes x;
+}
+
 unfoldable pub writeCall : Sheet → ℕ → Answer ℕ
-writeCall x n =
-    answer (inOrder (lengthCheck (x .steps) ∷ refuseAt 13 (notBelow 1024 0 (x .steps)) ∷ roomCheck (sheetSize (length (x .steps))) n ∷ []))
-    (sheetSize (length (x .steps)))
+writeCall x n = answerTo (writing x n)
 
 unfoldable pub writeBytes : Sheet → ℕ → List ℕ
-writeBytes x n = lentBytes (writeCall x n) n (sheetBytes x)
+writeBytes x n = lentBytes (writeCall x n) n (writing x n .front)
 
 -- 9.1 and 8.4: read a sheet into a plan list of n entries
 pub record Read : Type 0 where
@@ -159,10 +207,15 @@ pub record Read : Type 0 where
   pub cost : ℕ
   pub real′ : Bool
 
+abbrev pub reading : List ℕ → ℕ → Call Read
+reading s n = record {
+  checks = sheetCheck s ∷ roomCheck (stepsIn s) (capacity n) ∷ [];
+  result = record { steps = stepsIn s; cost = sheetOf s .cost; real′ = sheetOf s .real };
+  front = sheetOf s .steps;
+}
+
 unfoldable pub readCall : List ℕ → ℕ → Answer Read
-readCall s n =
-    answer (inOrder (sheetCheck s ∷ roomCheck (stepsIn s) (capacity n) ∷ []))
-    (record { steps = stepsIn s; cost = sheetOf s .cost; real′ = sheetOf s .real })
+readCall s n = answerTo (reading s n)
 
 unfoldable pub readList : List ℕ → ℕ → List ℕ
-readList s n = lent (readCall s n) n (sheetOf s .steps)
+readList s n = lent (readCall s n) n (reading s n .front)

@@ -2,6 +2,7 @@
 pub mod Basics
 pub mod Record
 pub mod Runs
+pub mod Newest
 pub mod Relaxed
 pub mod Painting
 pub mod Repair

@@ -12,11 +12,15 @@ use Rattle.planning.specs.Runs.{State, has, holds, step, relaxed, run, v
 unfoldable pub adds : (ℕ → Action) → State → ℕ → Bool
 adds act s i = holds s (act i .pre) && not (holds s (act i .eff))
 
+-- 4.2: the action taken next, if one adds a fact
+abbrev pub choice : (ℕ → Action) → ℕ → State → Option ℕ
+choice act A s = first A (adds act s)
+
 -- 4.2: the forward run from the state s, cut after k actions
 unfoldable pub forward : (ℕ → Action) → ℕ → List Fact → ℕ → State → List ℕ
 forward act A goal zero s = []
 forward act A goal (suc k) s =
-    elim (holds s goal) [ true ↦ [] | false ↦ elim (first A (adds act s)) [ none ↦ [] | some i ↦ i ∷ forward act A goal k (step relaxed (act i) s) ] ]
+    elim (holds s goal) [ true ↦ [] | false ↦ elim (choice act A s) [ none ↦ [] | some i ↦ i ∷ forward act A goal k (step relaxed (act i) s) ] ]
 
 -- 1.7: F, the facts that a run can add
 unfoldable pub addable : Task → ℕ

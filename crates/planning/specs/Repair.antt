@@ -86,12 +86,35 @@ unfoldable pub moves : (ℕ → Action) → ℕ → Mode → (ℕ → ℕ) → L
 moves act A m count order s ever w =
     elim (blackMet m s w) [ true ↦ [] | false ↦ fill act (λ v. shortest act A (known m s ever) v (count v)) (value count s) order [] w ]
 
+-- 6.2: a stage of the walk: the moves inserted, and behind them the action that they are for, none at the end; its steps, and those of a
+-- list of stages
+pub record Stage : Type 0 where
+  pub inserted : List ℕ
+  pub entry : List ℕ
+
+unfoldable pub stageSteps : Stage → List ℕ
+stageSteps x = x .inserted ++ x .entry
+
+unfoldable pub allSteps : List Stage → List ℕ
+allSteps [] = []
+allSteps (x ∷ xs) = stageSteps x ++ allSteps xs
+
+-- 6.2: the stage for an action; for the goals
+abbrev pub stageFor : (ℕ → Action) → ℕ → Mode → (ℕ → ℕ) → List ℕ → State → State → ℕ → Stage
+stageFor act A m count order s ever i = record { inserted = moves act A m count order s ever (act i .pre); entry = i ∷ [] }
+
+abbrev pub lastStage : (ℕ → Action) → ℕ → Mode → (ℕ → ℕ) → List ℕ → State → State → List Fact → Stage
+lastStage act A m count order s ever goal = record { inserted = moves act A m count order s ever goal; entry = [] }
+
 -- 6.2: the walk along the rest l of the relaxed plan, from the state s; the repair of a relaxed plan l
-unfoldable pub repairFrom : (ℕ → Action) → ℕ → Mode → (ℕ → ℕ) → List ℕ → List Fact → List ℕ → State → State → List ℕ
-repairFrom act A m count order goal [] s ever = moves act A m count order s ever goal
-repairFrom act A m count order goal (i ∷ l) s ever =
-    let k = moves act A m count order s ever (act i .pre) ++ (i ∷ []) in
-    k ++ repairFrom act A m count order goal l (run act m k s) (everAfter act m k s ever)
+unfoldable pub stagesFrom : (ℕ → Action) → ℕ → Mode → (ℕ → ℕ) → List ℕ → List Fact → List ℕ → State → State → List Stage
+stagesFrom act A m count order goal [] s ever = lastStage act A m count order s ever goal ∷ []
+stagesFrom act A m count order goal (i ∷ l) s ever =
+    let x = stageFor act A m count order s ever i in
+    x ∷ stagesFrom act A m count order goal l (run act m (stageSteps x) s) (everAfter act m (stageSteps x) s ever)
+
+unfoldable pub stages : Task → List ℕ → List Stage
+stages t l = stagesFrom (act t) (actions t) (black t) (count t) (order t) (goals t) l (initial t) (initial t)
 
 unfoldable pub repaired : Task → List ℕ → List ℕ
-repaired t l = repairFrom (act t) (actions t) (black t) (count t) (order t) (goals t) l (initial t) (initial t)
+repaired t l = allSteps (stages t l)

@@ -13,7 +13,7 @@ use lib.ListN.{length, getD, take}
 use lib.Seq.{slice, slice-cons, slice-empty, length-slice, getD-take, getD-drop}
 use Rattle.planning.specs.Basics.{first}
 use Rattle.planning.specs.Record.{Action, Task}
-use Rattle.planning.specs.Runs.{State, Mode, relaxed, holds, step, run, actions, act}
+use Rattle.planning.specs.Runs.{State, Mode, relaxed, holds, step, run, actions, act, runBy}
 use Rattle.planning.specs.Painting.{orZero}
 use Rattle.planning.specs.Repair.{value, blackMet}
 use Rattle.planning.proofs.Below.{First?, first-is}
@@ -76,7 +76,7 @@ module _ {t : Task} {m : Mode} {l : List ℕ} {from to : ℕ} {sets₀ sets : Li
   running-below h en = rw (← slice-at l from to k (R .from-here) h) (en (k - from) (omega (arith, length-slice from to l b, R .from-here)))
 
   pub running-turn : k < to → (i : ℕ) → i ≡ getD l k 0 → (sets′ : List ℕ) → setsOf sets′ ≡ step m (act t i) (setsOf sets) → Running t m l from to sets₀ sets′ (k + 1)
-  unfolding run
+  unfolding runBy
   running-turn h i ei sets′ e = record {
     from-here = omega (arith, R .from-here);
     within = omega arith;
@@ -84,7 +84,7 @@ module _ {t : Task} {m : Mode} {l : List ℕ} {from to : ℕ} {sets₀ sets : Li
   }
 
   pub running-end : to ≤ k → setsOf sets ≡ run (act t) m (slice from to l) (setsOf sets₀)
-  unfolding run
+  unfolding runBy
   running-end h =
       let z : k ≡ to = omega (arith, R .within) in
       sym (R .so-far ∙ rw (z, slice-empty to l) refl)

@@ -1,0 +1,137 @@
+-- Newest values, for every list and every semantics by one induction (`fresh-run`): the newest value is in the set, and it is the only one
+-- of a variable that acts as black. They do not depend on the painting. In a real run all variables act as black, so that the newest values
+-- are the real state; hence one run of any semantics tells, up to the first step that fails for real, what the real run does.
+use Prim.Native.Nat.{ℕ, zero, suc, _+_, _≤_, _<_}
+use mathlib.Core.Path.{_≡_, refl, sym, ap, _∙_}
+use mathlib.Core.Logic.{_⊎_, inl, inr}
+use mathlib.Core.Bool.{Bool, true, false, not, _&&_}
+use mathlib.Core.List.{List, [], _∷_, _++_}
+use mathlib.Core.Option.{Option, none, some}
+use lib.Dec.{T, eqb, eqb→eq, eqb-refl, ltb, lt→ltb}
+use lib.ListN.{length, getD}
+use native.Mathlib.Omega.{arith}
+use Rattle.planning.specs.Record.{Fact, Action, Task}
+use Rattle.planning.specs.Runs.{State, Mode, has, touches, look, holds, step, real, variables, variable, count, act, initial, run, runBy}
+use Rattle.planning.specs.Newest.{Values, initialValues, newer, Tracked, tracked, track, alone, tabulate}
+use Rattle.planning.proofs.Tests.{T→true, true→T, F→false, and-l, and-r, and-i}
+use Rattle.planning.proofs.Facts.{has-here, has-there, has→touches, touches→has, look-some, look-none, look-is, Func}
+use Rattle.planning.proofs.Steps.{step-eff, step-keep, step-cases}
+use Rattle.planning.proofs.Formed.{Formed, sorted-has, sorted-func}
+
+-- an effect sets the newest value; other variables keep theirs
+module _ (a : Action) (f : Values) (v : ℕ) where
+  newer-some : (d : ℕ) → look (a .eff) v ≡ some d → newer a f v ≡ d
+  unfolding newer
+  newer-some d e = rw (newer, e) refl
+
+  newer-none : look (a .eff) v ≡ none → newer a f v ≡ f v
+  unfolding newer
+  newer-none e = rw (newer, e) refl
+
+-- of the variables below n: the newest value is in the set, and alone there if the variable acts as black
+pub record Fresh (n : ℕ) (m : Mode) (x : Tracked) : Type 0 where
+  pub held : (v : ℕ) → v < n → T (x .sets v (x .newest v))
+  pub only : (v d : ℕ) → T (m v) → T (x .sets v d) → d ≡ x .newest v
+
+module _ (n : ℕ) (m : Mode) where
+  fresh-step : (a : Action) → Func (a .eff) → (x : Tracked) → Fresh n m x → Fresh n m (track m a x)
+  unfolding track
+  fresh-step a F x X = record { held = λ v h. keeps v h (look (a .eff) v) refl; only = λ v d b h. alone′ v d b (step-cases m a (x .sets) v d h) }
+    where
+      keeps : (v : ℕ) → v < n → (o : Option ℕ) → look (a .eff) v ≡ o → T (step m a (x .sets) v (newer a (x .newest) v))
+      keeps v h none e =
+          rw (newer-none a (x .newest) v e)
+          (step-keep m a (x .sets) v (x .newest v) (X .held v h) (λ b q. let w = touches→has (a .eff) v q in look-none (a .eff) v (w .0) e (w .1)))
+      keeps v h (some d) e = rw (newer-some a (x .newest) v d e) (step-eff m a (x .sets) v d (look-some (a .eff) v d e))
+
+      old : (v d : ℕ) → T (m v) → T (x .sets v d) → (T (touches (a .eff) v) → ⊥) → (o : Option ℕ) → look (a .eff) v ≡ o → d ≡ newer a (x .newest) v
+      old v d b h q none e = X .only v d b h ∙ sym (newer-none a (x .newest) v e)
+      old v d b h q (some c) e = absurd (q (has→touches (a .eff) v c (look-some (a .eff) v c e)))
+
+      alone′ : (v d : ℕ) → T (m v) → T (has (a .eff) v d) ⊎ (T (x .sets v d) × (T (m v) → T (touches (a .eff) v) → ⊥)) → d ≡ newer a (x .newest) v
+      alone′ v d b (inl h) = sym (newer-some a (x .newest) v d (look-is (a .eff) v d F h (look (a .eff) v) refl))
+      alone′ v d b (inr k) = old v d b (k .0) (k .1 b) (look (a .eff) v) refl
+
+  fresh-run : (act : ℕ → Action) → ((i : ℕ) → Func (act i .eff)) → (l : List ℕ) (x : Tracked) → Fresh n m x → Fresh n m (runBy (λ i. track m (act i)) l x)
+  unfolding runBy
+  fresh-run act F [] x X = X
+  fresh-run act F (i ∷ l) x X = fresh-run act F l (track m (act i) x) (fresh-step (act i) (F i) x X)
+
+-- sets and newest values are each those of a run of their own, the latter without a mode
+module _ (act : ℕ → Action) (m : Mode) where
+  pub track-sets : (l : List ℕ) (x : Tracked) → runBy (λ i. track m (act i)) l x .sets ≡ run act m l (x .sets)
+  unfolding runBy track
+  track-sets [] x = refl
+  track-sets (i ∷ l) x = track-sets l (track m (act i) x)
+
+  pub track-newest : (l : List ℕ) (x : Tracked) → runBy (λ i. track m (act i)) l x .newest ≡ runBy (λ i. newer (act i)) l (x .newest)
+  unfolding runBy track
+  track-newest [] x = refl
+  track-newest (i ∷ l) x = track-newest l (track m (act i) x)
+
+-- two lists of tests that agree on the facts of a list hold it alike
+pub holds-same : (s u : State) (fs : List Fact) → ((v d : ℕ) → T (has fs v d) → s v d ≡ u v d) → holds s fs ≡ holds u fs
+unfolding holds
+holds-same s u [] h = refl
+holds-same s u (f ∷ fs) h = rw (h (f .var) (f .val) (has-here f fs), holds-same s u fs (λ v d t. h v d (has-there f fs v d t))) refl
+
+module _ (t : Task) (F : Formed t) where
+  fresh-initial : (m : Mode) → Fresh (variables t) m (tracked t)
+  unfolding tracked initial initialValues
+  fresh-initial m = record {
+    held = λ v h. and-i (ltb v (variables t)) (eqb (variable t v .init) (variable t v .init)) (lt→ltb v (variables t) h) (eqb-refl (variable t v .init));
+    only = λ v d b h. eqb→eq d (variable t v .init) (and-r (ltb v (variables t)) (eqb d (variable t v .init)) h);
+  }
+
+  -- the law, for every list and semantics from the initial state
+  pub fresh : (m : Mode) (l : List ℕ) → Fresh (variables t) m (runBy (λ i. track m (act t i)) l (tracked t))
+  fresh m l = fresh-run (variables t) m (act t) (λ i. sorted-func (variables t) (count t) 0 (act t i .eff) (F .eff-sorted i)) l (tracked t) (fresh-initial m)
+
+  -- the newest values after a list, whatever the painting
+  abbrev pub newestAfter : List ℕ → Values
+  newestAfter l = runBy (λ i. newer (act t i)) l (initialValues t)
+
+  pub newest-any : (m : Mode) (l : List ℕ) → runBy (λ i. track m (act t i)) l (tracked t) .newest ≡ newestAfter l
+  unfolding tracked
+  newest-any m l = track-newest (act t) m l (tracked t)
+
+  -- the real state: the newest values alone
+  pub real-state : (l : List ℕ) (v d : ℕ) → v < variables t → run (act t) real l (initial t) v d ≡ alone (newestAfter l) v d
+  unfolding tracked alone
+  real-state l v d h = go (run (act t) real l (initial t) v d) refl
+    where
+      X : Fresh (variables t) real (runBy (λ i. track real (act t i)) l (tracked t))
+      X = fresh real l
+
+      sets : runBy (λ i. track real (act t i)) l (tracked t) .sets ≡ run (act t) real l (initial t)
+      sets = track-sets (act t) real l (tracked t)
+
+      go : (b : Bool) → run (act t) real l (initial t) v d ≡ b → b ≡ eqb d (newestAfter l v)
+      go true e =
+          let q : d ≡ newestAfter l v = X .only v d tt (rw (sets, e) tt) ∙ ap (λ (f : Values). f v) (newest-any real l) in
+          sym (T→true (eqb d (newestAfter l v)) (rw q (eqb-refl (newestAfter l v))))
+      go false e = sym (F→false (eqb d (newestAfter l v)) (λ q. no (eqb→eq d (newestAfter l v) q)))
+        where
+          no : d ≡ newestAfter l v → ⊥
+          no q =
+              let w : T (run (act t) real l (initial t) v (newestAfter l v)) = rw (sets, newest-any real l) at (X .held v h) in
+              let y : T (run (act t) real l (initial t) v d) = rw q w in
+              rw e at y
+
+  pub real-holds : (l : List ℕ) (fs : List Fact) → ((v d : ℕ) → T (has fs v d) → v < variables t) → holds (run (act t) real l (initial t)) fs ≡ holds (alone (newestAfter l)) fs
+  real-holds l fs h = holds-same (run (act t) real l (initial t)) (alone (newestAfter l)) fs (λ v d x. real-state l v d (h v d x))
+
+  pub real-applies : (l : List ℕ) (i : ℕ) → holds (run (act t) real l (initial t)) (act t i .pre) ≡ holds (alone (newestAfter l)) (act t i .pre)
+  real-applies l i = real-holds l (act t i .pre) (λ v d x. sorted-has (variables t) (count t) 0 (act t i .pre) (F .pre-sorted i) v d x .var-below)
+
+-- the numbers of a table
+pub tabulate-length : (n : ℕ) (f : ℕ → ℕ) → length (tabulate n f) ≡ n
+unfolding tabulate
+tabulate-length zero f = refl
+tabulate-length (suc n) f = ap suc (tabulate-length n (λ v. f (suc v)))
+
+pub tabulate-at : (n : ℕ) (f : ℕ → ℕ) (k : ℕ) → k < n → getD (tabulate n f) k 0 ≡ f k
+unfolding tabulate
+tabulate-at zero f k h = absurd (omega arith)
+tabulate-at (suc n) f zero h = refl
+tabulate-at (suc n) f (suc k) h = tabulate-at n (λ v. f (suc v)) k (omega arith)
