@@ -41,7 +41,7 @@ ltb-more w v h = go (decLt w v)
     go (yes l) = lt-ltb w (v + 1) (omega arith) ∙ sym (lt-ltb w v l)
     go (no l) = le-ltb w (v + 1) (omega arith) ∙ sym (le-ltb w v (omega arith))
 
-getD-zeros : (n w : ℕ) → _≡_ {A = ℕ} (getD (replicate n 0) w 0) 0
+pub getD-zeros : (n w : ℕ) → _≡_ {A = ℕ} (getD (replicate n 0) w 0) 0
 getD-zeros zero w = refl
 getD-zeros (suc n) zero = refl
 getD-zeros (suc n) (suc w) = getD-zeros n w

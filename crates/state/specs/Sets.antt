@@ -1,4 +1,4 @@
--- Sets of values as numbers, and the state that 64 of them stand for.
+-- Sets of values as numbers, and the state that 64 of them, with 64 newest values, stand for.
 use mathlib.Core.Path.{_≡_}
 use mathlib.Core.Bool.{Bool, true, false}
 use mathlib.Core.List.{List}
@@ -9,6 +9,7 @@ use lib.Dec.{eqb}
 use lib.ListN.{getD}
 use Rattle.planning.specs.Record.{Task}
 use Rattle.planning.specs.Runs.{State, Mode, variables, count, goals}
+use Rattle.planning.specs.Newest.{Values}
 use Rattle.task.specs.Task.{factsIn}
 use Rattle.state.specs.declared.Goals.{Goals}
 
@@ -19,6 +20,10 @@ inSet m x = eqb (m / 2 ^ x % 2) 1
 -- one set a variable
 unfoldable pub setsOf : List ℕ → State
 setsOf ms v x = inSet (getD ms v 0) x
+
+-- newest values, one a variable
+unfoldable pub valuesOf : List ℕ → Values
+valuesOf ns v = getD ns v 0
 
 -- a set of variables, those that act as black
 unfoldable pub modeOf : ℕ → Mode

@@ -1,12 +1,13 @@
-// States: for each of 64 variables the set of its values, one bit a value. The step takes a state and hands the next one back
-// whole; which variables act as black is a set of variables, so that the three semantics are one step.
+// States: for each of 64 variables the set of its values, one bit a value, and its newest value. The step takes a state and hands the
+// next one back whole; which variables act as black is a set of variables, so that the three semantics are one step.
 use task::Goal;
 ghost use mathlib.Core.Path.{_≡_};
 ghost use Prim.Native.Nat.{ℕ, _+_, _*_, _/_, _%_, _^_, _<_, _≤_};
 ghost use lib.ListN.{length, getD};
 ghost use Rattle.planning.specs.Runs.{actions, act, holds, look, step, initial, black, size};
+ghost use Rattle.planning.specs.Newest.{initialValues, newer, alone};
 ghost use Rattle.task.specs.Task.{factsIn, taskIn, Loaded};
-ghost use Rattle.state.specs.Sets.{inSet, mixed, setsOf, modeOf, GoalsOf, Asked};
+ghost use Rattle.state.specs.Sets.{inSet, mixed, setsOf, valuesOf, modeOf, GoalsOf, Asked};
 
 // The set of value x alone.
 pub fn single(x: usize) -> u64
@@ -54,6 +55,35 @@ pub fn applies(sets: &[u64; 64], task: &[u16], i: usize) -> bool
 {
     all_hold(
         sets,
+        task,
+        task::pre_start(task, i),
+        task::eff_start(task, i),
+    )
+}
+
+// Each fact from place `from` up to `to` is the newest value of its variable.
+pub fn all_newest(newest: &[u8; 64], facts: &[u16], from: usize, to: usize) -> bool
+    requires { ⌜ (from ≤ to) × (to ≤ length (now facts)) × ((k : ℕ) → from ≤ k → k < to → getD (now facts) k 0 < 4096) ⌝ }
+    ensures { λ r. ⌜ r ≡ holds (alone (valuesOf (now (newest .entry)))) (factsIn (now (facts .entry)) from to) ⌝ }
+{
+    let mut k = from;
+    while k < to {
+        let f = lists::wide(facts[k]);
+        if newest[f / 64] != (f % 64) as u8 {
+            return false;
+        }
+        k += 1;
+    }
+    true
+}
+
+// Action i applies where each variable has its newest value alone.
+pub fn applies_newest(newest: &[u8; 64], task: &[u16], i: usize) -> bool
+    requires { ⌜ Loaded (now task) × (i < actions (taskIn (now task))) ⌝ }
+    ensures { λ r. ⌜ r ≡ holds (alone (valuesOf (now (newest .entry)))) (act (taskIn (now (task .entry))) i .pre) ⌝ }
+{
+    all_newest(
+        newest,
         task,
         task::pre_start(task, i),
         task::eff_start(task, i),
@@ -132,18 +162,24 @@ impl Goals {
 
 pub struct State {
     pub sets: [u64; 64],
+    pub newest: [u8; 64],
 }
 
 impl State {
-    // Each set holds the initial value alone.
+    // Each set holds the initial value alone, and it is the newest.
     pub fn initial(task: &[u16]) -> State
         requires { ⌜ Loaded (now task) ⌝ }
-        ensures { λ r. ⌜ setsOf (r .sets) ≡ initial (taskIn (now (task .entry))) ⌝ }
+        ensures { λ r. ⌜ (setsOf (r .sets) ≡ initial (taskIn (now (task .entry)))) × (valuesOf (r .newest) ≡ initialValues (taskIn (now (task .entry)))) ⌝ }
     {
         let n = task::variables(task);
-        let mut s = State { sets: [0; 64] };
+        let mut s = State {
+            sets: [0; 64],
+            newest: [0; 64],
+        };
         for v in 0..n {
-            s.sets[v] = single(task::initial(task, v));
+            let x = task::initial(task, v);
+            s.sets[v] = single(x);
+            s.newest[v] = x as u8;
         }
         s
     }
@@ -151,14 +187,16 @@ impl State {
     // The state after action i, whole. Variable v acts as black where bit v of `mode` is 1.
     pub fn step(mut self, task: &[u16], i: usize, mode: u64) -> State
         requires { ⌜ Loaded (now task) × (i < actions (taskIn (now task))) ⌝ }
-        ensures { λ r. ⌜ setsOf (r .sets) ≡ step (modeOf mode) (act (taskIn (now (task .entry))) i) (setsOf (self .sets)) ⌝ }
+        ensures { λ r. ⌜ (setsOf (r .sets) ≡ step (modeOf mode) (act (taskIn (now (task .entry))) i) (setsOf (self .sets))) × (valuesOf (r .newest) ≡ newer (act (taskIn (now (task .entry))) i) (valuesOf (self .newest))) ⌝ }
     {
         let end = task::eff_end(task, i);
         let mut k = task::eff_start(task, i);
         while k < end {
             let f = lists::wide(task[k]);
             let v = f / 64;
-            self.sets[v] = changed(self.sets[v], f % 64, member(mode, v));
+            let x = f % 64;
+            self.sets[v] = changed(self.sets[v], x, member(mode, v));
+            self.newest[v] = x as u8;
             k += 1;
         }
         self
