@@ -21,7 +21,7 @@ pub fn in_words(store: &Store, refusal: Refusal, list: Option<&[u16]>) -> String
         8 => painting::lacking_return(store, place),
         9 => list.map(|list| list::entry(store, list, place)),
         10 => Some(planning::no_plan(store, place)),
-        11 => Some(planning::no_room(store, place)),
+        11 => Some(planning::no_room(store, place) + &list::few_values(store, place)),
         13 => list.map(|list| list::too_long(list, place)),
         _ => None,
     };
@@ -52,7 +52,7 @@ pub fn in_general(refusal: Refusal) -> String {
              if the list ends there, a goal is missed"
         ),
         10 => format!("no plan: {place} facts are reached, and not all goals are among them"),
-        11 => format!("there is room for {place} (steps, or bytes of a sheet), and the result is longer"),
+        11 => format!("there is room for {place} (steps, values, or bytes of a sheet), and the result is longer"),
         12 => format!(
             "the sheet is faulty at bit {place}: cut short, not of edition 1, too many steps, or more \
              behind its last step"
