@@ -159,11 +159,11 @@ typedef struct {
 } mardiskos_newest_values;
 
 /* Where things were put last. The newest value of a variable is its initial value until a step sets the variable,
- * then the value set last, also where the variable had that value before. The list is run red-black up to the
- * first step that does not apply; the newest value of each variable there fills the front of the values list,
- * which needs an entry for each variable of the record (MARDISKOS_MOST_VARIABLES are always enough), and 65,535
- * the rest. If steps and runs are equal, the values are the real state. For the state in which a real run stops,
- * hand over the first `runs` actions alone. Refuses with 1 to 6, 13, 9, 11. The painting may be any. */
+ * then the value set last, also where the variable had that value before. The list is run red-black until a
+ * step does not apply; the newest value of each variable there fills the front of the values list, which needs
+ * an entry for each variable of the record (MARDISKOS_MOST_VARIABLES are always enough), and 65,535 the rest.
+ * If steps and runs are equal, the values are the real state. For the state in which a real run stops, hand
+ * over the first `runs` actions alone. Refuses with 1 to 6, 13, 9, 11. The painting may be any. */
 mardiskos_newest_values mardiskos_newest(const uint8_t *record, size_t len, const uint16_t *list,
                                          size_t list_len, uint16_t *values, size_t values_len);
 

@@ -193,8 +193,8 @@ def judge(record: bytes, actions: Iterable[int]) -> Judgement:
 
 
 def newest(record: bytes, actions: Iterable[int]) -> Newest:
-    """What each variable was set to last, at first its initial value, in a red-black run of the actions up to the first that does
-    not apply. Where all those steps run for real, it is the real state. Refuses with 13 and 9 too."""
+    """What each variable was set to last, at first its initial value, in a red-black run of the actions until one does not apply.
+    Where all those steps run for real, it is the real state. Refuses with 13 and 9 too."""
     actions, room = array("H", actions), _room(MAX_VARIABLES)
     found = _library.mardiskos_newest(*_bytes(record), *_lend(actions), *_lend(room))
     _accept(found.code)

@@ -105,7 +105,7 @@ pub fn judge(record: &[u8], list: &[u16]) -> Result<Judgement, Refusal> {
 }
 
 /// The newest value of each variable: the value that it was set to last, at first its initial one. The list is run red-black
-/// up to the first step that does not apply. Refuses with 13 and 9 too.
+/// until a step does not apply. Refuses with 13 and 9 too.
 ///
 /// ```
 /// # fn main() -> Result<(), Box<dyn std::error::Error>> {

@@ -89,7 +89,7 @@ pub fn explain(call: &mut Call) -> Outcome {
         Some(_) => {
             let store = call.store(2)?;
             let list = call.arguments.get(3).is_some().then(|| call.list(3, &store)).transpose()?;
-            explain::in_words(&store, refusal, list.as_ref().map(|plan| plan.steps.as_slice()))
+            explain::of_any_call(&store, refusal, list.as_ref().map(|plan| plan.steps.as_slice()))
         }
     };
     call.files.print(format!("{words}\n").as_bytes())

@@ -324,8 +324,7 @@ fn large_products() {
     assert_eq!(
         words,
         format!(
-            "there is room for 1 step, and the plan is longer: room for 2 steps would do ({bound}); {}",
-            "newest values need as many entries as there are variables, 64"
+            "there is room for 1 step, and the plan is longer: room for 2 steps would do ({bound})"
         )
     );
 }

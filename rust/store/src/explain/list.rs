@@ -1,4 +1,4 @@
-//! Refusals 9 and 13, and 11 for newest values: entries of a list.
+//! Refusals 9 and 13: entries of a list.
 
 use reference::entry::MAX_STEPS;
 use reference::state::Semantics;
@@ -31,15 +31,5 @@ pub fn too_long(list: &[u16], place: usize) -> String {
             format!("entry {place} of the list is {entry}; a sheet holds actions up to 1,023")
         }
         _ => format!("the list has {} entries; {most} is the most", grouped(list.len() as u128)),
-    }
-}
-
-/// 11: a list for newest values with fewer entries than there are variables; else nothing.
-pub fn few_values(store: &Store, room: usize) -> String {
-    match store.variables.len() {
-        variables if variables > room => {
-            format!("; newest values need as many entries as there are variables, {variables}")
-        }
-        _ => String::new(),
     }
 }

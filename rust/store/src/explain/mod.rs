@@ -21,11 +21,21 @@ pub fn in_words(store: &Store, refusal: Refusal, list: Option<&[u16]>) -> String
         8 => painting::lacking_return(store, place),
         9 => list.map(|list| list::entry(store, list, place)),
         10 => Some(planning::no_plan(store, place)),
-        11 => Some(planning::no_room(store, place) + &list::few_values(store, place)),
+        11 => Some(planning::no_room(store, place)),
         13 => list.map(|list| list::too_long(list, place)),
         _ => None,
     };
     words.unwrap_or_else(|| in_general(refusal))
+}
+
+/// The same where it is not known which call refused: 11 may be that of newest values.
+pub fn of_any_call(store: &Store, refusal: Refusal, list: Option<&[u16]>) -> String {
+    let words = in_words(store, refusal, list);
+    let (variables, place) = (store.variables.len(), refusal.place as usize);
+    if refusal.number != 11 || place >= variables {
+        return words;
+    }
+    format!("{words}; newest values need as many entries as there are variables, {variables}")
 }
 
 /// What a refusal means where nothing is known but its number and place.
