@@ -3,6 +3,7 @@
     import mardiskos
     record = open("examples/two-shelves.record", "rb").read()
     plan = mardiskos.plan(record)         # Plan(steps=[0, 2, 1, 3], cost=10, runs=4, real=True)
+    mardiskos.newest(record, plan.steps)  # Newest(values=[0, 0], steps=4, runs=4)
     sheet = mardiskos.write_sheet(plan.steps, plan.cost, plan.real)
 
 Records and sheets are bytes or anything like them, lists of actions any iterable of numbers. A refusal raises `Refused`, which
