@@ -68,7 +68,13 @@ fn an_effect_that_is_the_own_precondition() {
 #[test]
 fn the_example() {
     let task = examples::newest();
-    assert_eq!(answer(&task, &[0, 2, 3, 4, 0, 1]), (4, 3, vec![1, 0, 0]));
+    let list = [0, 2, 3, 4, 0, 1];
+    let behind = [[0, 0, 0], [1, 0, 1], [1, 1, 1], [1, 0, 1], [1, 0, 0], [1, 0, 0], [1, 0, 0]];
+    for (len, values) in behind.iter().enumerate() {
+        let (steps, runs) = (len.min(4) as u32, len.min(3) as u32);
+        assert_eq!(answer(&task, &list[..len]), (steps, runs, values.to_vec()));
+    }
+    assert_eq!(refused(&record::write(&task), &list, 2), (11, 2));
     assert_eq!(answer(&task, &[0, 2, 1]), (3, 3, vec![0, 1, 1]));
 }
 
