@@ -73,9 +73,11 @@ check-action-facts-requires c κs =
       sym ((passed _ _ _ _ (c .before .e .given .1) (at-take3 .take3 .ensures)) .1),
       omega (arith, (passed _ _ _ _ (at-take3 .before .before .p .given .1) (at-take2 .take2 .ensures)) .1, bitsAt-lt (at-start .args .bytes .now) (at-start .args .at + 16) 4),
       omega (arith, (passed _ _ _ _ (c .before .e .given .1) (at-take3 .take3 .ensures)) .1, bitsAt-lt (at-start .args .bytes .now) (at-start .args .at + 20) 4),
-      search needs,
-      search needs,
-      search needs,
+      (
+        search needs,
+        search needs,
+        search needs,
+      ),
     )
 
 returns-4 : tie.Need-returns-4
