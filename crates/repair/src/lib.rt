@@ -183,6 +183,7 @@ fn finish(
     requires { ⌜ Prepared (now task) × Lent (now plan) (now work) at ⌝ }
     requires { ⌜ Memo (taskIn (now task)) (setsOf (now ever)) (now memo) ⌝ }
     ensures { λ r. ⌜ Put (now (plan .entry)) (now (plan .exit)) at (lastMoves (taskIn (now (task .entry))) (setsOf (now (ever .entry))) (setsOf (now (sets .entry)))) r ⌝ }
+    ensures { λ _. ⌜ Memo (taskIn (now (task .entry))) (setsOf (now (ever .entry))) (now (memo .exit)) ⌝ }
 {
     let goals = Goals::load(task);
     let facts = goals.facts;

@@ -1,9 +1,8 @@
 use borrow.Author.Needs.{needs}
+use mathlib.Core.Path.{refl}
+use native.Mathlib.Omega.{arith}
 use Rattle.repair.proofs.verdict.Statement.{statement}
 use Rattle.repair.proofs.verdict.Tie as tie
-use Rattle.repair.proofs.verdict.Reads as reads
-use Rattle.repair.proofs.verdict.Lts as lts
-use Rattle.repair.proofs.at_goals.Reads as at-goals-reads
 
 at-goals-requires : tie.Need-at-goals-requires
 at-goals-requires c κs = search needs
