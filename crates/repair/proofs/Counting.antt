@@ -8,6 +8,7 @@ use native.Mathlib.Omega.{arith}
 use borrow.Author.Tests.{eqb-true, eqb-false, eq-eqb, ne-eqb}
 use lib.Dec.{eqb}
 use lib.ListN.{length, length-append}
+use Rattle.planning.specs.Basics.{done}
 use Rattle.planning.specs.Record.{Action, Task}
 use Rattle.planning.specs.Runs.{State, holds, step, real, actions, act, initial, goals, runBy, stepsBy, run, runs, stepsRun, isPlan, costOf, allBelow}
 use Rattle.planning.specs.Newest.{Values, initialValues, newer, alone}
@@ -34,6 +35,16 @@ module _ (b : Bool) (n k : ℕ) where
   pub further-fails : n ≡ k → b ≡ false → n ≡ further b n k
   unfolding further
   further-fails h e = rw (further, eq-eqb n k h, e) refl
+
+-- the answer: where all steps run for real the goals decide, else it is no plan
+module _ (c : Counts) (met : Bool) where
+  pub judged-all : (r : Bool) → eqb (c .runs) (c .steps) ≡ true → r ≡ met
+      → done (record { steps = c .steps; cost = c .cost; real′ = r; runs = c .runs }) ≡ done (judgedBy met c)
+  judged-all r h e = rw (h, e) refl
+
+  pub judged-some : eqb (c .runs) (c .steps) ≡ false
+      → done (record { steps = c .steps; cost = c .cost; real′ = eqb (c .runs) (c .steps); runs = c .runs }) ≡ done (judgedBy met c)
+  judged-some h = rw h refl
 
 -- the newest values after a list
 abbrev pub newestOf : Task → List ℕ → Values

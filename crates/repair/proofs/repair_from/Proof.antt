@@ -6,7 +6,7 @@ use mathlib.Core.Path.{_≡_, sym, ap, _∙_}
 use Prim.Native.Nat.{ℕ, _+_, _-_, _*_, _<_}
 use native.Mathlib.Omega.{arith}
 use lib.ListN.{length, take, drop}
-use Rattle.planning.specs.Basics.{done}
+use Rattle.planning.specs.Basics.{refused}
 use Rattle.planning.specs.Runs.{Mode, relaxed, step, actions, act}
 use Rattle.task.specs.Task.{taskIn}
 use Rattle.state.specs.Sets.{setsOf, valuesOf}
@@ -158,7 +158,7 @@ returns-2 : tie.Need-returns-2 Inv-loop μ-loop
 returns-2 c =
     let p = c .before .before .before .before .before .before in
     let h = again-of (stage-of p) .before .before in
-    held-long _ _ _ _ _ (c .too-long .ensures ∙ ap _ (p .plan .given ∙ h .loop .inv .long)) (repairing-long (arranged p) (c .before .enum-told .given .1))
+    held-long _ _ _ _ _ (c .too-long .ensures ∙ ap (refused 11) (p .plan .given ∙ h .loop .inv .long)) (repairing-long (arranged p) (c .before .enum-told .given .1))
 
 add-j : tie.Need-add-j Inv-loop μ-loop
 add-j c =
