@@ -20,7 +20,7 @@ use Rattle.planning.specs.Painting.{causalArc, blackArc, onCycle, cyclic
 use Rattle.planning.specs.Painting.{unreturned, acyclicCheck, returnCheck}
 use Rattle.planning.specs.Repair.{known, union, everAfter, usableArc, adjacent, pathIn, shortest, toward, after, pass, fill, ready, clientsFirst}
 use Rattle.planning.specs.Repair.{order, value, blackMet, moves, stageSteps, allSteps, stagesFrom, stages, repaired}
-use Rattle.planning.specs.Newest.{initialValues, newer, tracked, track, stepsPainted, stopsIn, tabulate, newestValues, Traced, traced}
+use Rattle.planning.specs.Newest.{initialValues, newer, tracked, track, stepsPainted, stopsIn, tabulate, newestValues, traced}
 use Rattle.planning.specs.Existence.{share, blackProduct}
 use Rattle.planning.specs.Calls.{Planned, lent, capacity, capacityOf, roomCheck, goalsCheck, planned, planOf, planCall, planList}
 use Rattle.planning.specs.Calls.{newestCall, newestList, lengthCheck, notBelow, entriesCheck}
@@ -97,6 +97,12 @@ variables64 = 24 ∷ 0 ∷ redPairs 32 (0 ∷ [])
 
 unfoldable pub variables65 : List ℕ
 variables65 = 24 ∷ 32 ∷ redPairs 32 (3 ∷ 240 ∷ 0 ∷ 0 ∷ [])
+
+-- newest, 12.17
+unfoldable pub newest : List ℕ
+newest =
+    16 ∷ 96 ∷ 20 ∷ 24 ∷ 16 ∷ 1 ∷ 1 ∷ 4 ∷ 16 ∷ 0 ∷ 0 ∷ 1 ∷ 4 ∷ 128 ∷ 0 ∷ 0 ∷ 66 ∷ 4 ∷ 0 ∷ 16 ∷ 68 ∷ 0 ∷ 64 ∷ 0 ∷ 0 ∷ 4 ∷
+    132 ∷ 0 ∷ 65 ∷ 0 ∷ 16 ∷ 64 ∷ 0 ∷ 72 ∷ 64 ∷ 4 ∷ 16 ∷ 65 ∷ 0 ∷ 0 ∷ 8 ∷ 132 ∷ 16 ∷ 66 ∷ 0 ∷ 32 ∷ 0 ∷ []
 
 -- how a clause writes facts, actions and variables
 abbrev pub fact : ℕ → ℕ → Fact
@@ -180,12 +186,13 @@ plan n l c b r = record { number = 0; place = 0; steps = n; list = l; cost = c; 
 abbrev pub refusal : ℕ → ℕ → List ℕ → Outcome
 refusal n p l = record { number = n; place = p; steps = 0; list = l; cost = 0; real = false; runs = 0 }
 
--- 3.12: a box on a red variable, moved to 1 and back to 0, and one that is put where it was
-abbrev pub boxes : Task
-boxes =
-    task (redOne 2 0 none ∷ blackOne 2 0 none ∷ [])
-    (action 1 (fact 0 0 ∷ []) (fact 0 1 ∷ []) ∷ action 1 (fact 0 1 ∷ []) (fact 0 0 ∷ []) ∷ action 1 (fact 0 0 ∷ []) (fact 0 0 ∷ [])
-    ∷ action 1 (fact 1 1 ∷ []) (fact 1 0 ∷ []) ∷ [])
+-- newest, 12.17: driving out lights the lamp, scanning needs it off and leaves it off
+abbrev pub newestTask : Task
+newestTask =
+    task (blackOne 2 0 (some 0) ∷ redOne 2 0 (some 1) ∷ redOne 2 0 none ∷ [])
+    (action 4 (fact 0 0 ∷ []) (fact 0 1 ∷ fact 2 1 ∷ []) ∷ action 4 (fact 0 1 ∷ []) (fact 0 0 ∷ [])
+    ∷ action 1 (fact 0 1 ∷ fact 1 0 ∷ []) (fact 1 1 ∷ []) ∷ action 1 (fact 0 1 ∷ fact 1 1 ∷ []) (fact 1 0 ∷ [])
+    ∷ action 2 (fact 1 1 ∷ fact 2 0 ∷ []) (fact 2 0 ∷ []) ∷ [])
 
 -- what is told of a list, and the values' list of n entries afterwards
 unfoldable pub desk : List ℕ → List ℕ → ℕ → Outcome
@@ -235,16 +242,16 @@ pub starred :
     × (called litReturn 6 ≡ plan 5 (1 ∷ 3 ∷ 2 ∷ 4 ∷ 0 ∷ 65535 ∷ []) 13 true 5)
     × (taskOf repeatedVariable ≡ task (redOne 2 0 none ∷ []) (action 1 [] (fact 0 0 ∷ fact 0 1 ∷ []) ∷ []))
     × (called repeatedVariable 1 ≡ refusal 5 78 (65535 ∷ []))
-    × (newestValues boxes [] ≡ 0 ∷ 0 ∷ [])
-    × (newestValues boxes (0 ∷ []) ≡ 1 ∷ 0 ∷ [])
-    × (newestValues boxes (0 ∷ 1 ∷ []) ≡ 0 ∷ 0 ∷ [])
-    × (newestValues boxes (0 ∷ 2 ∷ []) ≡ 0 ∷ 0 ∷ [])
-    × (newestValues boxes (0 ∷ 2 ∷ 0 ∷ 3 ∷ 2 ∷ []) ≡ 1 ∷ 0 ∷ [])
-    × (traced boxes (0 ∷ 2 ∷ 0 ∷ 3 ∷ 2 ∷ []) ≡ record { steps = 3; runs = 1 })
+    × (taskOf newest ≡ newestTask)
+    × (called newest 4 ≡ plan 3 (0 ∷ 2 ∷ 1 ∷ 65535 ∷ []) 9 true 3)
+    × (desk newest [] 3 ≡ shown 0 0 (0 ∷ 0 ∷ 0 ∷ []))
+    × (desk newest (0 ∷ 2 ∷ 1 ∷ []) 3 ≡ shown 3 3 (0 ∷ 1 ∷ 1 ∷ []))
+    × (desk newest (0 ∷ 2 ∷ 3 ∷ []) 3 ≡ shown 3 3 (1 ∷ 0 ∷ 1 ∷ []))
+    × (desk newest (0 ∷ 2 ∷ 3 ∷ 4 ∷ 0 ∷ 1 ∷ []) 5 ≡ shown 4 3 (1 ∷ 0 ∷ 0 ∷ 65535 ∷ 65535 ∷ []))
+    × (desk newest (0 ∷ 2 ∷ 1 ∷ []) 2 ≡ refusal 11 2 (65535 ∷ 65535 ∷ []))
+    × (desk newest (0 ∷ 2 ∷ 5 ∷ []) 2 ≡ refusal 9 2 (65535 ∷ 65535 ∷ []))
     × (desk twoShelves (0 ∷ 2 ∷ 1 ∷ 3 ∷ []) 2 ≡ shown 4 4 (0 ∷ 0 ∷ []))
     × (desk tray (0 ∷ 1 ∷ []) 4 ≡ shown 2 1 (1 ∷ 1 ∷ 1 ∷ 65535 ∷ []))
-    × (desk tray (0 ∷ 1 ∷ []) 2 ≡ refusal 11 2 (65535 ∷ 65535 ∷ []))
-    × (desk tray (0 ∷ 2 ∷ []) 2 ≡ refusal 9 1 (65535 ∷ 65535 ∷ []))
 unfolding times share blackProduct check andThen inOrder answer bitAt bitsAt holdsField someBelow oneIf tally first total refuseAt reach variablesIn
     actionsIn goalOf variableAt variablesAt factsAt preconditionsIn effectsIn effectsFrom actionEnd actionAt actionsAt actionsEnd taskOf fieldCheck
     headerChecks goalFits variableChecks variablesChecks countIn factChecks factsChecks actionChecks actionsChecks endsAt recordEnd recordChecks
@@ -254,7 +261,7 @@ unfolding times share blackProduct check andThen inOrder answer bitAt bitsAt hol
     pathIn shortest toward after pass fill ready clientsFirst order value blackMet moves stageSteps allSteps stagesFrom stages repaired lent
     capacity capacityOf roomCheck goalsCheck planned planOf planCall planList called outcome redPairs variables64 variables65 twoShelves withoutOne withoutTwo lampOne lampTwo
     bothBlack goalMet tray door litReturn repeatedVariable initialValues newer tracked track stepsPainted stopsIn tabulate newestValues traced
-    newestCall newestList lengthCheck notBelow entriesCheck desk
+    newestCall newestList lengthCheck notBelow entriesCheck desk newest
 starred = (
   refl,
   refl,

@@ -1,5 +1,6 @@
 -- Newest values (3.12, 3.13).
 use Prim.Native.Nat.{ℕ, zero, suc}
+use mathlib.Core.Bool.{Bool}
 use mathlib.Core.List.{List, [], _∷_}
 use mathlib.Core.Option.{none, some}
 use lib.Dec.{eqb}
@@ -29,7 +30,7 @@ unfoldable pub track : Mode → Action → Tracked → Tracked
 track m a x = record { sets = step m a (x .sets); newest = newer a (x .newest) }
 
 -- 3.12: the state in which each set is the newest value alone
-unfoldable pub alone : Values → State
+unfoldable pub alone : Values → ℕ → ℕ → Bool
 alone f v d = eqb d (f v)
 
 -- 3.13: how many steps of a list run red-black; the state in which that run stops
