@@ -1,13 +1,11 @@
 -- Entries of the lists that passes build are actions; parts of a list that was written.
-use mathlib.Core.Path.{_≡_, refl, sym, ap, _∙_, subst}
 use mathlib.Core.Bool.{Bool, true, false, _&&_, _||_}
 use mathlib.Core.List.{List, [], _∷_, _++_}
 use mathlib.Core.Option.{Option, none, some}
-use Prim.Native.Nat.{ℕ, zero, suc, _+_, _-_, _<_, _≤_}
+use Prim.Native.Nat.{ℕ, zero, suc, _+_, _-_, _<_}
 use native.Mathlib.Omega.{arith}
 use lib.Dec.{T, eqb}
-use lib.ListN.{length, getD, take, drop}
-use lib.Seq.{take-add, take-at, drop-at, length-take-le}
+use lib.ListN.{length, getD}
 use Rattle.planning.specs.Basics.{first, reach}
 use Rattle.planning.specs.Record.{Fact, Action, Task}
 use Rattle.planning.specs.Runs.{State, Mode, look, variables, actions, count, act, black, goals}

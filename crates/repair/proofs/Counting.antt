@@ -1,15 +1,15 @@
 -- What is counted along a list. As long as every step ran for real the newest values are the real state, so that the next step is tested on
 -- them; once one has failed the count stays.
 use mathlib.Core.Path.{_≡_, refl, sym, ap, _∙_}
-use mathlib.Core.Bool.{Bool, true, false, _&&_}
+use mathlib.Core.Bool.{Bool, true, false}
 use mathlib.Core.List.{List, [], _∷_, _++_}
-use Prim.Native.Nat.{ℕ, suc, _+_, _*_, _<_, _≤_}
+use Prim.Native.Nat.{ℕ, _+_, _*_, _<_, _≤_}
 use native.Mathlib.Omega.{arith}
 use borrow.Author.Tests.{eqb-true, eqb-false, eq-eqb, ne-eqb}
 use lib.Dec.{eqb}
 use lib.ListN.{length, length-append}
 use Rattle.planning.specs.Basics.{done}
-use Rattle.planning.specs.Record.{Action, Task}
+use Rattle.planning.specs.Record.{Task}
 use Rattle.planning.specs.Runs.{State, holds, step, real, actions, act, initial, goals, runBy, stepsBy, run, runs, stepsRun, isPlan, costOf, allBelow}
 use Rattle.planning.specs.Newest.{Values, initialValues, newer, alone}
 use Rattle.planning.specs.Calls.{planned}

@@ -1,9 +1,9 @@
 -- The goals as a front part of a list of facts, and the answer from the front parts of both lists.
 use mathlib.Core.Path.{_≡_, refl, sym, ap, _∙_, subst}
-use mathlib.Core.List.{List, [], _++_, map}
+use mathlib.Core.List.{List, _++_, map}
 use Prim.Native.Nat.{ℕ, _<_, _≤_, min}
 use native.Mathlib.Omega.{arith}
-use lib.ListN.{length, getD, take}
+use lib.ListN.{length, take}
 use lib.Seq.{take-length, getD-take, length-take-le, take-append-le}
 use Rattle.planning.specs.Basics.{answer, refused, done}
 use Rattle.planning.specs.Record.{Fact, Task}

@@ -1,32 +1,27 @@
 -- The present value, the test of black facts, a step that adds nothing.
-use mathlib.Core.Path.{_≡_, refl, sym, _∙_, subst, fun-ext}
+use mathlib.Core.Path.{_≡_, refl, sym, fun-ext}
 use mathlib.Core.Logic.{inl, inr}
-use mathlib.Core.Bool.{Bool, true, false, not, _&&_, _||_}
-use mathlib.Core.List.{List, _∷_}
+use mathlib.Core.Bool.{Bool, true}
+use mathlib.Core.List.{List}
 use mathlib.Core.Option.{Option, none, some}
-use Prim.Native.Nat.{ℕ, _+_, _-_, _/_, _%_, _<_, _≤_}
-use native.Mathlib.Numerals.{add-one}
+use Prim.Native.Nat.{ℕ, _-_, _<_, _≤_}
 use native.Mathlib.Omega.{arith}
 use native.Mathlib.Decide.{decLt}
 use lib.Dec.{T}
-use lib.ListN.{length, getD, take}
-use lib.Seq.{slice, slice-cons, slice-empty, length-slice, getD-take, getD-drop}
+use lib.ListN.{getD}
 use Rattle.planning.specs.Basics.{first}
-use Rattle.planning.specs.Record.{Action, Task}
-use Rattle.planning.specs.Runs.{State, Mode, relaxed, holds, step, run, actions, act, runBy}
+use Rattle.planning.specs.Record.{Action}
+use Rattle.planning.specs.Runs.{State, relaxed, holds, step}
 use Rattle.planning.specs.Painting.{orZero}
-use Rattle.planning.specs.Repair.{value, blackMet}
+use Rattle.planning.specs.Repair.{value}
 use Rattle.planning.proofs.Below.{First?, first-is}
 use Rattle.planning.proofs.Facts.{holds→sub}
 use Rattle.planning.proofs.Steps.{step-keep, step-cases}
 use Rattle.planning.proofs.Tests.{true→T}
-use Rattle.task.specs.Task.{factOf, factsIn}
 use Rattle.state.specs.Sets.{inSet, setsOf, modeOf}
 use Rattle.state.proofs.Members.{inSet-empty}
 use Rattle.paths.proofs.Needing.{bool-same}
-use Rattle.state.proofs.Effects.{factsIn-cons, factsIn-none}
 use Rattle.paths.specs.Paths.{Member}
-use Rattle.passes.specs.Passes.{Entries}
 
 -- the least member is the first value
 value-first : (n : ℕ) (p : ℕ → Bool) (r : ℕ) → r < n → T (p r) → ((x : ℕ) → x < r → T (p x) → ⊥) → orZero (first n p) ≡ r

@@ -1,7 +1,7 @@
 -- What is counted along a list, one action after the other.
 use mathlib.Core.Path.{_≡_}
 use mathlib.Core.Bool.{Bool, true, false, _&&_}
-use Prim.Native.Nat.{ℕ, suc, _+_, _*_, _<_, _≤_}
+use Prim.Native.Nat.{ℕ, _+_, _*_, _<_, _≤_}
 use lib.Dec.{eqb}
 use Rattle.planning.specs.Record.{Action}
 use Rattle.planning.specs.Runs.{holds}
