@@ -20,7 +20,7 @@ ghost use Rattle.state.specs.Sets.{setsOf, valuesOf};
 ghost use Rattle.paths.specs.Paths.{Memo, Put};
 ghost use Rattle.passes.specs.Passes.{factsOf, Entries, Blank};
 ghost use Rattle.repair.specs.Answers.{answerOf, Held};
-ghost use Rattle.repair.specs.Counting.{further, Small, Few, Onward, judgedBy};
+ghost use Rattle.repair.specs.Counting.{Small, Few, Onward, judgedBy};
 ghost use Rattle.repair.specs.Repairs.{Present, Wanted, Lent, filled, moved, stepsFor, lastMoves, stageOf};
 
 // The repaired list: its steps, its cost, those that run for real, and whether it is a plan in a real run; or the refusal.
@@ -220,21 +220,6 @@ struct Counts {
     cost: usize,
 }
 
-// The steps that run for real of a list with action i behind it, from its counts and newest values: one more if all before i do and i
-// applies.
-fn running(task: &[u16], newest: &[u8; 64], i: usize, c: Counts) -> usize
-    requires { ⌜ Loaded (now task) × (i < actions (taskIn (now task))) × Small c ⌝ }
-    ensures { λ r. ⌜ r ≡ further (holds (alone (valuesOf (now (newest .entry)))) (act (taskIn (now (task .entry))) i .pre)) (c .runs) (c .steps) ⌝ }
-{
-    if c.runs != c.steps {
-        return c.runs;
-    }
-    if state::applies_newest(newest, task, i) {
-        return c.runs + 1;
-    }
-    c.runs
-}
-
 // The counts of a list with action i behind it.
 fn counted(task: &[u16], newest: &[u8; 64], i: usize, c: Counts) -> Counts
     requires { ⌜ Loaded (now task) × (i < actions (taskIn (now task))) × Small c ⌝ }
@@ -242,7 +227,7 @@ fn counted(task: &[u16], newest: &[u8; 64], i: usize, c: Counts) -> Counts
 {
     Counts {
         steps: c.steps + 1,
-        runs: running(task, newest, i, c),
+        runs: state::further(newest, task, i, c.runs, c.steps),
         cost: c.cost + task::cost(task, i),
     }
 }
