@@ -37,8 +37,14 @@ again-of c = c .before .before .before .before .before .before .before .before .
 abbrev left-by : tie.After-stage Inv-loop μ-loop → List ℕ
 left-by c = c .stage .last .1 .1 .1 .1 .1 .0
 
-abbrev wide-of : tie.After-counted Inv-loop μ-loop → tie.After-wide Inv-loop μ-loop
-wide-of c = c .before .before .before
+abbrev counted-of : tie.After-ever2 Inv-loop μ-loop → tie.After-counted Inv-loop μ-loop
+counted-of c = c .before .before
+
+abbrev step-of : tie.After-ever2 Inv-loop μ-loop → tie.After-step Inv-loop μ-loop
+step-of c = c .before
+
+abbrev wide-of : tie.After-ever2 Inv-loop μ-loop → tie.After-wide Inv-loop μ-loop
+wide-of c = c .before .before .before .before .before
 
 abbrev head-of : tie.After-wide Inv-loop μ-loop → tie.At-loop Inv-loop μ-loop
 head-of c = c .before .before .before
@@ -204,51 +210,49 @@ counted-requires c κs =
     (p .0 .loaded, below w, repairing-small (h .loop .inv) (less w) _ (w .wide .ensures) (p .0 .loaded .formed) (p .4))
 
 step-requires : tie.Need-step-requires Inv-loop μ-loop
-step-requires c κs = let w = wide-of c in (start-of (head-of w) .pre .0 .loaded, below w)
+step-requires c κs = let w = c .before .before .before in (start-of (head-of w) .pre .0 .loaded, below w)
 
 has-effects-requires : tie.Need-has-effects-requires Inv-loop μ-loop
-has-effects-requires c κs = let w = wide-of (c .before .before .before) in (start-of (head-of w) .pre .0 .loaded, below w)
+has-effects-requires c κs = let w = wide-of (c .before) in (start-of (head-of w) .pre .0 .loaded, below w)
 
 loop-less-2 : tie.Need-loop-less-2 Inv-loop μ-loop
-loop-less-2 c = let k = c .before .before .before .before .before in steps-fewer _ _ _ _ (less (wide-of k)) (k .counted .ensures .steps)
+loop-less-2 c = let d = c .before .before .before in steps-fewer _ _ _ _ (less (wide-of d)) (counted-of d .counted .ensures .steps)
 
 loop-again-2 : tie.Need-loop-again-2 Inv-loop μ-loop
 loop-again-2 c =
-    let s = c .before .before .before .before in
-    let k = s .before in
-    let w = wide-of k in
+    let d = c .before .before .before in
+    let w = wide-of d in
     let h = head-of w in
     let a = start-of h in
     let same = step-held (act (taskIn (a .args .task .now)) (w .wide .result)) (setsOf (h .loop .ever .sets)) (sym (c .before .has-effects .ensures) ∙ c .if3 .taken) in
     repairing-step (h .loop .inv) (less w) _ (w .wide .ensures) (a .pre .0 .loaded .formed) _ _ _ _ _ _ (h .before .before .before .painted .ensures) (h .loop .inv .rows)
-    (s .step .ensures .0) same (k .counted .ensures) (s .step .ensures .1)
+    (step-of d .step .ensures .0) same (counted-of d .counted .ensures) (step-of d .step .ensures .1)
 
 refresh-requires : tie.Need-refresh-requires Inv-loop μ-loop
 refresh-requires c κs =
-    let w = wide-of (c .before .before .before .before .before .before .before .before) in
+    let w = wide-of (c .before .before .before .before .before .before) in
     let h = head-of w in
     ((start-of h .pre .0 .loaded, below w, h .before .before .needs .ensures), h .loop .inv .rows)
 
 step-requires-2 : tie.Need-step-requires-2 Inv-loop μ-loop
-step-requires-2 c κs = let w = wide-of (c .before .before .before .before .before .before .before .before .before .before .before) in (start-of (head-of w) .pre .0 .loaded, below w)
+step-requires-2 c κs = let w = wide-of (c .before .before .before .before .before .before .before .before .before) in (start-of (head-of w) .pre .0 .loaded, below w)
 
 loop-less-3 : tie.Need-loop-less-3 Inv-loop μ-loop
 loop-less-3 c =
-    let k = c .before .before .before .before .before .before .before .before .before .before .before .before in
-    steps-fewer _ _ _ _ (less (wide-of k)) (k .counted .ensures .steps)
+    let d = c .before .before .before .before .before .before .before .before .before .before in
+    steps-fewer _ _ _ _ (less (wide-of d)) (counted-of d .counted .ensures .steps)
 
 loop-again-3 : tie.Need-loop-again-3 Inv-loop μ-loop
 loop-again-3 c =
-    let s = c .before .before .before .before .before .before .before .before .before .before .before in
-    let k = s .before in
-    let w = wide-of k in
+    let d = c .before .before .before .before .before .before .before .before .before .before in
+    let w = wide-of d in
     let h = head-of w in
     let a = start-of h in
     let i = act (taskIn (a .args .task .now)) (w .wide .result) in
     let K = setsOf (h .loop .ever .sets) in
     let e : setsOf (c .step2 .result .sets) ≡ step relaxed i K = c .step2 .ensures .0 ∙ ap (λ (m : Mode). step m i K) mode-none in
     repairing-step (h .loop .inv) (less w) _ (w .wide .ensures) (a .pre .0 .loaded .formed) _ _ _ _ _ _ (h .before .before .before .painted .ensures)
-    (rw e (c .before .before .before .refresh .ensures)) (s .step .ensures .0) e (k .counted .ensures) (s .step .ensures .1)
+    (rw e (c .before .before .before .refresh .ensures)) (step-of d .step .ensures .0) e (counted-of d .counted .ensures) (step-of d .step .ensures .1)
 
 pub repair-from-spec : {M : Type 1} → statement M
 repair-from-spec =
