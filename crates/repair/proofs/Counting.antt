@@ -97,12 +97,24 @@ module _ {t : Task} (F : Formed t) {l : List ℕ} {f : Values} {c : Counts} (C :
           → further (holds (alone f) (act t i .pre)) (c .runs) (c .steps) ≡ stepsRun (act t) real (l ++ (i ∷ [])) (initial t)
       go true e true d =
           let h = eqb-true (c .runs) (c .steps) e in
-          omega (arith, further-on (holds (alone f) (act t i .pre)) (c .runs) (c .steps) h d, C .steps, C .runs, h,
-          stepsBy-on tests next l i [] (initial t) (omega (arith, C .steps, C .runs, h)) (same ∙ d))
+          omega (
+            arith,
+            further-on (holds (alone f) (act t i .pre)) (c .runs) (c .steps) h d,
+            C .steps,
+            C .runs,
+            h,
+            stepsBy-on tests next l i [] (initial t) (omega (arith, C .steps, C .runs, h)) (same ∙ d),
+          )
       go true e false d =
           let h = eqb-true (c .runs) (c .steps) e in
-          omega (arith, further-fails (holds (alone f) (act t i .pre)) (c .runs) (c .steps) h d, C .steps, C .runs, h,
-          stepsBy-fails tests next l i [] (initial t) (omega (arith, C .steps, C .runs, h)) (same ∙ d))
+          omega (
+            arith,
+            further-fails (holds (alone f) (act t i .pre)) (c .runs) (c .steps) h d,
+            C .steps,
+            C .runs,
+            h,
+            stepsBy-fails tests next l i [] (initial t) (omega (arith, C .steps, C .runs, h)) (same ∙ d),
+          )
       go false e b d =
           let h = eqb-false (c .runs) (c .steps) e in
           let less : stepsBy tests next l (initial t) < length l = omega (arith, h, C .steps, C .runs, stepsBy-le tests next l (initial t)) in

@@ -50,8 +50,8 @@ abbrev head-of : tie.After-wide Inv-loop μ-loop → tie.At-loop Inv-loop μ-loo
 head-of c = c .before .before .before
 
 arranged : (c : tie.After-plan Inv-loop μ-loop) → let d = stage-of c in let e = again-of d in let h = e .before .before in let a = start-of h .args in let l = h .loop in
-    Arranged (taskIn (a .task .now)) (a .relaxed .now) (a .plan .now) (l .plan) (l .memo) (l .work) (l .s .sets) (l .ever .sets) (valuesOf (l .s .newest)) (l .c) (l .at) (l .j)
-    (take (length (a .relaxed .now) - l .j) (drop (l .j) (a .relaxed .now))) (left-by d) (d .stage .result)
+    Arranged (taskIn (a .task .now)) (a .list .now) (a .plan .now) (l .plan) (l .memo) (l .work) (l .s .sets) (l .ever .sets) (valuesOf (l .s .newest)) (l .c) (l .at) (l .j)
+    (take (length (a .list .now) - l .j) (drop (l .j) (a .list .now))) (left-by d) (d .stage .result)
 arranged c =
     let d = stage-of c in
     let e = again-of d in
@@ -60,7 +60,7 @@ arranged c =
       start = h .loop .inv;
       taken = e .before .if1 .taken;
       here = omega (arith, e .if2 .left);
-      part = rest-is (start-of h .args .relaxed .now) (h .loop .j) (omega (arith, e .if2 .left));
+      part = rest-is (start-of h .args .list .now) (h .loop .j) (omega (arith, e .if2 .left));
       long = c .plan .given;
       put = d .stage .ensures .0;
     }
@@ -131,7 +131,7 @@ stage-requires c κs =
     let e = c .before .before .before .before .before .before .before .before in
     let h = e .before .before in
     let p = start-of h .pre in
-    ((p .0, rest-entries (start-of h .args .relaxed .now) (h .loop .j) (omega (arith, e .if2 .left)) (taskIn (start-of h .args .task .now)) (p .1), repairing-lent (h .loop .inv)), h .loop .inv .rows)
+    ((p .0, rest-entries (start-of h .args .list .now) (h .loop .j) (omega (arith, e .if2 .left)) (taskIn (start-of h .args .task .now)) (p .1), repairing-lent (h .loop .inv)), h .loop .inv .rows)
 
 enum-known-w : tie.Need-enum-known-w Inv-loop μ-loop
 enum-known-w c = search needs
@@ -184,7 +184,7 @@ loop-again c =
     let e = again-of d in
     let h = e .before .before in
     let a = start-of h in
-    repairing-turn (arranged p) _ (c .before .w .given .1) (rest-entries (a .args .relaxed .now) (h .loop .j) (omega (arith, e .if2 .left)) (taskIn (a .args .task .now)) (a .pre .1)) _ _
+    repairing-turn (arranged p) _ (c .before .w .given .1) (rest-entries (a .args .list .now) (h .loop .j) (omega (arith, e .if2 .left)) (taskIn (a .args .task .now)) (a .pre .1)) _ _
     (d .stage .ensures .1) (c .before .before .before .before .work .given)
 
 mul-wide : tie.Need-mul-wide Inv-loop μ-loop
