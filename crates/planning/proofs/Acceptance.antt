@@ -1,12 +1,12 @@
 -- The examples of clause 12: one table, proved by one theorem. Each record, the bytes of examples/*.record, states the task that the
--- clause describes, and the planner is called on it; antt computes the rows. The prover takes files by name, so this one comes before
+-- clause describes; the planner is called on it, or the newest values of a list are asked for; antt computes the rows. The prover takes files by name, so this one comes before
 -- the laws, and a definition that makes a row false is refused here first.
 use Prim.Native.Nat.{ℕ, zero, suc}
 use mathlib.Core.Path.{_≡_, refl}
 use mathlib.Core.Bool.{Bool, true, false}
 use mathlib.Core.List.{List, [], _∷_}
 use mathlib.Core.Option.{Option, none, some}
-use lib.ListN.{length}
+use lib.ListN.{length, replicate}
 use Rattle.planning.specs.Basics.{Answer, refused, done, times, check, andThen, inOrder, answer, bitAt, bitsAt, holdsField, someBelow, oneIf}
 use Rattle.planning.specs.Basics.{tally, first, total, refuseAt, reach}
 use Rattle.planning.specs.Record.{Fact, Action, Variable, Task, variablesIn, actionsIn, goalOf, variableAt, variablesAt, factsAt, preconditionsIn}
@@ -20,7 +20,7 @@ use Rattle.planning.specs.Painting.{causalArc, blackArc, onCycle, cyclic
 use Rattle.planning.specs.Painting.{unreturned, acyclicCheck, returnCheck}
 use Rattle.planning.specs.Repair.{known, union, everAfter, usableArc, adjacent, pathIn, shortest, toward, after, pass, fill, ready, clientsFirst}
 use Rattle.planning.specs.Repair.{order, value, blackMet, moves, stageSteps, allSteps, stagesFrom, stages, repaired}
-use Rattle.planning.specs.Newest.{initialValues, newer, tracked, track, stepsPainted, stopsIn, tabulate, newestValues, traced}
+use Rattle.planning.specs.Newest.{initialValues, newer, tracked, track, redBlackSteps, stopsIn, tabulate, newestValues, Progress, progress}
 use Rattle.planning.specs.Existence.{share, blackProduct}
 use Rattle.planning.specs.Calls.{Planned, lent, capacity, capacityOf, roomCheck, goalsCheck, planned, planOf, planCall, planList}
 use Rattle.planning.specs.Calls.{newestCall, newestList, lengthCheck, notBelow, entriesCheck}
@@ -194,15 +194,26 @@ newestTask =
     ∷ action 1 (fact 0 1 ∷ fact 1 0 ∷ []) (fact 1 1 ∷ []) ∷ action 1 (fact 0 1 ∷ fact 1 1 ∷ []) (fact 1 0 ∷ [])
     ∷ action 2 (fact 1 1 ∷ fact 2 0 ∷ []) (fact 2 0 ∷ []) ∷ [])
 
--- what is told of a list, and the values' list of n entries afterwards
-unfoldable pub desk : List ℕ → List ℕ → ℕ → Outcome
-desk s l n = elim (newestCall s l n) [
-  | refused m p ↦ record { number = m; place = p; steps = 0; list = newestList s l n; cost = 0; real = false; runs = 0 }
-  | done x ↦ record { number = 0; place = 0; steps = x .steps; list = newestList s l n; cost = 0; real = false; runs = x .runs }
-]
+-- the newest values' call: number, place, steps that run red-black and for real, the list of n entries afterwards
+pub record Desk : Type 0 where
+  pub number : ℕ
+  pub place : ℕ
+  pub steps : ℕ
+  pub runs : ℕ
+  pub values : List ℕ
 
-abbrev pub shown : ℕ → ℕ → List ℕ → Outcome
-shown n r l = record { number = 0; place = 0; steps = n; list = l; cost = 0; real = false; runs = r }
+unfoldable pub deskOf : Answer Progress → List ℕ → Desk
+deskOf (refused n p) l = record { number = n; place = p; steps = 0; runs = 0; values = l }
+deskOf (done x) l = record { number = 0; place = 0; steps = x .steps; runs = x .runs; values = l }
+
+unfoldable pub desk : List ℕ → List ℕ → ℕ → Desk
+desk s l n = deskOf (newestCall s l n) (newestList s l n)
+
+abbrev pub shown : ℕ → ℕ → List ℕ → Desk
+shown n r l = record { number = 0; place = 0; steps = n; runs = r; values = l }
+
+abbrev pub turnedAway : ℕ → ℕ → List ℕ → Desk
+turnedAway n p l = record { number = n; place = p; steps = 0; runs = 0; values = l }
 
 -- The table: a row a line, its proof the refl at the same place below.
 pub starred :
@@ -248,10 +259,13 @@ pub starred :
     × (desk newest (0 ∷ 2 ∷ 1 ∷ []) 3 ≡ shown 3 3 (0 ∷ 1 ∷ 1 ∷ []))
     × (desk newest (0 ∷ 2 ∷ 3 ∷ []) 3 ≡ shown 3 3 (1 ∷ 0 ∷ 1 ∷ []))
     × (desk newest (0 ∷ 2 ∷ 3 ∷ 4 ∷ 0 ∷ 1 ∷ []) 5 ≡ shown 4 3 (1 ∷ 0 ∷ 0 ∷ 65535 ∷ 65535 ∷ []))
-    × (desk newest (0 ∷ 2 ∷ 1 ∷ []) 2 ≡ refusal 11 2 (65535 ∷ 65535 ∷ []))
-    × (desk newest (0 ∷ 2 ∷ 5 ∷ []) 2 ≡ refusal 9 2 (65535 ∷ 65535 ∷ []))
-    × (desk twoShelves (0 ∷ 2 ∷ 1 ∷ 3 ∷ []) 2 ≡ shown 4 4 (0 ∷ 0 ∷ []))
+    × (desk newest (0 ∷ 2 ∷ 3 ∷ 4 ∷ 0 ∷ 1 ∷ []) 2 ≡ turnedAway 11 2 (65535 ∷ 65535 ∷ []))
+    × (desk newest (1 ∷ 5 ∷ []) 2 ≡ turnedAway 9 1 (65535 ∷ 65535 ∷ []))
+    × (desk newest (replicate 32769 9) 2 ≡ turnedAway 13 32768 (65535 ∷ 65535 ∷ []))
+    × (desk [] (7 ∷ []) 1 ≡ turnedAway 1 0 (65535 ∷ []))
+    × (desk twoShelves [] 2 ≡ shown 0 0 (0 ∷ 1 ∷ []))
     × (desk tray (0 ∷ 1 ∷ []) 4 ≡ shown 2 1 (1 ∷ 1 ∷ 1 ∷ 65535 ∷ []))
+    × (desk bothBlack (0 ∷ []) 2 ≡ shown 1 1 (1 ∷ 1 ∷ []))
 unfolding times share blackProduct check andThen inOrder answer bitAt bitsAt holdsField someBelow oneIf tally first total refuseAt reach variablesIn
     actionsIn goalOf variableAt variablesAt factsAt preconditionsIn effectsIn effectsFrom actionEnd actionAt actionsAt actionsEnd taskOf fieldCheck
     headerChecks goalFits variableChecks variablesChecks countIn factChecks factsChecks actionChecks actionsChecks endsAt recordEnd recordChecks
@@ -260,9 +274,12 @@ unfolding times share blackProduct check andThen inOrder answer bitAt bitsAt hol
     cyclic fits leaves orZero target arcFrom outside returnBy lacksReturn unreturned acyclicCheck returnCheck known union everAfter usableArc adjacent
     pathIn shortest toward after pass fill ready clientsFirst order value blackMet moves stageSteps allSteps stagesFrom stages repaired lent
     capacity capacityOf roomCheck goalsCheck planned planOf planCall planList called outcome redPairs variables64 variables65 twoShelves withoutOne withoutTwo lampOne lampTwo
-    bothBlack goalMet tray door litReturn repeatedVariable initialValues newer tracked track stepsPainted stopsIn tabulate newestValues traced
-    newestCall newestList lengthCheck notBelow entriesCheck desk newest
+    bothBlack goalMet tray door litReturn repeatedVariable initialValues newer tracked track redBlackSteps stopsIn tabulate newestValues progress
+    newestCall newestList lengthCheck notBelow entriesCheck deskOf desk newest
 starred = (
+  refl,
+  refl,
+  refl,
   refl,
   refl,
   refl,
