@@ -89,7 +89,7 @@ pub record Repairing (t : Task) (l₀ plan₀ plan memo work sets ever : List �
   pub knows : known (black t) (setsOf sets) held ≡ setsOf ever
   pub counts : Counted t (take (c .steps) plan) f c
   pub so-far :
-    repaired t l₀ ≡ take a plan ++ leftOf t l₀ j (run (act t) (black t) (slice (c .steps) a plan) (setsOf sets)) (everAfter (act t) (black t) (slice (c .steps) a plan) (setsOf sets) held)
+      repaired t l₀ ≡ take a plan ++ leftOf t l₀ j (run (act t) (black t) (slice (c .steps) a plan) (setsOf sets)) (everAfter (act t) (black t) (slice (c .steps) a plan) (setsOf sets) held)
 
 pub repairing-start : (t : Task) (l₀ plan memo work sets ever : List ℕ) (f : Values) → Blank memo → Lent plan work 0
     → setsOf sets ≡ initial t → setsOf ever ≡ initial t → f ≡ initialValues t → Repairing t l₀ plan plan memo work sets ever f (record { steps = 0; runs = 0; cost = 0 }) 0 0

@@ -265,12 +265,12 @@ fn too_long(room: usize) -> Planned
 fn repair_from(
     task: &[u16],
     memo: &mut [u16],
-    relaxed: &[u16],
+    list: &[u16],
     plan: &mut [u16],
     work: &mut [u16],
 ) -> Planned
-    requires { ⌜ Prepared (now task) × Entries (taskIn (now task)) (now relaxed) × Blank (now memo) × Lent (now plan) (now work) 0 × (length (now plan) ≤ 32768) ⌝ }
-    ensures { λ r. ⌜ Held (taskIn (now (task .entry))) (repaired (taskIn (now (task .entry))) (now (relaxed .entry))) (now (plan .exit)) (length (now (plan .entry))) r ⌝ }
+    requires { ⌜ Prepared (now task) × Entries (taskIn (now task)) (now list) × Blank (now memo) × Lent (now plan) (now work) 0 × (length (now plan) ≤ 32768) ⌝ }
+    ensures { λ r. ⌜ Held (taskIn (now (task .entry))) (repaired (taskIn (now (task .entry))) (now (list .entry))) (now (plan .exit)) (length (now (plan .entry))) r ⌝ }
 {
     let paint = state::painted(task);
     let needs = paths::needs(task);
@@ -286,10 +286,10 @@ fn repair_from(
     loop {
         let k = c.steps;
         if k == at {
-            if j > relaxed.len() {
+            if j > list.len() {
                 return verdict(task, &s.newest, c);
             }
-            let w = stage(task, &s.sets, &ever.sets, memo, &relaxed[j..], plan, at, work);
+            let w = stage(task, &s.sets, &ever.sets, memo, &list[j..], plan, at, work);
             let Written::Upto(x) = w else {
                 return too_long(plan.len());
             };

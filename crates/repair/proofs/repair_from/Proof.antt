@@ -37,15 +37,21 @@ again-of c = c .before .before .before .before .before .before .before .before .
 abbrev left-by : tie.After-stage Inv-loop μ-loop → List ℕ
 left-by c = c .stage .last .1 .1 .1 .1 .1 .0
 
-abbrev wide-of : tie.After-counted Inv-loop μ-loop → tie.After-wide Inv-loop μ-loop
-wide-of c = c .before .before .before
+abbrev counted-of : tie.After-ever2 Inv-loop μ-loop → tie.After-counted Inv-loop μ-loop
+counted-of c = c .before .before
+
+abbrev step-of : tie.After-ever2 Inv-loop μ-loop → tie.After-step Inv-loop μ-loop
+step-of c = c .before
+
+abbrev wide-of : tie.After-ever2 Inv-loop μ-loop → tie.After-wide Inv-loop μ-loop
+wide-of c = c .before .before .before .before .before
 
 abbrev head-of : tie.After-wide Inv-loop μ-loop → tie.At-loop Inv-loop μ-loop
 head-of c = c .before .before .before
 
 arranged : (c : tie.After-plan Inv-loop μ-loop) → let d = stage-of c in let e = again-of d in let h = e .before .before in let a = start-of h .args in let l = h .loop in
-    Arranged (taskIn (a .task .now)) (a .relaxed .now) (a .plan .now) (l .plan) (l .memo) (l .work) (l .s .sets) (l .ever .sets) (valuesOf (l .s .newest)) (l .c) (l .at) (l .j)
-    (take (length (a .relaxed .now) - l .j) (drop (l .j) (a .relaxed .now))) (left-by d) (d .stage .result)
+    Arranged (taskIn (a .task .now)) (a .list .now) (a .plan .now) (l .plan) (l .memo) (l .work) (l .s .sets) (l .ever .sets) (valuesOf (l .s .newest)) (l .c) (l .at) (l .j)
+    (take (length (a .list .now) - l .j) (drop (l .j) (a .list .now))) (left-by d) (d .stage .result)
 arranged c =
     let d = stage-of c in
     let e = again-of d in
@@ -54,7 +60,7 @@ arranged c =
       start = h .loop .inv;
       taken = e .before .if1 .taken;
       here = omega (arith, e .if2 .left);
-      part = rest-is (start-of h .args .relaxed .now) (h .loop .j) (omega (arith, e .if2 .left));
+      part = rest-is (start-of h .args .list .now) (h .loop .j) (omega (arith, e .if2 .left));
       long = c .plan .given;
       put = d .stage .ensures .0;
     }
@@ -125,7 +131,7 @@ stage-requires c κs =
     let e = c .before .before .before .before .before .before .before .before in
     let h = e .before .before in
     let p = start-of h .pre in
-    ((p .0, rest-entries (start-of h .args .relaxed .now) (h .loop .j) (omega (arith, e .if2 .left)) (taskIn (start-of h .args .task .now)) (p .1), repairing-lent (h .loop .inv)), h .loop .inv .rows)
+    ((p .0, rest-entries (start-of h .args .list .now) (h .loop .j) (omega (arith, e .if2 .left)) (taskIn (start-of h .args .task .now)) (p .1), repairing-lent (h .loop .inv)), h .loop .inv .rows)
 
 enum-known-w : tie.Need-enum-known-w Inv-loop μ-loop
 enum-known-w c = search needs
@@ -178,7 +184,7 @@ loop-again c =
     let e = again-of d in
     let h = e .before .before in
     let a = start-of h in
-    repairing-turn (arranged p) _ (c .before .w .given .1) (rest-entries (a .args .relaxed .now) (h .loop .j) (omega (arith, e .if2 .left)) (taskIn (a .args .task .now)) (a .pre .1)) _ _
+    repairing-turn (arranged p) _ (c .before .w .given .1) (rest-entries (a .args .list .now) (h .loop .j) (omega (arith, e .if2 .left)) (taskIn (a .args .task .now)) (a .pre .1)) _ _
     (d .stage .ensures .1) (c .before .before .before .before .work .given)
 
 mul-wide : tie.Need-mul-wide Inv-loop μ-loop
@@ -204,51 +210,49 @@ counted-requires c κs =
     (p .0 .loaded, below w, repairing-small (h .loop .inv) (less w) _ (w .wide .ensures) (p .0 .loaded .formed) (p .4))
 
 step-requires : tie.Need-step-requires Inv-loop μ-loop
-step-requires c κs = let w = wide-of c in (start-of (head-of w) .pre .0 .loaded, below w)
+step-requires c κs = let w = c .before .before .before in (start-of (head-of w) .pre .0 .loaded, below w)
 
 has-effects-requires : tie.Need-has-effects-requires Inv-loop μ-loop
-has-effects-requires c κs = let w = wide-of (c .before .before .before) in (start-of (head-of w) .pre .0 .loaded, below w)
+has-effects-requires c κs = let w = wide-of (c .before) in (start-of (head-of w) .pre .0 .loaded, below w)
 
 loop-less-2 : tie.Need-loop-less-2 Inv-loop μ-loop
-loop-less-2 c = let k = c .before .before .before .before .before in steps-fewer _ _ _ _ (less (wide-of k)) (k .counted .ensures .steps)
+loop-less-2 c = let d = c .before .before .before in steps-fewer _ _ _ _ (less (wide-of d)) (counted-of d .counted .ensures .steps)
 
 loop-again-2 : tie.Need-loop-again-2 Inv-loop μ-loop
 loop-again-2 c =
-    let s = c .before .before .before .before in
-    let k = s .before in
-    let w = wide-of k in
+    let d = c .before .before .before in
+    let w = wide-of d in
     let h = head-of w in
     let a = start-of h in
     let same = step-held (act (taskIn (a .args .task .now)) (w .wide .result)) (setsOf (h .loop .ever .sets)) (sym (c .before .has-effects .ensures) ∙ c .if3 .taken) in
     repairing-step (h .loop .inv) (less w) _ (w .wide .ensures) (a .pre .0 .loaded .formed) _ _ _ _ _ _ (h .before .before .before .painted .ensures) (h .loop .inv .rows)
-    (s .step .ensures .0) same (k .counted .ensures) (s .step .ensures .1)
+    (step-of d .step .ensures .0) same (counted-of d .counted .ensures) (step-of d .step .ensures .1)
 
 refresh-requires : tie.Need-refresh-requires Inv-loop μ-loop
 refresh-requires c κs =
-    let w = wide-of (c .before .before .before .before .before .before .before .before) in
+    let w = wide-of (c .before .before .before .before .before .before) in
     let h = head-of w in
     ((start-of h .pre .0 .loaded, below w, h .before .before .needs .ensures), h .loop .inv .rows)
 
 step-requires-2 : tie.Need-step-requires-2 Inv-loop μ-loop
-step-requires-2 c κs = let w = wide-of (c .before .before .before .before .before .before .before .before .before .before .before) in (start-of (head-of w) .pre .0 .loaded, below w)
+step-requires-2 c κs = let w = wide-of (c .before .before .before .before .before .before .before .before .before) in (start-of (head-of w) .pre .0 .loaded, below w)
 
 loop-less-3 : tie.Need-loop-less-3 Inv-loop μ-loop
 loop-less-3 c =
-    let k = c .before .before .before .before .before .before .before .before .before .before .before .before in
-    steps-fewer _ _ _ _ (less (wide-of k)) (k .counted .ensures .steps)
+    let d = c .before .before .before .before .before .before .before .before .before .before in
+    steps-fewer _ _ _ _ (less (wide-of d)) (counted-of d .counted .ensures .steps)
 
 loop-again-3 : tie.Need-loop-again-3 Inv-loop μ-loop
 loop-again-3 c =
-    let s = c .before .before .before .before .before .before .before .before .before .before .before in
-    let k = s .before in
-    let w = wide-of k in
+    let d = c .before .before .before .before .before .before .before .before .before .before in
+    let w = wide-of d in
     let h = head-of w in
     let a = start-of h in
     let i = act (taskIn (a .args .task .now)) (w .wide .result) in
     let K = setsOf (h .loop .ever .sets) in
     let e : setsOf (c .step2 .result .sets) ≡ step relaxed i K = c .step2 .ensures .0 ∙ ap (λ (m : Mode). step m i K) mode-none in
     repairing-step (h .loop .inv) (less w) _ (w .wide .ensures) (a .pre .0 .loaded .formed) _ _ _ _ _ _ (h .before .before .before .painted .ensures)
-    (rw e (c .before .before .before .refresh .ensures)) (s .step .ensures .0) e (k .counted .ensures) (s .step .ensures .1)
+    (rw e (c .before .before .before .refresh .ensures)) (step-of d .step .ensures .0) e (counted-of d .counted .ensures) (step-of d .step .ensures .1)
 
 pub repair-from-spec : {M : Type 1} → statement M
 repair-from-spec =
