@@ -89,8 +89,12 @@ module _ (t : Task) (l : List ℕ) where
       within = omega arith;
       painted =
           rw one-more
-          (omega (arith, long, stepsBy-on (λ i s. holds s (act t i .pre)) (λ i. step (black t) (act t i)) front i [] (initial t) (p .painted ∙ sym long)
-              (ap (λ (u : State). holds u (act t i .pre)) (sym (p .sets)) ∙ ha)));
+          (omega (
+            arith,
+            long,
+            stepsBy-on (λ i s. holds s (act t i .pre)) (λ i. step (black t) (act t i)) front i [] (initial t) (p .painted ∙ sym long)
+                (ap (λ (u : State). holds u (act t i .pre)) (sym (p .sets)) ∙ ha),
+          ));
       sets = rw (one-more, runBy-behind (λ i. step (black t) (act t i)) front i (initial t), ← p .sets) es;
       newest = rw (one-more, runBy-behind (λ i. newer (act t i)) front i (initialValues t), ← p .newest) ef;
       run-real = rw one-more (er ∙ further-steps t F front f runs k i (p .newest) (p .run-real) (sym long));
@@ -102,7 +106,7 @@ module _ (t : Task) (l : List ℕ) where
     unfolding redBlackSteps
     tracing-stop r er q ha =
         let a = stepsBy-fails (λ i s. holds s (act t i .pre)) (λ i. step (black t) (act t i)) front i (drop (suc k) l) (initial t) (p .painted ∙ sym long)
-            (ap (λ (u : State). holds u (act t i .pre)) (sym (p .sets)) ∙ ha) in
+        (ap (λ (u : State). holds u (act t i .pre)) (sym (p .sets)) ∙ ha) in
         let b : stepsRun (act t) (black t) l (initial t) ≡ k = rw split at (a ∙ long) in
         (sym b, go (ℕ-discrete runs k))
       where
@@ -160,7 +164,7 @@ module _ (t : Task) (F : Formed t) (l : List ℕ) (below : (j : ℕ) → j < len
       let e : take (redBlackSteps t l) l ≡ l = take-all (redBlackSteps t l) l (omega (arith, p .steps)) in
       let q : s ≡ run (act t) (black t) l (initial t) = p .sets ∙ track-sets (act t) (black t) (take (redBlackSteps t l) l) (tracked t) ∙ rw e refl in
       judged-of t (black t) l below n (p .steps) b (λ x. eb ∙ rw q refl)
-          (λ x. absurd (x (omega (arith, p .steps, stepsBy-le (λ i s. holds s (act t i .pre)) (λ i. step (black t) (act t i)) l (initial t)))))
+      (λ x. absurd (x (omega (arith, p .steps, stepsBy-le (λ i s. holds s (act t i .pre)) (λ i. step (black t) (act t i)) l (initial t)))))
 
   pub real-short : (f : Values) (n : ℕ) → RunsAs t l f n → n < length l → record { steps = n; plan = false } ≡ judged t real l
   real-short f n p h = judged-of t real l below n (p .runs) false (λ e. absurd (omega arith)) (λ e. refl)
@@ -171,7 +175,7 @@ module _ (t : Task) (F : Formed t) (l : List ℕ) (below : (j : ℕ) → j < len
       let e : take (redBlackSteps t l) l ≡ l = take-all (redBlackSteps t l) l (omega (arith, p .runs, redBlack-further t l)) in
       let q : f ≡ newestAfter t l = p .newest ∙ track-newest (act t) (black t) (take (redBlackSteps t l) l) (tracked t) ∙ rw e refl in
       let g : holds (alone f) (goals t) ≡ holds (run (act t) real l (initial t)) (goals t) = rw q
-          (sym (real-holds t F l (goals t) (λ v d x. sorted-has (variables t) (count t) 0 (goals t) (goals-sorted t F) v d x .var-below))) in
+      (sym (real-holds t F l (goals t) (λ v d x. sorted-has (variables t) (count t) 0 (goals t) (goals-sorted t F) v d x .var-below))) in
       judged-of t real l below n (p .runs) b (λ x. eb ∙ g) (λ x. absurd (x (omega (arith, p .runs, stepsBy-le (λ i s. holds s (act t i .pre)) (λ i. step real (act t i)) l (initial t)))))
 
 -- the steps that run red-black run relaxed

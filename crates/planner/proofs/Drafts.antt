@@ -113,7 +113,8 @@ module _ (g : Bool) (t u : Task) (e : u ≡ t) (l : List ℕ) (room : ℕ) (plan
   painted h D = drafted-pass t (source g t l) room plan (paintingCheck t) (sourceCheck g t l ∷ []) r h (subst (λ (x : Task). Sourced g x l room plan r) e D)
 
 pub called : (g : Bool) (s : List ℕ) (u : Task) → u ≡ taskOf s → (l : List ℕ) (room : ℕ) (plan : List ℕ) (r : Planned) → recordCheck s ≡ none → Painted g u l room plan r → Called g s l room plan r
-called g s u e l room plan r h D = drafted-pass (taskOf s) (source g (taskOf s) l) room plan (recordCheck s) (paintingCheck (taskOf s) ∷ sourceCheck g (taskOf s) l ∷ []) r h (subst (λ (x : Task). Painted g x l room plan r) e D)
+called g s u e l room plan r h D =
+    drafted-pass (taskOf s) (source g (taskOf s) l) room plan (recordCheck s) (paintingCheck (taskOf s) ∷ sourceCheck g (taskOf s) l ∷ []) r h (subst (λ (x : Task). Painted g x l room plan r) e D)
 
 -- the checks of a call one by one: those that were taken together stand side by side
 module _ (s : List ℕ) (xs : List Check) where

@@ -39,7 +39,8 @@ module _ (a : Answer Result) (l plan : List ℕ) (n : ℕ) (en : length plan ≡
   settled-list (Plan s c k v) D plan′ e = rw (← (D .answer)) (e ∙ rw (D .front .1, en) refl)
   settled-list (Refused f) D plan′ e = rw (← (D .answer)) (e ∙ rw en refl)
 
-  pub settled-front : (r : Planned) → Ended a l plan r → (plan′ : List ℕ) → plan′ ≡ lent (answerOf r) (length plan) (planIn (answerOf r) plan) → ReturnsPlan (answerOf r) → planIn (answerOf r) plan′ ≡ l
+  pub settled-front : (r : Planned) → Ended a l plan r → (plan′ : List ℕ) → plan′ ≡ lent (answerOf r) (length plan) (planIn (answerOf r) plan) → ReturnsPlan
+      (answerOf r) → planIn (answerOf r) plan′ ≡ l
   unfolding lent planIn
   settled-front (Plan s c k v) D plan′ e z =
       let q : length (take s plan) ≡ s = length-take-le s plan (D .front .0) in
@@ -61,7 +62,8 @@ complete-same t n w r l l′ e C =
       finds = C .finds;
     }
 
-pub plan-settled : (s : List ℕ) (n w : ℕ) (plan : List ℕ) → length plan ≡ n → (r : Planned) → Ended (planCall s n w) (planOf (taskOf s)) plan r → (plan′ : List ℕ) → plan′ ≡ lent (answerOf r) (length plan) (planIn (answerOf r) plan)
+pub plan-settled : (s : List ℕ) (n w : ℕ) (plan : List ℕ) → length plan ≡ n → (r : Planned) → Ended (planCall s n w) (planOf (taskOf s)) plan r →
+    (plan′ : List ℕ) → plan′ ≡ lent (answerOf r) (length plan) (planIn (answerOf r) plan)
     → (plan′ ≡ planList s n w) × Demand3 s n w (answerOf r) (planIn (answerOf r) plan′) × Bounded s (relaxedPlan (taskOf s)) (answerOf r) (planIn (answerOf r) plan′)
 unfolding planList
 plan-settled s n w plan en r D plan′ e =
@@ -72,10 +74,12 @@ plan-settled s n w plan en r D plan′ e =
     )
 
 -- the same of a caller's repair
-pub repair-settled : (s k : List ℕ) (n w : ℕ) (plan : List ℕ) → length plan ≡ n → (r : Planned) → Ended (repairCall s k n w) (repaired (taskOf s) k) plan r → (plan′ : List ℕ) → plan′ ≡ lent (answerOf r) (length plan) (planIn (answerOf r) plan)
+pub repair-settled : (s k : List ℕ) (n w : ℕ) (plan : List ℕ) → length plan ≡ n → (r : Planned) → Ended (repairCall s k n w) (repaired (taskOf s) k) plan r →
+    (plan′ : List ℕ) → plan′ ≡ lent (answerOf r) (length plan) (planIn (answerOf r) plan)
     → (plan′ ≡ repairList s k n w) × Bounded s k (answerOf r) (planIn (answerOf r) plan′)
 unfolding repairList
 repair-settled s k n w plan en r D plan′ e = (
   settled-list (repairCall s k n w) (repaired (taskOf s) k) plan n en r D plan′ e,
-  bounded-same s k (repairCall s k n w) (repaired (taskOf s) k) (answerOf r) (D .answer) (planIn (answerOf r) plan′) (settled-front (repairCall s k n w) (repaired (taskOf s) k) plan n en r D plan′ e) (repairCall-bounded s k n w),
+  bounded-same s k (repairCall s k n w) (repaired (taskOf s) k) (answerOf r) (D .answer) (planIn (answerOf r) plan′)
+      (settled-front (repairCall s k n w) (repaired (taskOf s) k) plan n en r D plan′ e) (repairCall-bounded s k n w),
 )

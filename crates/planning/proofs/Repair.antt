@@ -42,7 +42,7 @@ repairFrom-nil act A m count order goal s ever =
 
 pub repairFrom-cons : (act : ℕ → Action) (A : ℕ) (m : Mode) (count : ℕ → ℕ) (order : List ℕ) (goal : List Fact) (i : ℕ) (l : List ℕ) (s ever : State)
     → let k : List ℕ = moves act A m count order s ever (act i .pre) ++ (i ∷ []) in
-      repairFrom act A m count order goal (i ∷ l) s ever ≡ k ++ repairFrom act A m count order goal l (run act m k s) (everAfter act m k s ever)
+    repairFrom act A m count order goal (i ∷ l) s ever ≡ k ++ repairFrom act A m count order goal l (run act m k s) (everAfter act m k s ever)
 unfolding stageSteps allSteps stagesFrom
 repairFrom-cons act A m count order goal i l s ever = refl
 

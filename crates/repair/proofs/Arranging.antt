@@ -110,7 +110,8 @@ unfolding stageOf
 stage-last t K s [] e plan plan′ a r p = p
 stage-last t K s (i ∷ l) e plan plan′ a r p = absurd (omega (arith, e))
 
-pub stage-first : (t : Task) (K s : State) (l : List ℕ) → (length l ≡ 0 → ⊥) → (plan plan′ : List ℕ) (a : ℕ) (r : Written) → Put plan plan′ a (stepsFor t K s (getD l 0 0)) r → Put plan plan′ a (stageOf t K s l) r
+pub stage-first : (t : Task) (K s : State) (l : List ℕ) → (length l ≡ 0 → ⊥) → (plan plan′ : List ℕ) (a : ℕ) (r : Written) → Put plan plan′ a
+    (stepsFor t K s (getD l 0 0)) r → Put plan plan′ a (stageOf t K s l) r
 unfolding stageOf
 stage-first t K s [] e plan plan′ a r p = absurd (e refl)
 stage-first t K s (i ∷ l) e plan plan′ a r p = p

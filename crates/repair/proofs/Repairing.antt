@@ -242,7 +242,8 @@ module _ {t : Task} {l₀ plan₀ plan memo work sets ever : List ℕ} {f : Valu
       below = G .below;
       knows = G .knows;
       counts = subst (λ (l : List ℕ). Counted t l f c) front-same (G .counts);
-      so-far = so-far″ ∙ sym (append-assoc (take a plan) steps next) ∙ sym (ap (λ (l : List ℕ). l ++ left (slice (c .steps) x plan′)) (told .2) ∙ ap (λ (l : List ℕ). (take a plan ++ steps) ++ l) left-is);
+      so-far =
+          so-far″ ∙ sym (append-assoc (take a plan) steps next) ∙ sym (ap (λ (l : List ℕ). l ++ left (slice (c .steps) x plan′)) (told .2) ∙ ap (λ (l : List ℕ). (take a plan ++ steps) ++ l) left-is);
     }
 
 -- stages left, and steps of the last one: each turn takes one of them

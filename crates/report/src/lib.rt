@@ -1,10 +1,10 @@
 // The listing of a record, as text in a lent area of bytes; and what the listing programs share, reading and printing.
 use answers::Number;
+use answers::Planned;
 use answers::Refusal;
 use forward::Found;
 use libc::STDIN_FILENO;
 use libc::STDOUT_FILENO;
-use answers::Planned;
 ghost use Prim.Native.Nat.{_-_, _≤_};
 ghost use mathlib.Core.Path.{_≡_};
 ghost use mathlib.Core.List.{_++_};

@@ -50,13 +50,13 @@ returns-2 : tie.Need-returns-2
 returns-2 c =
     let a = c .before .before .before .before .before .before .before .before .before .args in
     relaxed-passed (taskIn (a .task .now)) (a .list .now) (c .before .before .before .before .leading .result) (ensured (c .before .before .before .before))
-        (omega arith) (c .before .before .before .before .leading .ensures .1) _ (c .before .before .judge-relaxed .ensures) (c .before .if2 .taken) (c .if3 .taken)
+    (omega arith) (c .before .before .before .before .leading .ensures .1) _ (c .before .before .judge-relaxed .ensures) (c .before .if2 .taken) (c .if3 .taken)
 
 returns-3 : tie.Need-returns-3
 returns-3 c =
     let a = c .before .before .before .before .before .before .before .before .args in
     relaxed-refused (taskIn (a .task .now)) (a .list .now) (c .before .before .before .leading .result) (ensured (c .before .before .before)) (omega arith)
-        (c .before .before .before .leading .ensures .1) _ (c .before .judge-relaxed .ensures) (elim (c .if2 .came) [ inl q ↦ inl (q .1 .left) | inr q ↦ inr (q .left) ])
+    (c .before .before .before .leading .ensures .1) _ (c .before .judge-relaxed .ensures) (elim (c .if2 .came) [ inl q ↦ inl (q .1 .left) | inr q ↦ inr (q .left) ])
 
 pub check-relaxed-spec : {M : Type 1} → statement M
 check-relaxed-spec =

@@ -63,10 +63,10 @@ loop-less c = search needs
 loop-again : tie.Need-loop-again Inv-loop μ-loop
 loop-again c =
     let applied : holds (setsOf (c .before .before .before .before .loop .s .sets))
-        (act (taskIn (c .before .before .before .before .before .before .before .before .args .task .now)) (entry (c .before .before .before)) .pre) ≡ true =
+    (act (taskIn (c .before .before .before .before .before .before .before .before .args .task .now)) (entry (c .before .before .before)) .pre) ≡ true =
     ⊎-elim (λ w. sym (w .3 .ensures) ∙ not-false _ (w .4 .left))
-        (λ w. going-known _ _ _ _ _ (c .before .before .before .before .loop .inv) (omega arith) _ refl
-        (omega (arith, w .left, c .before .before .before .before .before .before .before .before .pre .1))) (c .before .if1 .came) in
+    (λ w. going-known _ _ _ _ _ (c .before .before .before .before .loop .inv) (omega arith) _ refl
+    (omega (arith, w .left, c .before .before .before .before .before .before .before .before .pre .1))) (c .before .if1 .came) in
     going-turn _ _ _ _ _ (c .before .before .before .before .loop .inv) _ _ _ (omega arith) refl refl applied (step-relaxed _ _ _ (c .step .ensures .0))
 
 load-requires : tie.Need-load-requires Inv-loop μ-loop

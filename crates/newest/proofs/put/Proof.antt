@@ -11,6 +11,7 @@ use native.Mathlib.Omega.{arith}
 use lib.ListN.{length, getD, take, drop, set, replicate}
 use Rattle.newest.proofs.put.Statement.{statement}
 use Rattle.newest.proofs.put.Tie as tie
+
 abbrev Inv-loop : tie.InvT-loop
 Inv-loop newest n values₀ v₀ values v = (v ≤ n) × (length values ≡ length values₀) × (values ≡ tabulate v (valuesOf newest) ++ drop v values₀)
 

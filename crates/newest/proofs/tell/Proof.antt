@@ -6,6 +6,7 @@ use Rattle.newest.specs.Answers.{Called}
 use Rattle.newest.proofs.Boards.{record-refused}
 use Rattle.newest.proofs.tell.Statement.{statement}
 use Rattle.newest.proofs.tell.Tie as tie
+
 check-requires : tie.Need-check-requires
 check-requires c κs = search needs
 

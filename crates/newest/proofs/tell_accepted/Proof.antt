@@ -5,6 +5,7 @@ use Rattle.task.proofs.Size.{room-enough}
 use Rattle.newest.proofs.Boards.{record-passed}
 use Rattle.newest.proofs.tell_accepted.Statement.{statement}
 use Rattle.newest.proofs.tell_accepted.Tie as tie
+
 is-short-requires : tie.Need-is-short-requires
 is-short-requires c κs = search needs
 

@@ -11,6 +11,7 @@ use Rattle.newest.specs.Answers.{Tells}
 use Rattle.newest.proofs.Boards.{list-refused, room-refused, values-told}
 use Rattle.newest.proofs.tell_loaded.Statement.{statement}
 use Rattle.newest.proofs.tell_loaded.Tie as tie
+
 check-list-requires : tie.Need-check-list-requires
 check-list-requires c κs = search needs
 
@@ -67,9 +68,9 @@ returns-3 c =
     let T = c .before .before .before .follow .ensures in
     let F = c .before .before .before .before .before .before .before .before .before .before .before .pre .formed in
     values-told _ _ _ (passed _ _ _ _ (c .before .before .before .before .before .before .enum-told .given .1)
-        (c .before .before .before .before .before .before .before .before .check-list .ensures) .0) _ _ _ refl
-        (c .before .before .before .before .before .variables .ensures)
-        (omega (arith, c .before .before .before .before .before .variables .ensures, F .variables-max)) (omega arith) (T .painted) (T .run-real) (T .newest)
+    (c .before .before .before .before .before .before .before .before .check-list .ensures) .0) _ _ _ refl
+    (c .before .before .before .before .before .variables .ensures)
+    (omega (arith, c .before .before .before .before .before .variables .ensures, F .variables-max)) (omega arith) (T .painted) (T .run-real) (T .newest)
 
 pub tell-loaded-spec : {M : Type 1} → statement M
 tell-loaded-spec =

@@ -23,8 +23,11 @@ returns : tie.Need-returns
 returns c =
     let at-blank-from = c .before .before .before .before .before .before in
     let at-start = at-blank-from .before .before .before .before .before in
-    let a = at-start .args in
-    (finished (a .answer) (at-blank-from .before .steps-of .result) (a .plan .now) _ (at-blank-from .before .steps-of .ensures) (at-blank-from .blank-from .ensures), blanked (length (a .work .now)) _ (c .before .before .blank .ensures))
+    let a = at-start .args in (
+      finished (a .answer) (at-blank-from .before .steps-of .result) (a .plan .now) _ (at-blank-from .before .steps-of .ensures)
+          (at-blank-from .blank-from .ensures),
+      blanked (length (a .work .now)) _ (c .before .before .blank .ensures),
+    )
 
 pub finish-spec : {M : Type 1} → statement M
 finish-spec =

@@ -13,7 +13,8 @@ slice-aggregate-load : tie.Need-slice-aggregate-load
 slice-aggregate-load c = search needs
 
 load-requires : tie.Need-load-requires
-load-requires c κs = (c .before .before .before .before .before .before .before .pre, room-enough _ _ (c .before .before .is-short .result) true (c .before .before .is-short .ensures) (c .before .if1 .taken) refl)
+load-requires c κs =
+    (c .before .before .before .before .before .before .before .pre, room-enough _ _ (c .before .before .is-short .result) true (c .before .before .is-short .ensures) (c .before .if1 .taken) refl)
 
 slice-aggregate-plan-loaded : tie.Need-slice-aggregate-plan-loaded
 slice-aggregate-plan-loaded c = search needs
@@ -28,13 +29,15 @@ same-length-2 : tie.Need-same-length-2
 same-length-2 c = search needs
 
 returns : tie.Need-returns
-returns c = called (c .before .before .before .before .before .before .before .before .before .before .before .before .before .before .before .before .before .before .args .given) (c .before .before .before .before .before .before .before .before .before .before .before .before .before .before .before .before .before .before .args .bytes .now) _ (c .before .before .before .before .before .before .before .before .before .before .load .ensures .1) _ _ _ _ (c .before .before .before .before .before .before .before .before .before .before .before .before .before .before .before .before .before .before .pre) (c .before .before .before .before .before .plan-loaded .ensures)
+returns c =
+    called (c .before .before .before .before .before .before .before .before .before .before .before .before .before .before .before .before .before .before .args .given) (c .before .before .before .before .before .before .before .before .before .before .before .before .before .before .before .before .before .before .args .bytes .now) _ (c .before .before .before .before .before .before .before .before .before .before .load .ensures .1) _ _ _ _ (c .before .before .before .before .before .before .before .before .before .before .before .before .before .before .before .before .before .before .pre) (c .before .before .before .before .before .plan-loaded .ensures)
 
 slice-aggregate-load-2 : tie.Need-slice-aggregate-load-2
 slice-aggregate-load-2 c = search needs
 
 load-requires-2 : tie.Need-load-requires-2
-load-requires-2 c κs = (c .before .before .before .before .before .before .before .pre, room-enough _ _ (c .before .before .is-short .result) false (c .before .before .is-short .ensures) (c .before .if1 .left) refl)
+load-requires-2 c κs =
+    (c .before .before .before .before .before .before .before .pre, room-enough _ _ (c .before .before .is-short .result) false (c .before .before .is-short .ensures) (c .before .if1 .left) refl)
 
 slice-aggregate-plan-loaded-2 : tie.Need-slice-aggregate-plan-loaded-2
 slice-aggregate-plan-loaded-2 c = search needs
@@ -49,7 +52,8 @@ same-length-4 : tie.Need-same-length-4
 same-length-4 c = search needs
 
 returns-2 : tie.Need-returns-2
-returns-2 c = called (c .before .before .before .before .before .before .before .before .before .before .before .before .before .before .before .before .before .before .args .given) (c .before .before .before .before .before .before .before .before .before .before .before .before .before .before .before .before .before .before .args .bytes .now) _ (c .before .before .before .before .before .before .before .before .before .before .load2 .ensures .1) _ _ _ _ (c .before .before .before .before .before .before .before .before .before .before .before .before .before .before .before .before .before .before .pre) (c .before .before .before .before .before .plan-loaded2 .ensures)
+returns-2 c =
+    called (c .before .before .before .before .before .before .before .before .before .before .before .before .before .before .before .before .before .before .args .given) (c .before .before .before .before .before .before .before .before .before .before .before .before .before .before .before .before .before .before .args .bytes .now) _ (c .before .before .before .before .before .before .before .before .before .before .load2 .ensures .1) _ _ _ _ (c .before .before .before .before .before .before .before .before .before .before .before .before .before .before .before .before .before .before .pre) (c .before .before .before .before .before .plan-loaded2 .ensures)
 
 pub plan-accepted-spec : {M : Type 1} → statement M
 plan-accepted-spec =

@@ -29,7 +29,9 @@ returns : tie.Need-returns
 returns c = search needs
 
 returns-2 : tie.Need-returns-2
-returns-2 c = let e = c .before .c .given .1 in drafted-stop (taskOf (c .before .before .before .before .before .before .before .before .args .bytes .now)) _ _ _ _ _ _ (refused-by _ _ _ _ e (sym (ap refusalIn e)) (c .before .before .before .check .ensures))
+returns-2 c =
+    let e = c .before .c .given .1 in drafted-stop (taskOf (c .before .before .before .before .before .before .before .before .args .bytes .now)) _ _ _ _ _ _
+    (refused-by _ _ _ _ e (sym (ap refusalIn e)) (c .before .before .before .check .ensures))
 
 pub plan-checked-spec : {M : Type 1} → statement M
 plan-checked-spec =

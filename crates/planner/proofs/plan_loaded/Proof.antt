@@ -24,7 +24,9 @@ same-length c = search needs
 
 returns : tie.Need-returns
 unfolding paintingCheck
-returns c = drafted-stop (taskIn (c .before .before .before .before .before .before .before .before .before .before .before .args .task .now)) _ _ _ _ _ _ (refused-by _ _ _ _ (c .before .enum-told2 .given .1) (c .refusal-in .ensures) (c .before .before .before .before .before .prepare .ensures .answer))
+returns c =
+    drafted-stop (taskIn (c .before .before .before .before .before .before .before .before .before .before .before .args .task .now)) _ _ _ _ _ _
+    (refused-by _ _ _ _ (c .before .enum-told2 .given .1) (c .refusal-in .ensures) (c .before .before .before .before .before .prepare .ensures .answer))
 
 plan-prepared-requires : tie.Need-plan-prepared-requires
 plan-prepared-requires c κs = c .before .before .before .before .before .before .before .prepare .ensures .prepared (passed-by _ _ (c .before .before .before .enum-told .given .1) refl)
@@ -40,7 +42,8 @@ same-length-4 c = search needs
 
 returns-2 : tie.Need-returns-2
 unfolding paintingCheck
-returns-2 c = painted (c .before .before .before .before .before .before .before .before .before .before .before .before .before .before .before .before .before .before .args .given) (taskIn (c .before .before .before .before .before .before .before .before .before .before .before .before .before .before .before .before .before .before .args .task .now)) _ (c .before .before .before .before .before .before .before .before .before .before .before .before .prepare .ensures .same) _ _ _ _ (passed-by _ _ (c .before .before .before .before .before .before .before .before .enum-told .given .1) (c .before .before .before .before .before .before .before .before .before .before .before .before .prepare .ensures .answer)) (c .before .before .before .before .plan-prepared .ensures)
+returns-2 c =
+    painted (c .before .before .before .before .before .before .before .before .before .before .before .before .before .before .before .before .before .before .args .given) (taskIn (c .before .before .before .before .before .before .before .before .before .before .before .before .before .before .before .before .before .before .args .task .now)) _ (c .before .before .before .before .before .before .before .before .before .before .before .before .prepare .ensures .same) _ _ _ _ (passed-by _ _ (c .before .before .before .before .before .before .before .before .enum-told .given .1) (c .before .before .before .before .before .before .before .before .before .before .before .before .prepare .ensures .answer)) (c .before .before .before .before .plan-prepared .ensures)
 
 pub plan-loaded-spec : {M : Type 1} → statement M
 plan-loaded-spec =

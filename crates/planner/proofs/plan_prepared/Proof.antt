@@ -39,8 +39,11 @@ returns c =
 draft-requires : tie.Need-draft-requires
 draft-requires c κs =
     let t = taskIn (c .before .before .before .before .before .before .before .before .before .before .args .task .now) in
-    let p = passed _ _ _ _ (c .before .before .enum-told .given .1) (c .before .before .before .before .check-relaxed .ensures) .0 in
-    (c .before .before .before .before .before .before .before .before .before .before .pre, relaxedCheck-none t (c .before .before .before .before .before .before .before .before .before .before .args .list .now) (inOrder-passed _ p .1 .0))
+    let p = passed _ _ _ _ (c .before .before .enum-told .given .1) (c .before .before .before .before .check-relaxed .ensures) .0 in (
+      c .before .before .before .before .before .before .before .before .before .before .pre,
+      relaxedCheck-none t
+          (c .before .before .before .before .before .before .before .before .before .before .args .list .now) (inOrder-passed _ p .1 .0),
+    )
 
 same-length : tie.Need-same-length
 same-length c = search needs
@@ -52,8 +55,10 @@ returns-2 : tie.Need-returns-2
 returns-2 c =
     let t = taskIn (c .before .before .before .before .before .before .before .before .before .before .before .before .before .before .before .args .task .now) in
     let l = c .before .before .before .before .before .before .before .before .before .before .before .before .before .before .before .args .list .now in
-    let p = passed _ _ _ _ (c .before .before .before .before .before .before .before .enum-told .given .1) (c .before .before .before .before .before .before .before .before .before .check-relaxed .ensures) .0 in
-    sourced t l _ _ _ _ _ (given-source t l _ (c .before .before .before .before .before .before .before .before .before .before .if1 .taken)) (given-check t l _ (c .before .before .before .before .before .before .before .before .before .before .if1 .taken) ∙ p) (c .before .before .before .before .draft .ensures)
+    let p = passed _ _ _ _ (c .before .before .before .before .before .before .before .enum-told .given .1)
+    (c .before .before .before .before .before .before .before .before .before .check-relaxed .ensures) .0 in
+    sourced t l _ _ _ _ _ (given-source t l _ (c .before .before .before .before .before .before .before .before .before .before .if1 .taken))
+    (given-check t l _ (c .before .before .before .before .before .before .before .before .before .before .if1 .taken) ∙ p) (c .before .before .before .before .draft .ensures)
 
 relaxed-plan-requires : tie.Need-relaxed-plan-requires
 relaxed-plan-requires c κs = search needs
@@ -73,10 +78,14 @@ returns-3 c =
     let e = c .before .enum-told3 .given .1 in
     let U = subst (KeptOf t (c .before .before .before .relaxed-plan .last .1 .0)) e (c .before .before .before .relaxed-plan .ensures) in
     let told = unfound-check t _ U in
-    drafted-stop t _ _ _ _ _ _ (own-check t (c .before .before .before .before .before .before .before .before .before .before .args .list .now) _ (c .before .before .before .before .before .if1 .left) ∙ told ∙ rw (c .refusal-of2 .ensures ∙ ap refusalOf e) refl)
+    drafted-stop t _ _ _ _ _ _ (own-check t (c .before .before .before .before .before .before .before .before .before .before .args .list .now) _
+    (c .before .before .before .before .before .if1 .left) ∙ told ∙ rw (c .refusal-of2 .ensures ∙ ap refusalOf e) refl)
 
-found : (c : tie.After-known-told) → Found (taskIn (c .before .before .before .before .before .before .before .before .before .before .args .task .now)) (c .before .before .before .relaxed-plan .last .1 .0) (c .before .k .given .0 .0)
-found c = subst (KeptOf (taskIn (c .before .before .before .before .before .before .before .before .before .before .args .task .now)) (c .before .before .before .relaxed-plan .last .1 .0)) (c .before .k .given .1) (c .before .before .before .relaxed-plan .ensures)
+found : (c : tie.After-known-told) → Found (taskIn (c .before .before .before .before .before .before .before .before .before .before .args .task .now))
+    (c .before .before .before .relaxed-plan .last .1 .0) (c .before .k .given .0 .0)
+found c =
+    subst (KeptOf (taskIn (c .before .before .before .before .before .before .before .before .before .before .args .task .now))
+    (c .before .before .before .relaxed-plan .last .1 .0)) (c .before .k .given .1) (c .before .before .before .relaxed-plan .ensures)
 
 cast-count : tie.Need-cast-count
 cast-count c = search needs
@@ -90,8 +99,11 @@ slice-aggregate-draft c = sym (length-take-le _ _ (omega (arith, found (c .befor
 draft-requires-2 : tie.Need-draft-requires-2
 draft-requires-2 c κs =
     let t = taskIn (c .before .before .before .before .before .before .before .before .before .before .before .before .before .args .task .now) in
-    let F = found (c .before .before .before) in
-    (c .before .before .before .before .before .before .before .before .before .before .before .before .before .pre, rw (F .front .list) (relaxedPlan-is-plan t (c .before .before .before .before .before .before .before .before .before .before .before .before .before .pre .loaded .formed) (F .solved)))
+    let F = found (c .before .before .before) in (
+      c .before .before .before .before .before .before .before .before .before .before .before .before .before .pre,
+      rw (F .front .list)
+          (relaxedPlan-is-plan t (c .before .before .before .before .before .before .before .before .before .before .before .before .before .pre .loaded .formed) (F .solved)),
+    )
 
 same-length-3 : tie.Need-same-length-3
 same-length-3 c = search needs
@@ -104,7 +116,10 @@ returns-4 c =
     let t = taskIn (c .before .before .before .before .before .before .before .before .before .before .before .before .before .before .before .before .before .before .args .task .now) in
     let l = c .before .before .before .before .before .before .before .before .before .before .before .before .before .before .before .before .before .before .args .list .now in
     let F = found (c .before .before .before .before .before .before .before .before) in
-    sourced t l _ _ _ _ _ (F .front .list ∙ own-source t l _ (c .before .before .before .before .before .before .before .before .before .before .before .before .before .if1 .left)) (own-check t l _ (c .before .before .before .before .before .before .before .before .before .before .before .before .before .if1 .left) ∙ found-check t (F .solved)) (c .before .before .before .before .draft2 .ensures)
+    sourced t l _ _ _ _ _ (F .front .list ∙ own-source t l _
+    (c .before .before .before .before .before .before .before .before .before .before .before .before .before .if1 .left))
+    (own-check t l _ (c .before .before .before .before .before .before .before .before .before .before .before .before .before .if1 .left) ∙ found-check t
+    (F .solved)) (c .before .before .before .before .draft2 .ensures)
 
 pub plan-prepared-spec : {M : Type 1} → statement M
 plan-prepared-spec =

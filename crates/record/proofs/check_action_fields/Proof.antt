@@ -42,7 +42,7 @@ unfolding actionChecks
 returns-2 c =
     let at-enum-told = c .before .before .before in
     skip _ _ _ _ ((passed _ _ _ _ (at-enum-told .enum-told .given .1) (at-enum-told .before .before .take .ensures)) .0)
-        (stops _ _ _ _ _ _ (c .enum-told3 .given .1) (c .before .before .take2 .ensures))
+    (stops _ _ _ _ _ _ (c .enum-told3 .given .1) (c .before .before .take2 .ensures))
 
 add-take-2 : tie.Need-add-take-2
 add-take-2 c = omega arith
@@ -62,7 +62,7 @@ returns-3 c =
     let at-p = c .before .before .before .before in
     let at-enum-told = at-p .before .before .before in
     skip _ _ _ _ ((passed _ _ _ _ (at-enum-told .enum-told .given .1) (at-enum-told .before .before .take .ensures)) .0)
-        (skip _ _ _ _ ((passed _ _ _ _ (at-p .p .given .1) (at-p .before .before .take2 .ensures)) .0) (stops _ _ _ _ _ _ (c .enum-told4 .given .1) (c .before .before .take3 .ensures)))
+    (skip _ _ _ _ ((passed _ _ _ _ (at-p .p .given .1) (at-p .before .before .take2 .ensures)) .0) (stops _ _ _ _ _ _ (c .enum-told4 .given .1) (c .before .before .take3 .ensures)))
 
 check-action-facts-requires : tie.Need-check-action-facts-requires
 unfolding preconditionsIn effectsIn

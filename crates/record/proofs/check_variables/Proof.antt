@@ -31,14 +31,22 @@ enum-told : tie.Need-enum-told Inv-loop μ-loop
 enum-told c = omega arith
 
 returns : tie.Need-returns Inv-loop μ-loop
-returns c =
-    (variable-stops _ _ _ _ (c .before .before .before .before .loop .inv) _ _ _ _ (omega arith) (c .enum-told .given .1)
-    (c .before .before .check-variable .ensures), λ z. absurd (not-done _ _ _ (c .enum-told .given .1) z))
+returns c = (
+  variable-stops _ _ _ _ (c .before .before .before .before .loop .inv) _ _ _ _ (omega arith) (c .enum-told .given .1)
+      (c .before .before .check-variable .ensures),
+  λ z. absurd (not-done _ _ _ (c .enum-told .given .1) z),
+)
 
 add-counts : tie.Need-add-counts Inv-loop μ-loop
 add-counts c =
-    record { fits = omega (arith, (passed _ _ _ _ (c .before .v .given .1) (c .before .before .before .check-variable .ensures)) .1, bitsAt-lt
-    (c .before .before .before .before .before .before .before .args .bytes .now) (22 + 20 * c .before .before .before .before .before .loop .i) 6) }
+    record {
+      fits = omega (
+        arith,
+        (passed _ _ _ _ (c .before .v .given .1) (c .before .before .before .check-variable .ensures)) .1,
+        bitsAt-lt
+            (c .before .before .before .before .before .before .before .args .bytes .now) (22 + 20 * c .before .before .before .before .before .loop .i) 6,
+      );
+    }
 
 cast-counts : tie.Need-cast-counts Inv-loop μ-loop
 cast-counts c = omega arith

@@ -62,7 +62,8 @@ returns c =
     let r = f .before .before .before .before .before .before .before in
     let a = start-of r .args in
     let e = front-length (a .plan .now) (a .work .now) _ _ (r .before .lesser .ensures) (r .capacity .ensures) in
-    held-front _ _ _ _ _ (sym (c .before .before .before .plan .given .0)) _ (e ∙ room-is (a .plan .now) (a .work .now) _ _ (r .before .lesser .ensures) (r .capacity .ensures)) _ (f .repair-from .ensures)
+    held-front _ _ _ _ _ (sym (c .before .before .before .plan .given .0)) _
+    (e ∙ room-is (a .plan .now) (a .work .now) _ _ (r .before .lesser .ensures) (r .capacity .ensures)) _ (f .repair-from .ensures)
 
 pub repair-spec : {M : Type 1} → statement M
 repair-spec =

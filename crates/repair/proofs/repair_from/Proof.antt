@@ -11,7 +11,8 @@ use Rattle.planning.specs.Runs.{Mode, relaxed, step, actions, act}
 use Rattle.task.specs.Task.{taskIn}
 use Rattle.state.specs.Sets.{setsOf, valuesOf}
 use Rattle.repair.proofs.Values.{mode-none, step-held}
-use Rattle.repair.proofs.Repairing.{Repairing, repairing-start, repairing-lent, repairing-few, repairing-small, repairing-below, repairing-step, Arranged, repairing-long, repairing-fits, repairing-turn, stages-fewer, steps-fewer, rest-is, rest-entries}
+use Rattle.repair.proofs.Repairing.{Repairing, repairing-start, repairing-lent, repairing-few, repairing-small, repairing-below, repairing-step}
+use Rattle.repair.proofs.Repairing.{Arranged, repairing-long, repairing-fits, repairing-turn, stages-fewer, steps-fewer, rest-is, rest-entries}
 use Rattle.repair.proofs.Ending.{repairing-held, held-long}
 use Rattle.repair.proofs.repair_from.Statement.{statement}
 use Rattle.repair.proofs.repair_from.Tie as tie

@@ -82,7 +82,7 @@ returns-2 c =
     let d = c .before .before .before .before .before .before .before .before .before .before .before .before .before .before .before in
     let p = to-plan d in
     written _ _ _ (asked p) _ _ _ _ (d .answer .given .1) _ _ _ _
-        (c .before .before .before .before .before .before .before .before .before .before .before .put-runs .ensures .0) (c .before .before .put-result .ensures) (work-length p) refl
+    (c .before .before .before .before .before .before .before .before .before .before .before .put-runs .ensures .0) (c .before .before .put-result .ensures) (work-length p) refl
     (c .before .before .before .front .ensures .0) (c .before .before .before .before .before .before .running .ensures)
 
 pub write-spec : {M : Type 1} → statement M
