@@ -52,9 +52,9 @@ called c = sym (c .before .before .before .size-for .ensures ((known-told-to-sta
 fit : (c : tie.After-known-told) → Fitting (sheet ((known-told-to-start c) .args .list .now) ((known-told-to-start c) .args .cost) ((known-told-to-start c) .args .real)) (length ((known-told-to-start c) .args .bytes .now)) (c .before .a .given .0 .0)
 fit c = fitting _ _ _ (called c)
 
-six : (c : tie.After-known-told) → 6 ≤ length ((known-told-to-start c) .args .bytes .now)
+one : (c : tie.After-known-told) → 1 ≤ length ((known-told-to-start c) .args .bytes .now)
 unfolding sheetSize sheetEnd
-six c = omega (arith, fit c .room)
+one c = omega (arith, fit c .room)
 
 cast-size : tie.Need-cast-size
 cast-size c = omega arith
@@ -66,13 +66,13 @@ front-requires : tie.Need-front-requires
 front-requires c κs = tt
 
 write-bits-requires : tie.Need-write-bits-requires
-write-bits-requires c κs = (six (c .before .before), omega arith, omega arith)
+write-bits-requires c κs = (one (c .before .before), omega arith, omega arith)
 
 write-steps-requires : tie.Need-write-steps-requires
 write-steps-requires c κs =
     let at-known-told = c .before .before .before .before .before .before in
     let f = fit (at-known-told) in
-    (omega arith, all-below 1024 0 _ (omega arith) (f .below), f .short, f .size, omega (arith, f .room, f .size))
+    (all-below 1024 0 _ (omega arith) (f .below), f .short, f .size, omega (arith, f .room, f .size))
 
 clear-from-requires : tie.Need-clear-from-requires
 clear-from-requires c κs = tt
