@@ -288,16 +288,27 @@ fn five_steps(bytes: &[u8], at: usize) -> u64
     bits::window_at(&bytes[at / 8..], at % 8) >> 14
 }
 
+// The first four of five steps, 16 bits each, the first one lowest: as they lie in a list, so that one store takes them all.
+fn spread(word: u64) -> u64
+    ensures { λ r. ⌜ (r % 65536 ≡ word / 1099511627776 % 1024) × (r / 65536 % 65536 ≡ word / 1073741824 % 1024) × (r / 4294967296 % 65536 ≡ word / 1048576 % 1024) × (r / 281474976710656 ≡ word / 1024 % 1024) ⌝ }
+{
+    (word >> 40) % 1024
+        + (word >> 30) % 1024 * 65536
+        + (word >> 20) % 1024 * 4294967296
+        + (word >> 10) % 1024 * 281474976710656
+}
+
 // Five steps out of one window, written from i on.
 fn read_five(bytes: &[u8], list: &mut [u16], i: usize)
     requires { ⌜ (10 * i + 117 ≤ 8 * length (now bytes)) × (i ≤ 32768) × (i + 5 ≤ length (now list)) ⌝ }
     ensures { λ _. ⌜ now (list .exit) ≡ take i (now (list .entry)) ++ stepsAt (now (bytes .entry)) (53 + 10 * i) 5 ++ drop (i + 5) (now (list .entry)) ⌝ }
 {
     let word = five_steps(bytes, 53 + 10 * i);
-    list[i] = ((word >> 40) % 1024) as u16;
-    list[i + 1] = ((word >> 30) % 1024) as u16;
-    list[i + 2] = ((word >> 20) % 1024) as u16;
-    list[i + 3] = ((word >> 10) % 1024) as u16;
+    let four = spread(word);
+    list[i] = (four % 65536) as u16;
+    list[i + 1] = ((four >> 16) % 65536) as u16;
+    list[i + 2] = ((four >> 32) % 65536) as u16;
+    list[i + 3] = (four >> 48) as u16;
     list[i + 4] = (word % 1024) as u16;
 }
 
