@@ -1,5 +1,5 @@
-/* Calls every function of the header on two shelves and on records and lists with faults, and prints what
- * comes back, the lists lent with all their entries. */
+/* Calls every function of the header on two shelves (and a tray) and on records and lists with faults, and prints
+ * what comes back, the lists lent with all their entries. */
 #include "mardiskos.h"
 #include "output.h"
 
@@ -12,7 +12,14 @@ static const uint8_t two_shelves[35] = {
     0x41, 0x04, 0x10, 0x80, 0x00, 0x48, 0x40, 0x00, 0x10, 0x81, 0x00,
 };
 
+/* A tray and two boxes, all red, and two actions, each of which loads a box on the tray. */
+static const uint8_t tray[29] = {
+    0x10, 0x60, 0x08, 0x10, 0x00, 0x01, 0x01, 0x04, 0x10, 0x10, 0x40, 0x00, 0x48, 0x80, 0x00,
+    0x10, 0x00, 0x04, 0x10, 0x40, 0x00, 0x48, 0x80, 0x00, 0x20, 0x00, 0x04, 0x20, 0x40,
+};
+
 enum { ENTRIES = 6 };
+static const uint16_t both_boxes[] = {0, 1};
 static const uint16_t relaxed[] = {0, 2, 3};
 static const uint16_t repaired[] = {0, 2, 1, 3};
 static const uint16_t no_such_action[] = {0, 2, 4};
@@ -76,6 +83,29 @@ static void judge(const char *what, const uint16_t *list, size_t len)
     printf("  relaxed %" PRIu32 " %s, red-black %" PRIu32 " %s, real %" PRIu32 " %s\n", j.relaxed_steps,
            j.relaxed_plan ? "plan" : "no plan", j.red_black_steps, j.red_black_plan ? "plan" : "no plan",
            j.real_steps, j.real_plan ? "plan" : "no plan");
+}
+
+static void newest(const char *what, const uint8_t *record, size_t record_len, const uint16_t *list, size_t list_len,
+                   size_t len)
+{
+    uint16_t values[ENTRIES] = {0};
+    mardiskos_newest_values n = mardiskos_newest(record, record_len, list, list_len, values, len);
+    printf("newest values, %s, %zu entries lent: ", what, len);
+    print_code(n.code);
+    printf("  red-black %" PRIu32 ", real %" PRIu32 "\n", n.steps, n.runs);
+    print_list("values", values, len);
+}
+
+static void newest_of_lists(void)
+{
+    newest("repaired plan", two_shelves, sizeof two_shelves, repaired, 4, 4);
+    newest("relaxed plan", two_shelves, sizeof two_shelves, relaxed, 3, 2);
+    newest("empty list", two_shelves, sizeof two_shelves, relaxed, 0, 2);
+    newest("repaired plan", two_shelves, sizeof two_shelves, repaired, 4, 1);
+    newest("no such action", two_shelves, sizeof two_shelves, no_such_action, 3, 1);
+    newest("no bytes", two_shelves, 0, repaired, 4, 3);
+    newest("tray", tray, sizeof tray, both_boxes, 2, 4);
+    newest("tray, up to where it runs for real", tray, sizeof tray, both_boxes, 1, 3);
 }
 
 static void forward(size_t len)
@@ -167,6 +197,7 @@ int main(void)
     judge("relaxed plan", relaxed, 3);
     judge("empty list", relaxed, 0);
     judge("no such action", no_such_action, 3);
+    newest_of_lists();
     forward(4);
     forward(2);
     relax(4);

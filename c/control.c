@@ -1,5 +1,5 @@
 /* A control program: hands over a record, gets a plan, writes its sheet, reads the sheet back, judges what
- * it read and prints the steps that run for real. Arguments are record files; without any it takes the
+ * it read, and prints the steps that run for real and the value that each variable then has. Arguments are record files; without any it takes the
  * two-shelves record that is built in. A refused record prints its number and place, and what they mean.
  * Ends with status 0 if every record has its plan, with 1 if a record was refused, with 2 if a file could not be
  * read or the output not be written, which a line on standard error says. */
@@ -20,6 +20,7 @@ static const uint8_t two_shelves[35] = {
 static uint8_t record[MARDISKOS_LONGEST_RECORD + 1];
 static uint8_t sheet[MARDISKOS_LONGEST_SHEET];
 static uint16_t plan[MARDISKOS_MOST_STEPS], work[MARDISKOS_MOST_STEPS], steps_read[MARDISKOS_MOST_STEPS];
+static uint16_t values[MARDISKOS_MOST_VARIABLES];
 
 static int refuse(uint64_t code)
 {
@@ -48,6 +49,20 @@ static void print_runs(const uint16_t *list, uint32_t runs)
     puts("");
 }
 
+/* Of the steps that run for real, so that things are where they were put last. */
+static int print_newest(size_t len, uint32_t runs)
+{
+    mardiskos_newest_values newest =
+        mardiskos_newest(record, len, steps_read, runs, values, MARDISKOS_MOST_VARIABLES);
+    if (newest.code != 0)
+        return refuse(newest.code);
+    printf("newest values:");
+    for (size_t v = 0; v < MARDISKOS_MOST_VARIABLES && values[v] != 65535; v++)
+        printf(" %u", (unsigned)values[v]);
+    puts("");
+    return PLANNED;
+}
+
 /* The sheet as whoever opens it later reads it, with the record beside it. */
 static int open_sheet(size_t len, size_t sheet_len)
 {
@@ -61,7 +76,7 @@ static int open_sheet(size_t len, size_t sheet_len)
         return refuse(judged.code);
     print_judgement(judged);
     print_runs(steps_read, judged.real_steps);
-    return PLANNED;
+    return print_newest(len, judged.real_steps);
 }
 
 static int control(const char *name, size_t len)

@@ -25,7 +25,8 @@
  *
  * Where something starts is told in bits, and the most significant bit of the first byte is bit 0. Entries, variables and
  * actions count from 0 too. Fields are looked at in their order, and the first fault is told. Room is the
- * length of the list lent, of the shorter one where two are lent, and never more than 32,768.
+ * length of the list lent, of the shorter one where two are lent, and never more than 32,768; for a list
+ * of values it is that list's length.
  *
  * A record and a sheet are unsigned numbers without gaps between them, most significant bit first. Zero bits fill the
  * last byte, and nothing follows. Their fields, with their bits:
@@ -74,8 +75,8 @@ extern "C" {
 #endif
 
 /* The version, as text and as 10,000 * major + 100 * minor + patch. */
-#define MARDISKOS_VERSION "0.1.0"
-#define MARDISKOS_VERSION_NUMBER 100
+#define MARDISKOS_VERSION "0.2.0"
+#define MARDISKOS_VERSION_NUMBER 200
 
 #define MARDISKOS_NUMBER(code) ((unsigned)((code) % 32))
 #define MARDISKOS_PLACE(code) ((code) / 32)
@@ -149,6 +150,22 @@ typedef struct {
  * function does in the order named with it. The painting may be any. */
 mardiskos_judgement mardiskos_judge(const uint8_t *record, size_t len, const uint16_t *list,
                                     size_t list_len);
+
+/* How many steps of a list run red-black until one does not apply, and how many run for real. */
+typedef struct {
+    uint64_t code;
+    uint32_t steps;
+    uint32_t runs;
+} mardiskos_newest_values;
+
+/* Where things were put last. The newest value of a variable is its initial value until a step sets the variable,
+ * then the value set last, also where the variable had that value before. The list is run red-black until a
+ * step does not apply; the newest value of each variable there fills the front of the values list, which needs
+ * an entry for each variable of the record (MARDISKOS_MOST_VARIABLES are always enough), and 65,535 the rest.
+ * If steps and runs are equal, the values are the real state. For the state in which a real run stops, hand
+ * over the first `runs` actions alone. Refuses with 1 to 6, 13, 9, 11. The painting may be any. */
+mardiskos_newest_values mardiskos_newest(const uint8_t *record, size_t len, const uint16_t *list,
+                                         size_t list_len, uint16_t *values, size_t values_len);
 
 typedef struct {
     uint64_t code;

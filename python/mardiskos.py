@@ -3,6 +3,7 @@
     import mardiskos
     record = open("examples/two-shelves.record", "rb").read()
     plan = mardiskos.plan(record)         # Plan(steps=[0, 2, 1, 3], cost=10, runs=4, real=True)
+    mardiskos.newest(record, plan.steps)  # Newest(values=[0, 0], steps=4, runs=4)
     sheet = mardiskos.write_sheet(plan.steps, plan.cost, plan.real)
 
 Records and sheets are bytes or anything like them, lists of actions any iterable of numbers. A refusal raises `Refused`, which
@@ -18,7 +19,7 @@ from array import array
 from ctypes import c_bool, c_char_p, c_size_t, c_uint32, c_uint64, c_void_p
 from typing import Iterable, List, NamedTuple
 
-__version__ = "0.1.0"
+__version__ = "0.2.0"
 
 MAX_STEPS = 32768
 MAX_VARIABLES = 64
@@ -72,6 +73,14 @@ class Judgement(NamedTuple):
     real: Run
 
 
+class Newest(NamedTuple):
+    """The newest value of each variable where the red-black run stops, and how many steps run red-black and for real."""
+
+    values: List[int]
+    steps: int
+    runs: int
+
+
 class ForwardRun(NamedTuple):
     steps: List[int]
     reached: int
@@ -110,6 +119,10 @@ class _Judgement(ctypes.Structure):
     ]
 
 
+class _NewestValues(ctypes.Structure):
+    _fields_ = [("code", c_uint64), ("steps", c_uint32), ("runs", c_uint32)]
+
+
 class _ForwardRun(ctypes.Structure):
     _fields_ = [("code", c_uint64), ("steps", c_uint32), ("reached", c_uint32)]
 
@@ -135,6 +148,7 @@ _LIST = [c_void_p, c_size_t]
 _CALLS = {
     "mardiskos_check": (c_uint64, _BYTES),
     "mardiskos_judge": (_Judgement, _BYTES + _LIST),
+    "mardiskos_newest": (_NewestValues, _BYTES + _LIST + _LIST),
     "mardiskos_forward": (_ForwardRun, _BYTES + _LIST),
     "mardiskos_relax": (_RelaxedPlan, _BYTES + _LIST),
     "mardiskos_plan": (_PlanResult, _BYTES + _LIST + _LIST),
@@ -177,6 +191,15 @@ def judge(record: bytes, actions: Iterable[int]) -> Judgement:
         Run(judged.red_black_steps, judged.red_black_plan),
         Run(judged.real_steps, judged.real_plan),
     )
+
+
+def newest(record: bytes, actions: Iterable[int]) -> Newest:
+    """What each variable was set to last, at first its initial value, in a red-black run of the actions until one does not apply.
+    Where all those steps run for real, it is the real state. Refuses with 13 and 9 too."""
+    actions, room = array("H", actions), _room(MAX_VARIABLES)
+    found = _library.mardiskos_newest(*_bytes(record), *_lend(actions), *_lend(room))
+    _accept(found.code)
+    return Newest([value for value in room if value != 65535], found.steps, found.runs)
 
 
 def forward(record: bytes) -> ForwardRun:

@@ -43,6 +43,17 @@ class Calls(unittest.TestCase):
         self.refuses(9, 2, mardiskos.judge, TWO_SHELVES, [0, 2, 4])
         self.refuses(13, 32768, mardiskos.judge, TWO_SHELVES, [0] * 32769)
 
+    def test_newest(self):
+        self.assertEqual(mardiskos.newest(TWO_SHELVES, [0, 2, 1, 3]), ([0, 0], 4, 4))
+        self.assertEqual(mardiskos.newest(TWO_SHELVES, [0, 2, 3]), ([1, 2], 2, 2))
+        self.assertEqual(mardiskos.newest(TWO_SHELVES, []), ([0, 1], 0, 0))
+        self.assertEqual(mardiskos.newest(example("tray"), (0, 1)), ([1, 1, 1], 2, 1))
+        self.assertEqual(mardiskos.newest(example("newest"), [0, 2, 3, 4, 0, 1]), ([1, 0, 0], 4, 3))
+        self.assertEqual(mardiskos.newest(example("variables-64"), []).values, [0] * 64)
+        self.refuses(9, 2, mardiskos.newest, TWO_SHELVES, [0, 2, 4])
+        self.refuses(13, 32768, mardiskos.newest, TWO_SHELVES, [0] * 32769)
+        self.refuses(1, 0, mardiskos.newest, b"", [])
+
     def test_forward_and_relax(self):
         self.assertEqual(mardiskos.forward(TWO_SHELVES), ([0, 2, 3], 5))
         self.assertEqual(mardiskos.relax(TWO_SHELVES), [0, 2, 3])

@@ -45,6 +45,8 @@ static void null_records(void)
     const uint64_t cut_short = code(MARDISKOS_RECORD_CUT_SHORT, 0);
     expect(mardiskos_check(NULL, 0) == cut_short, "check");
     expect(mardiskos_judge(NULL, 0, NULL, 0).code == cut_short, "judge");
+    expect(mardiskos_newest(NULL, 0, NULL, 0, NULL, 0).code == cut_short, "newest");
+    expect(mardiskos_newest(NULL, 0, NULL, 0, work, 2).code == cut_short && work[1] == 65535, "newest, values lent");
     expect(mardiskos_forward(NULL, 0, plan, 2).code == cut_short && plan[1] == 65535, "forward");
     expect(mardiskos_relax(NULL, 0, NULL, 0).code == cut_short, "relax");
     expect(mardiskos_plan(NULL, 0, NULL, 0, work, 2).code == cut_short && work[1] == 65535, "plan");
@@ -56,6 +58,11 @@ static void null_lists(void)
     uint16_t list[4] = {0, 2, 1, 3}, plan[4];
     mardiskos_judgement judged = mardiskos_judge(two_shelves, sizeof two_shelves, NULL, 0);
     expect(judged.code == 0 && judged.real_steps == 0 && !judged.relaxed_plan, "judge, no list");
+    mardiskos_newest_values newest = mardiskos_newest(two_shelves, sizeof two_shelves, NULL, 0, plan, 4);
+    expect(newest.code == 0 && newest.steps == 0 && newest.runs == 0, "newest, no list");
+    expect(plan[0] == 0 && plan[1] == 1 && plan[2] == 65535 && plan[3] == 65535, "newest, no list: initial values");
+    newest = mardiskos_newest(two_shelves, sizeof two_shelves, list, 4, NULL, 0);
+    expect(newest.code == code(MARDISKOS_NO_ROOM, 0) && newest.steps == 0 && newest.runs == 0, "newest, no room");
     expect(mardiskos_forward(two_shelves, sizeof two_shelves, NULL, 0).code == code(MARDISKOS_NO_ROOM, 0), "forward, no room");
     expect(mardiskos_relax(two_shelves, sizeof two_shelves, NULL, 0).code == code(MARDISKOS_NO_ROOM, 0), "relax, no room");
     expect(mardiskos_forward(goal_met, sizeof goal_met, NULL, 0).code == 0, "forward, goal met");

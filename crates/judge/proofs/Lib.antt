@@ -3,3 +3,4 @@ pub mod Lists
 pub mod Relaxed
 pub mod Going
 pub mod Entry
+pub mod Tracing

@@ -16,10 +16,8 @@ use Rattle.planning.specs.Record.{Task}
 use Rattle.planning.specs.Runs.{State, holds, step, act, actions, initial, goals, relaxed, run, runs, stepsRun, isPlan, Judged, judged, runBy, runsBy, stepsBy}
 use Rattle.planning.specs.Calls.{lengthCheck, entriesCheck, relaxedFault, relaxedCheck}
 use Rattle.planning.proofs.Calls.{relaxedCheck-of}
-use Rattle.state.specs.Sets.{modeOf}
 use Rattle.judge.specs.Answers.{leading}
 use Rattle.judge.proofs.Lists.{leading-cons, leading-none, leading-below, entries-below, allBelow-of, short-checked}
-use Rattle.judge.proofs.Modes.{mode-relaxed}
 use Rattle.judge.proofs.Going.{stepsRun-pass, stepsRun-stop, runs-pass, run-more}
 
 module _ (t : Task) (s : State) (k i : ℕ) (l : List ℕ) where
@@ -80,10 +78,7 @@ module _ (t : Task) (l : List ℕ) (n : ℕ) (e : n ≡ leading (actions t) l) w
   fault-at f = fault-of-run t (initial t) 0 l (rw e at f) ∙ ap some (rw e (omega arith))
 
   -- j is the verdict on the first n entries
-  module _ (s : length l ≤ 32768) (within : n ≤ length l) (j : Judged) (ej : j ≡ judged t (modeOf 0) (take n l)) where
-    verdict : j ≡ judged t relaxed (take n l)
-    verdict = ej ∙ rw mode-relaxed refl
-
+  module _ (s : length l ≤ 32768) (within : n ≤ length l) (j : Judged) (verdict : j ≡ judged t relaxed (take n l)) where
     steps-is : j .steps ≡ stepsRun (act t) relaxed (take n l) (initial t)
     unfolding judged
     steps-is = ap (λ (x : Judged). x .steps) verdict

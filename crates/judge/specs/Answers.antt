@@ -6,11 +6,10 @@ use lib.Dec.{ltb}
 use lib.ListN.{length, getD}
 use Rattle.planning.specs.Basics.{Check, inOrder, Answer, refused, done, answer}
 use Rattle.planning.specs.Record.{Task}
-use Rattle.planning.specs.Runs.{Judged, Judgement, judgement, actions, act, initial, stepsRun}
+use Rattle.planning.specs.Runs.{Judged, Judgement, judgement, actions, act, initial, relaxed, stepsRun}
 use Rattle.planning.specs.Calls.{lengthCheck, entriesCheck, relaxedCheck}
 use Rattle.answers.specs.declared.Refusal.{Refusal}
 use Rattle.task.specs.Task.{taskIn, Loaded}
-use Rattle.state.specs.Sets.{modeOf}
 use Rattle.judge.specs.declared.Verdict.{Verdict}
 use Rattle.judge.specs.declared.Verdicts.{Verdicts}
 use Rattle.judge.specs.declared.Judging.{Judging}
@@ -41,9 +40,9 @@ pub record Ready (task l : List ℕ) : Type 0 where
   pub short : length l ≤ 32768
   pub entries : Entries (taskIn task) l
 
--- the first n steps of the list run
-abbrev pub Runs : List ℕ → List ℕ → ℕ → ℕ → Type 0
-Runs task l mode n = n ≤ stepsRun (act (taskIn task)) (modeOf mode) l (initial (taskIn task))
+-- the first n steps of the list run relaxed
+abbrev pub Runs : List ℕ → List ℕ → ℕ → Type 0
+Runs task l n = n ≤ stepsRun (act (taskIn task)) relaxed l (initial (taskIn task))
 
 -- the checks of a list of actions, and of a caller's relaxed plan
 abbrev pub listCheck : Task → List ℕ → Check

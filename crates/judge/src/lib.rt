@@ -1,5 +1,5 @@
-// Judging: for each of the three semantics, the steps of a list that run and whether it is a plan. The real run comes first: what it
-// does the others do, so that a real plan needs no other run.
+// Judging: for each of the three semantics, the steps of a list that run and whether it is a plan. One pass red-black tells the real run as
+// well, by the newest values; the relaxed run follows where the list is no red-black plan.
 use answers::Checked;
 use answers::Number;
 use answers::Refusal;
@@ -11,12 +11,14 @@ ghost use Prim.Native.Nat.{_<_, _≤_};
 ghost use lib.ListN.{length};
 ghost use Rattle.planning.specs.Basics.{answer};
 ghost use Rattle.planning.specs.Record.{recordCheck};
-ghost use Rattle.planning.specs.Runs.{judged, judgement};
+ghost use Rattle.planning.specs.Runs.{actions, act, holds, relaxed, real, black, judged, judgement};
+ghost use Rattle.planning.specs.Newest.{alone};
 ghost use Rattle.planning.specs.Calls.{judgeCall};
 ghost use Rattle.answers.specs.Answers.{valueOf};
 ghost use Rattle.task.specs.Task.{taskIn, Loaded};
-ghost use Rattle.state.specs.Sets.{modeOf};
+ghost use Rattle.state.specs.Sets.{setsOf, valuesOf};
 ghost use Rattle.judge.specs.Answers.{judgedOf, judgementOf, answerOf, refusalOf, Ready, Runs, leading, listCheck, callerCheck, judgedList};
+ghost use Rattle.judge.specs.Traces.{further, Traces, StopsAs, RunsAs};
 
 // Under one semantics (3.11): how many steps run, and whether the list is a plan.
 pub struct Verdict {
@@ -30,10 +32,10 @@ pub struct Verdicts {
     pub real: Verdict,
 }
 
-// Variable v acts as black where bit v of `mode` is 1. The first `known` steps are known to apply, and are not tested.
-pub fn judge_one(task: &[u16], list: &[u16], mode: u64, known: usize) -> Verdict
-    requires { ⌜ Ready (now task) (now list) × Runs (now task) (now list) mode known ⌝ }
-    ensures { λ r. ⌜ judgedOf r ≡ judged (taskIn (now (task .entry))) (modeOf mode) (now (list .entry)) ⌝ }
+// The relaxed run. The first `known` steps are known to apply, and are not tested.
+fn judge_relaxed(task: &[u16], list: &[u16], known: usize) -> Verdict
+    requires { ⌜ Ready (now task) (now list) × Runs (now task) (now list) known ⌝ }
+    ensures { λ r. ⌜ judgedOf r ≡ judged (taskIn (now (task .entry))) relaxed (now (list .entry)) ⌝ }
 {
     let mut s = State::initial(task);
     let mut k: usize = 0;
@@ -45,7 +47,7 @@ pub fn judge_one(task: &[u16], list: &[u16], mode: u64, known: usize) -> Verdict
                 return Verdict { steps, plan: false };
             }
         }
-        s = s.step(task, i, mode);
+        s = s.step(task, i, 0);
         k += 1;
     }
     let g = Goals::load(task);
@@ -57,21 +59,103 @@ pub fn judge_one(task: &[u16], list: &[u16], mode: u64, known: usize) -> Verdict
     }
 }
 
-// The three verdicts. The steps that run for real need no test as painted, and those that run as painted none in the relaxed run.
-pub fn judge_all(task: &[u16], list: &[u16]) -> Verdicts
+// The red-black run of a list, up to the first step that does not apply: the state there, how many steps run, and how many run for real.
+pub struct Trace {
+    pub state: State,
+    pub steps: usize,
+    pub runs: usize,
+}
+
+// The steps that run for real, with step k: it counts if all before it do and it applies to the newest values.
+fn further(newest: &[u8; 64], task: &[u16], i: usize, k: usize, runs: usize) -> usize
+    requires { ⌜ Loaded (now task) × (i < actions (taskIn (now task))) × (runs < 32768) ⌝ }
+    ensures { λ r. ⌜ r ≡ further (holds (alone (valuesOf (now (newest .entry)))) (act (taskIn (now (task .entry))) i .pre)) k runs ⌝ }
+{
+    if runs == k && state::applies_newest(newest, task, i) {
+        return runs + 1;
+    }
+    runs
+}
+
+// As long as every step ran for real the newest values are the real state, so that one pass tells both runs.
+pub fn follow(task: &[u16], list: &[u16]) -> Trace
+    requires { ⌜ Ready (now task) (now list) ⌝ }
+    ensures { λ r. ⌜ Traces (taskIn (now (task .entry))) (now (list .entry)) r ⌝ }
+{
+    let paint = state::painted(task);
+    let mut s = State::initial(task);
+    let mut k: usize = 0;
+    let mut runs: usize = 0;
+    while k < list.len() {
+        let i = list[k] as usize;
+        runs = further(&s.newest, task, i, k, runs);
+        if runs <= k && !state::applies(&s.sets, task, i) {
+            break;
+        }
+        s = s.step(task, i, paint);
+        k += 1;
+    }
+    Trace {
+        state: s,
+        steps: k,
+        runs,
+    }
+}
+
+// The red-black verdict, from the sets where the run stops.
+fn judge_painted(task: &[u16], list: &[u16], sets: &[u64; 64], steps: usize) -> Verdict
+    requires { ⌜ Ready (now task) (now list) × StopsAs (taskIn (now task)) (now list) (setsOf (now sets)) steps ⌝ }
+    ensures { λ r. ⌜ judgedOf r ≡ judged (taskIn (now (task .entry))) (black (taskIn (now (task .entry)))) (now (list .entry)) ⌝ }
+{
+    if steps < list.len() {
+        return Verdict {
+            steps: steps as u32,
+            plan: false,
+        };
+    }
+    let g = Goals::load(task);
+    let n = g.count;
+    Verdict {
+        steps: steps as u32,
+        plan: state::all_hold(sets, &g.facts, 0, n),
+    }
+}
+
+// The real verdict, from the newest values there.
+fn judge_real(task: &[u16], list: &[u16], newest: &[u8; 64], runs: usize) -> Verdict
+    requires { ⌜ Ready (now task) (now list) × RunsAs (taskIn (now task)) (now list) (valuesOf (now newest)) runs ⌝ }
+    ensures { λ r. ⌜ judgedOf r ≡ judged (taskIn (now (task .entry))) real (now (list .entry)) ⌝ }
+{
+    if runs < list.len() {
+        return Verdict {
+            steps: runs as u32,
+            plan: false,
+        };
+    }
+    let g = Goals::load(task);
+    let n = g.count;
+    Verdict {
+        steps: runs as u32,
+        plan: state::all_newest(newest, &g.facts, 0, n),
+    }
+}
+
+// The three verdicts. The steps that run red-black need no test in the relaxed run, and a red-black plan is a relaxed one.
+fn judge_all(task: &[u16], list: &[u16]) -> Verdicts
     requires { ⌜ Ready (now task) (now list) ⌝ }
     ensures { λ r. ⌜ judgementOf r ≡ judgement (taskIn (now (task .entry))) (now (list .entry)) ⌝ }
 {
-    let real = judge_one(task, list, u64::MAX, 0);
-    if real.plan {
+    let x = follow(task, list);
+    let red_black = judge_painted(task, list, &x.state.sets, x.steps);
+    let real = judge_real(task, list, &x.state.newest, x.runs);
+    if red_black.plan {
         return Verdicts {
-            relaxed: real,
-            red_black: real,
+            relaxed: red_black,
+            red_black,
             real,
         };
     }
-    let red_black = judge_one(task, list, state::painted(task), real.steps as usize);
-    let relaxed = judge_one(task, list, 0, red_black.steps as usize);
+    let relaxed = judge_relaxed(task, list, x.steps);
     Verdicts {
         relaxed,
         red_black,
@@ -126,7 +210,7 @@ pub fn check_relaxed(task: &[u16], list: &[u16]) -> Number
         });
     }
     let n = leading(list, task::actions(task));
-    let v = judge_one(task, &list[..n], 0, 0);
+    let v = judge_relaxed(task, &list[..n], 0);
     if v.plan && n == list.len() {
         return Number::Value(n as u32);
     }

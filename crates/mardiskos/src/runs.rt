@@ -1,15 +1,17 @@
-// The forward run and the relaxed plan as C calls them. The code is 0, or 32 times the place and the number; after a refusal
+// The forward run, the relaxed plan and the newest values of a list as C calls them. The code is 0, or 32 times the place and the number; after a refusal
 // the other fields are 0.
 use crate::code_of;
 use crate::number_code;
 use answers::Number;
 use forward::Found;
+use newest::Traced;
 ghost use mathlib.Core.Path.{_≡_};
 ghost use lib.ListN.{length};
 ghost use Rattle.planning.specs.Basics.{code};
-ghost use Rattle.planning.specs.Calls.{forwardCall, forwardList, relaxCall, relaxList};
+ghost use Rattle.planning.specs.Calls.{forwardCall, forwardList, relaxCall, relaxList, newestCall, newestList};
 ghost use Rattle.forward.specs.Answers.{foundOf};
-ghost use Rattle.mardiskos.specs.Runs.{forwardRunOf, relaxedPlanOf};
+ghost use Rattle.newest.specs.Answers.{answerOf};
+ghost use Rattle.mardiskos.specs.Runs.{forwardRunOf, relaxedPlanOf, newestValuesOf};
 
 #[repr(C)]
 pub struct ForwardRun {
@@ -66,4 +68,42 @@ pub extern "C" fn mardiskos_relax(bytes: &[u8], plan: &mut [u16]) -> RelaxedPlan
         };
     };
     RelaxedPlan { code: 0, steps }
+}
+
+#[repr(C)]
+pub struct NewestValues {
+    pub code: u64,
+    pub steps: u32,
+    pub runs: u32,
+}
+
+fn traced_code(a: Traced) -> u64
+    ensures { λ r. ⌜ r ≡ code (answerOf a) ⌝ }
+{
+    let Traced::Refused(f) = a else {
+        return 0;
+    };
+    code_of(f)
+}
+
+// The newest value of each variable, where the red-black run of the list stops, in the front of the list lent for the values, or the refusal
+// by 1 to 6, 13, 9, 11.
+#[no_mangle]
+pub extern "C" fn mardiskos_newest(bytes: &[u8], list: &[u16], values: &mut [u16]) -> NewestValues
+    ensures { λ r. ⌜ r ≡ newestValuesOf (newestCall (now (bytes .entry)) (now (list .entry)) (length (now (values .entry)))) ⌝ }
+    ensures { λ _. ⌜ now (values .exit) ≡ newestList (now (bytes .entry)) (now (list .entry)) (length (now (values .entry))) ⌝ }
+{
+    let a = newest::newest(bytes, list, values);
+    let Traced::Run { steps, runs } = a else {
+        return NewestValues {
+            code: traced_code(a),
+            steps: 0,
+            runs: 0,
+        };
+    };
+    NewestValues {
+        code: 0,
+        steps,
+        runs,
+    }
 }

@@ -66,8 +66,24 @@ pub fn judge(task: &Task, steps: usize) -> Case {
         let [relaxed, red_black, real] = runs.map(|run| u64::from(run.steps));
         [0, relaxed, red_black, real]
     };
-    let list = (0..task.action_count() as u16).cycle().take(steps).collect();
-    Case::new((record::write(task), list), Lent::new(0, 0, 0), library, reference)
+    Case::new((record::write(task), rounds(task, steps)), Lent::new(0, 0, 0), library, reference)
+}
+
+fn rounds(task: &Task, steps: usize) -> Vec<u16> {
+    (0..task.action_count() as u16).cycle().take(steps).collect()
+}
+
+/// The same list, with room for the values.
+pub fn newest(task: &Task, steps: usize) -> Case {
+    let library = |(bytes, list): &Listed, lent: &mut Lent| {
+        let newest = mardiskos::lent::newest(bytes, list, &mut lent.plan);
+        [newest.code, newest.steps.into(), newest.runs.into(), 0]
+    };
+    let reference = |(bytes, list): &Listed, lent: &mut Lent| {
+        let newest = entry::newest(bytes, list, &mut lent.plan).unwrap();
+        [0, newest.steps.into(), newest.runs.into(), 0]
+    };
+    Case::new((record::write(task), rounds(task, steps)), Lent::new(64, 0, 0), library, reference)
 }
 
 fn library_numbers(result: mardiskos::lent::PlanResult) -> Answer {

@@ -1,6 +1,6 @@
 //! Every class: its name, and what it is at each size.
 
-use crate::calls::{check, forward, judge, plan, read_sheet, relax, repair, write_sheet};
+use crate::calls::{check, forward, judge, newest, plan, read_sheet, relax, repair, write_sheet};
 use bench::table::Class;
 use generate::{extremes, records, ring, stores, Random};
 use reference::entry::MAX_STEPS;
@@ -27,6 +27,10 @@ fn runs() -> Vec<Class> {
         Class::new("judging, 15+15 facts", |r, n| judge(&extremes::wheel(r), 8_192 * n)),
         Class::new("judging, 1+1 facts", |r, n| judge(&extremes::turning(r, 64, 1), 8_192 * n)),
         Class::new("judging, stops at 1", |r, n| judge(&extremes::lamp_wheel(r), 8_192 * n)),
+        // The list of 1 and 1 facts again.
+        Class::new("newest values, 1+1 facts", |r, n| {
+            newest(&extremes::turning(r, 64, 1), 8_192 * n)
+        }),
     ]
 }
 

@@ -43,6 +43,20 @@ pub fn judged(random: &mut Random, task: &Task, record: &[u8]) -> Vec<u16> {
     }
 }
 
+/// A list that runs red-black up to a step that does not, if some action does not apply there; others follow.
+pub fn stopping(random: &mut Random, task: &Task) -> Vec<u16> {
+    let semantics = Semantics::red_black(task);
+    let mut list = walk(random, task, &semantics, 20);
+    let mut state = State::initial(task);
+    list.iter().for_each(|&number| state.apply(task.action(number.into()), &semantics));
+    let fails = |&number: &usize| !state.holds_all(task.preconditions(number));
+    let first = random.below(task.action_count().max(1));
+    let turned = (first..task.action_count()).chain(0..first);
+    list.extend(turned.into_iter().find(fails).map(|number| number as u16));
+    list.extend(walk(random, task, &semantics, 5));
+    list
+}
+
 /// A list to repair, a relaxed plan in most cases.
 pub fn relaxed(random: &mut Random, task: &Task, record: &[u8]) -> Vec<u16> {
     if random.chance(1, 600) {

@@ -5,6 +5,7 @@
 //! lies against forbidden pages, so that a touch outside ends the run too.
 
 mod check;
+mod newest;
 mod plan;
 mod runs;
 mod sheet;
@@ -13,8 +14,13 @@ use compare::suite::{Options, Suite};
 use std::process::ExitCode;
 use std::thread;
 
-const SUITES: &[(&str, Suite)] =
-    &[("check", check::run), ("runs", runs::run), ("sheet", sheet::run), ("plan", plan::run)];
+const SUITES: &[(&str, Suite)] = &[
+    ("check", check::run),
+    ("runs", runs::run),
+    ("newest", newest::run),
+    ("sheet", sheet::run),
+    ("plan", plan::run),
+];
 
 fn main() -> ExitCode {
     match Options::parse(std::env::args().skip(1)).and_then(on_small_stack) {

@@ -3,6 +3,8 @@
 use crate::random::Random;
 use reference::{Fact, Task, Variable};
 
+const MAX_FACTS: usize = 15;
+
 /// Upper bounds of a random task.
 #[derive(Clone, Copy)]
 pub struct Shape {
@@ -94,4 +96,27 @@ pub fn choose_facts(random: &mut Random, task: &Task, count: usize) -> Vec<Fact>
         }
     }
     facts
+}
+
+/// The same task with actions, one in two, that set something of what they need.
+pub fn setting_needs(random: &mut Random, task: Task) -> Task {
+    let mut changed = Task::new(task.variables.clone());
+    for action in task.actions() {
+        let mut effects = action.effects.to_vec();
+        if random.chance(1, 2) {
+            keep_needed(random, action.preconditions, &mut effects);
+        }
+        changed.push(action.cost, action.preconditions, &effects);
+    }
+    changed
+}
+
+fn keep_needed(random: &mut Random, preconditions: &[Fact], effects: &mut Vec<Fact>) {
+    for &fact in preconditions {
+        if effects.len() < MAX_FACTS && random.chance(1, 2) {
+            effects.retain(|effect| effect.variable() != fact.variable());
+            effects.push(fact);
+        }
+    }
+    effects.sort();
 }

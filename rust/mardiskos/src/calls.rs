@@ -1,6 +1,6 @@
 //! The calls with results: lists are allocated here, and a refusal is an error.
 
-use crate::{lent, outcome, Refusal, MAX_SHEET, MAX_STEPS};
+use crate::{lent, outcome, Refusal, MAX_SHEET, MAX_STEPS, MAX_VARIABLES};
 
 /// A run of a list of actions.
 #[derive(Clone, Copy, Debug, PartialEq, Eq)]
@@ -20,6 +20,17 @@ pub struct Judgement {
     pub red_black: Run,
     /// Every variable holds one value.
     pub real: Run,
+}
+
+/// What each variable was set to last, where the red-black run of a list stops.
+#[derive(Clone, Debug, PartialEq, Eq)]
+pub struct Newest {
+    /// The newest value of each variable.
+    pub values: Vec<u16>,
+    /// How many steps run red-black until one does not apply.
+    pub steps: usize,
+    /// How many steps run for real. If they are as many, `values` is the real state.
+    pub runs: usize,
 }
 
 /// The forward run of a record.
@@ -92,6 +103,33 @@ pub fn judge(record: &[u8], list: &[u16]) -> Result<Judgement, Refusal> {
         real: run(judged.real_steps, judged.real_plan),
     })
 }
+
+/// The newest value of each variable: the value that it was set to last, at first its initial one. The list is run red-black
+/// until a step does not apply. Refuses with 13 and 9 too.
+///
+/// ```
+/// # fn main() -> Result<(), Box<dyn std::error::Error>> {
+/// let record = std::fs::read("../../examples/tray.record")?;
+/// let newest = mardiskos::newest(&record, &[0, 1])?;
+/// assert_eq!(newest.values, [1, 1, 1]);
+/// assert_eq!((newest.steps, newest.runs), (2, 1));
+///
+/// // Up to the step at which the real run stops, they are the real state.
+/// assert_eq!(mardiskos::newest(&record, &[0])?.values, [1, 1, 0]);
+/// # Ok(())
+/// # }
+/// ```
+pub fn newest(record: &[u8], actions: &[u16]) -> Result<Newest, Refusal> {
+    let mut values = list(MAX_VARIABLES);
+    let found = lent::newest(record, actions, &mut values);
+    outcome(found.code)?;
+    let variables = values.iter().take_while(|&&value| value != NO_VALUE).count();
+    values.truncate(variables);
+    Ok(Newest { values, steps: found.steps as usize, runs: found.runs as usize })
+}
+
+/// What stands behind the values; a value is below 64.
+const NO_VALUE: u16 = 65_535;
 
 /// The forward run: as long as a goal is missing, the lowest action that applies and reaches something new.
 /// Refuses with 10 too.

@@ -4,9 +4,9 @@ mod calls;
 pub mod lent;
 mod refusal;
 
-pub use calls::{check, forward, judge, read_sheet, relax, write_sheet};
+pub use calls::{check, forward, judge, newest, read_sheet, relax, write_sheet};
 pub use calls::{plan, plan_within, repair, repair_within};
-pub use calls::{ForwardRun, Judgement, Plan, Run, Sheet};
+pub use calls::{ForwardRun, Judgement, Newest, Plan, Run, Sheet};
 pub use refusal::{outcome, Reason, Refusal};
 
 /// The most steps that a plan, a list or a sheet has.

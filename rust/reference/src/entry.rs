@@ -4,6 +4,7 @@
 use crate::forward::Forward;
 use crate::index::Numbers;
 use crate::judge::{real_run, Judge};
+use crate::newest::newest_values;
 use crate::painting::Painting;
 use crate::record;
 use crate::refusal::Refusal;
@@ -30,6 +31,14 @@ pub struct PlanResult {
     /// The steps that run for real, from the front (7.8).
     pub runs: u32,
     pub real: bool,
+}
+
+#[derive(Clone, Copy, Debug, PartialEq, Eq)]
+pub struct NewestResult {
+    /// The steps that run red-black.
+    pub steps: u32,
+    /// The steps that run for real.
+    pub runs: u32,
 }
 
 /// What calls work in.
@@ -68,6 +77,25 @@ pub fn judge(record: &[u8], list: &[u16]) -> Result<Judgement, Refusal> {
         check_entries(task, list)?;
         Ok(judge.run(task, list))
     })
+}
+
+/// The newest value of each variable where the red-black run stops (3.13).
+pub fn newest(record: &[u8], list: &[u16], values: &mut [u16]) -> Result<NewestResult, Refusal> {
+    let lent = values.len();
+    let answer = with(record, |Room { task, judge, .. }| {
+        check_length(list)?;
+        check_entries(task, list)?;
+        let room = values.split_at_mut_checked(task.variables.len());
+        let (front, rest) = room.ok_or(Refusal::new(11, lent))?;
+        let (runs, steps) = judge.steps(task, list);
+        newest_values(task, &list[..steps], front);
+        rest.fill(NO_ENTRY);
+        Ok(NewestResult { steps: steps as u32, runs: runs as u32 })
+    });
+    if answer.is_err() {
+        values.fill(NO_ENTRY);
+    }
+    answer
 }
 
 pub fn forward(record: &[u8], plan: &mut [u16]) -> Result<ForwardResult, Refusal> {

@@ -81,6 +81,19 @@ pub fn lit_return() -> Task {
     task
 }
 
+/// A box, variable 1, that is loaded and unloaded, and a lamp, variable 2, which scanning needs off and
+/// leaves off.
+pub fn newest() -> Task {
+    let (mover, cargo) = (variable(2, true, 0, Some(0)), variable(2, false, 0, Some(1)));
+    let mut task = Task::new(vec![mover, cargo, variable(2, false, 0, None)]);
+    push(&mut task, 4, &[(0, 0)], &[(0, 1), (2, 1)]);
+    push(&mut task, 4, &[(0, 1)], &[(0, 0)]);
+    push(&mut task, 1, &[(0, 1), (1, 0)], &[(1, 1)]);
+    push(&mut task, 1, &[(0, 1), (1, 1)], &[(1, 0)]);
+    push(&mut task, 2, &[(1, 1), (2, 0)], &[(2, 0)]);
+    task
+}
+
 /// One action with two effects on one variable, which no record may have.
 pub fn repeated_variable() -> Task {
     let mut task = Task::new(vec![variable(2, false, 0, None)]);
@@ -115,6 +128,7 @@ pub fn files() -> Vec<(&'static str, Vec<u8>)> {
         ("tray", tray()),
         ("door", door()),
         ("lit-return", lit_return()),
+        ("newest", newest()),
         ("repeated-variable", repeated_variable()),
         ("variables-64", sized(64, 0, 0)),
         ("variables-65", sized(65, 0, 0)),

@@ -30,6 +30,13 @@ impl Judge {
         Judge { images: table(Image::EMPTY) }
     }
 
+    /// How many steps run for real and red-black. Every entry of the list is below A.
+    pub fn steps(&mut self, task: &Task, list: &[u16]) -> (usize, usize) {
+        let mut course = Course::new(task, &mut self.images);
+        let real = course.run(list, 0, !0);
+        (real, course.run(list, real, task.black()))
+    }
+
     /// Every entry of the list is below A.
     pub fn run(&mut self, task: &Task, list: &[u16]) -> Judgement {
         let mut course = Course::new(task, &mut self.images);

@@ -1,7 +1,7 @@
 //! Independent planner, written from docs/SPECIFICATION.md alone and for speed. Numbers like 6.7 are its
 //! clauses.
 //!
-//! Data goes one way: bytes to a task (`record`), a task to runs (`forward`, `judge`), a forward run
+//! Data goes one way: bytes to a task (`record`), a task to runs (`forward`, `judge`, `newest`), a forward run
 //! to a relaxed plan, and that to a repaired plan (`painting`, `paths`, `repair`). `entry` holds the
 //! entry points with their checks in order and what every lent entry holds afterwards. `state` has
 //! runs as they are worded, for tests; `search` goes through all red-black states of small tasks.
@@ -15,6 +15,7 @@ mod image;
 mod index;
 mod judge;
 pub mod listing;
+mod newest;
 pub mod painting;
 mod paths;
 pub mod record;
@@ -29,7 +30,7 @@ pub mod sheet;
 pub mod state;
 pub mod task;
 
-pub use entry::{forward, judge, plan, relax, repair};
+pub use entry::{forward, judge, newest, plan, relax, repair};
 pub use refusal::Refusal;
 pub use sheet::{read as read_sheet, write as write_sheet};
 pub use task::{Fact, Task, Variable};

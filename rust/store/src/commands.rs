@@ -31,13 +31,15 @@ struct Command {
 const DRAWING: &[&str] = &["--dot", "--plain"];
 
 #[rustfmt::skip]
-const COMMANDS: [Command; 11] = [
+const COMMANDS: [Command; 12] = [
     Command { name: "record", takes: "FILE [OUT] [--names]", counts: (1, 2), flags: &["--names"],
         what: "the record; with --names its names beside it, in OUT.names", run: tasks::record },
     Command { name: "text", takes: "FILE [OUT]", counts: (1, 2), flags: &[],
         what: "the store as text, templates written out", run: tasks::as_text },
     Command { name: "plan", takes: "FILE [LIST]", counts: (1, 2), flags: &[],
         what: "a plan with names, or a list of actions and whether it is a plan", run: tasks::plan },
+    Command { name: "newest", takes: "FILE [LIST]", counts: (1, 2), flags: &[],
+        what: "the value that each variable was set to last, by a plan or a list of actions", run: tasks::newest },
     Command { name: "repair", takes: "FILE LIST", counts: (2, 2), flags: &[],
         what: "the repair of a relaxed plan", run: tasks::repair },
     Command { name: "sheet", takes: "FILE [OUT]", counts: (1, 2), flags: &[],
@@ -111,6 +113,14 @@ impl Call<'_> {
         let shown = shown.map_err(|refusal| refused(store, refusal))?;
         self.files.print(shown.text.as_bytes())?;
         shown.fault.map_or(Ok(()), |fault| Err(Failure::No(fault)))
+    }
+
+    /// The list in the file behind the store's, or the library's plan where none is named.
+    pub fn plan(&mut self, store: &Store) -> Result<Plan, Failure> {
+        match self.arguments.len() {
+            1 => Plan::find(store).map_err(|refusal| refused(store, refusal)),
+            _ => self.list(1, store),
+        }
     }
 
     /// The list in a file.

@@ -1,6 +1,6 @@
 //! The proved library. Every call of it stands here; refusals become those of clause 9.5.
 
-use mardiskos::{Judgement, Plan};
+use mardiskos::{Judgement, Newest, Plan};
 use reference::Refusal;
 
 pub use mardiskos::{Run, Sheet};
@@ -29,6 +29,11 @@ pub fn relax(record: &[u8]) -> Result<Vec<u16>, Refusal> {
 
 pub fn judge(record: &[u8], list: &[u16]) -> Result<Judgement, Refusal> {
     mardiskos::judge(record, list).map_err(refused)
+}
+
+/// The newest values of a list.
+pub fn newest(record: &[u8], list: &[u16]) -> Result<Newest, Refusal> {
+    mardiskos::newest(record, list).map_err(refused)
 }
 
 pub fn write_sheet(sheet: &Sheet) -> Result<Vec<u8>, Refusal> {

@@ -3,7 +3,6 @@
 use crate::commands::{refused, Call, Outcome};
 use crate::outcome::{complain, Failure};
 use crate::picture::{causal, chart, dot, graphviz, values, Picture};
-use crate::plan::Plan;
 use crate::show;
 
 pub fn graph(call: &mut Call) -> Outcome {
@@ -37,10 +36,7 @@ fn draw(call: &Call, out: usize, picture: Picture) -> Outcome {
 
 pub fn chart(call: &mut Call) -> Outcome {
     let store = call.store(0)?;
-    let plan = match call.arguments.len() {
-        1 => Plan::find(&store).map_err(|refusal| refused(&store, refusal))?,
-        _ => call.list(1, &store)?,
-    };
+    let plan = call.plan(&store)?;
     let shown = show::plan(&store, &plan).map_err(|refusal| refused(&store, refusal))?;
     call.put(2, chart::chart(&store, &plan).as_bytes())?;
     shown.fault.map_or(Ok(()), |fault| Err(Failure::No(fault)))

@@ -1,10 +1,10 @@
-//! Plans and sheets in words.
+//! Plans, sheets and newest values in words.
 
 use mardiskos::Judgement;
 use reference::state::{Semantics, State};
 use reference::{Fact, Refusal};
 
-use crate::library::{judge, Sheet};
+use crate::library::{self, judge, Sheet};
 use crate::plan::Plan;
 use crate::store::Store;
 
@@ -34,6 +34,23 @@ fn red_black_fault(store: &Store, plan: &Plan, judged: &Judgement) -> Option<Str
     let semantics = Semantics::red_black(&store.task());
     let trouble = || trouble(store, &plan.steps, &semantics);
     (!judged.red_black.is_plan).then(|| format!("not a red-black plan: {}", trouble()))
+}
+
+/// The newest value of each variable behind a line of how far the list runs, and what stops it.
+pub fn newest(store: &Store, list: &[u16]) -> Result<String, Refusal> {
+    let found = library::newest(&store.record(), list)?;
+    let (count, run) = (steps(list.len()), run(found.steps));
+    let mut text = format!("{count}: {} {run} red-black, {} for real\n", found.steps, found.runs);
+    for (variable, &value) in found.values.iter().enumerate() {
+        text += &format!("{}\n", store.fact(Fact::new(variable, value.into())));
+    }
+    let red_black = Semantics::red_black(&store.task());
+    for (name, semantics) in [("red-black", red_black), ("real", Semantics::real())] {
+        if let Err(step) = last_state(store, list, &semantics) {
+            text += &format!("{name} run: {step}\n");
+        }
+    }
+    Ok(text)
 }
 
 /// A sheet without a store: the numbers of its steps.
@@ -119,24 +136,41 @@ pub fn counted(count: usize, word: &str) -> String {
 }
 
 fn running(count: usize) -> String {
-    format!("{} {}", steps(count), if count == 1 { "runs" } else { "run" })
+    format!("{} {}", steps(count), run(count))
+}
+
+fn run(count: usize) -> &'static str {
+    if count == 1 {
+        "runs"
+    } else {
+        "run"
+    }
 }
 
 /// Why a list is not a plan under a semantics.
 pub fn trouble(store: &Store, list: &[u16], semantics: &Semantics) -> String {
+    let goal_missed = |state: State| {
+        let missing = unmet(&state, &store.goals().collect::<Vec<_>>());
+        format!("goal missed: {}", store.facts(&missing))
+    };
+    last_state(store, list, semantics).map_or_else(|step| step, goal_missed)
+}
+
+/// The state at the end of a list, or its first step that does not apply.
+fn last_state(store: &Store, list: &[u16], semantics: &Semantics) -> Result<State, String> {
     let task = store.task();
     let mut state = State::initial(&task);
-    let unmet = |state: &State, facts: &[Fact]| -> Vec<Fact> {
-        facts.iter().copied().filter(|&fact| !state.holds(fact)).collect()
-    };
     for (step, &number) in list.iter().enumerate() {
         let missing = unmet(&state, &store.actions[number as usize].needs);
         if !missing.is_empty() {
             let name = &store.actions[number as usize].name;
-            return format!("step {step}, {name}, needs {}", store.facts(&missing));
+            return Err(format!("step {step}, {name}, needs {}", store.facts(&missing)));
         }
         state.apply(task.action(number as usize), semantics);
     }
-    let missing = unmet(&state, &store.goals().collect::<Vec<_>>());
-    format!("goal missed: {}", store.facts(&missing))
+    Ok(state)
+}
+
+fn unmet(state: &State, facts: &[Fact]) -> Vec<Fact> {
+    facts.iter().copied().filter(|&fact| !state.holds(fact)).collect()
 }

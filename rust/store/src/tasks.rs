@@ -28,11 +28,17 @@ pub fn as_text(call: &mut Call) -> Outcome {
 
 pub fn plan(call: &mut Call) -> Outcome {
     let store = call.store(0)?;
-    let plan = match call.arguments.len() {
-        1 => Plan::find(&store).map_err(|refusal| refused(&store, refusal))?,
-        _ => call.list(1, &store)?,
-    };
+    let plan = call.plan(&store)?;
     call.show(&store, show::plan(&store, &plan))
+}
+
+pub fn newest(call: &mut Call) -> Outcome {
+    let store = call.store(0)?;
+    let list = call.plan(&store)?.steps;
+    let text = show::newest(&store, &list).map_err(|refusal| {
+        Failure::Refused(refusal, explain::in_words(&store, refusal, Some(&list)))
+    })?;
+    call.files.print(text.as_bytes())
 }
 
 pub fn repair(call: &mut Call) -> Outcome {
@@ -83,7 +89,7 @@ pub fn explain(call: &mut Call) -> Outcome {
         Some(_) => {
             let store = call.store(2)?;
             let list = call.arguments.get(3).is_some().then(|| call.list(3, &store)).transpose()?;
-            explain::in_words(&store, refusal, list.as_ref().map(|plan| plan.steps.as_slice()))
+            explain::of_any_call(&store, refusal, list.as_ref().map(|plan| plan.steps.as_slice()))
         }
     };
     call.files.print(format!("{words}\n").as_bytes())

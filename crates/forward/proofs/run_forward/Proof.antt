@@ -17,7 +17,7 @@ run-on-requires c κs =
     let at-settle-each = c .before .before .before .before in
     let at-initial = at-settle-each .before .before .before .before .before in
     let p = at-initial .before .before .before .pre in
-    looping-start (p .0) (at-initial .before .load .ensures) (search needs) (p .1) (p .2) (at-initial .initial .ensures) (at-settle-each .settle-each .ensures)
+    looping-start (p .0) (at-initial .before .load .ensures) (search needs) (p .1) (p .2) (at-initial .initial .ensures .0) (at-settle-each .settle-each .ensures)
 
 returns : tie.Need-returns
 returns c = search needs

@@ -122,7 +122,7 @@ wake-requires c κs =
     let W = at-lowest .lowest .ensures in (
       I .loaded,
       chosen-below I U o W (omega arith),
-      take-sites I U o W (omega arith) (at-unmark .unmark .ensures) (step-to-note at-step .note .ensures .noted) (fresh (at-step .before)) _ (at-step .step .ensures),
+      take-sites I U o W (omega arith) (at-unmark .unmark .ensures) (step-to-note at-step .note .ensures .noted) (fresh (at-step .before)) _ (at-step .step .ensures .0),
     )
 
 loop-less : tie.Need-loop-less Inv-loop μ-loop
@@ -132,7 +132,7 @@ loop-less c =
     let at-lowest = unmark-to-lowest at-unmark in
     let at-unmet = lowest-to-unmet at-lowest in
     take-less (unmet-to-head at-unmet .loop .inv) (at-unmet .unmet .ensures) (at-lowest .before .before .if1 .left) (at-lowest .lowest .ensures) (omega arith)
-    (at-unmark .unmark .ensures) (step-to-note at-step .note .ensures .noted) (fresh (at-step .before)) _ (at-step .step .ensures) (c .wake .ensures)
+    (at-unmark .unmark .ensures) (step-to-note at-step .note .ensures .noted) (fresh (at-step .before)) _ (at-step .step .ensures .0) (c .wake .ensures)
 
 loop-again : tie.Need-loop-again Inv-loop μ-loop
 loop-again c =
@@ -141,7 +141,7 @@ loop-again c =
     let at-lowest = unmark-to-lowest at-unmark in
     let at-unmet = lowest-to-unmet at-lowest in
     looping-take (unmet-to-head at-unmet .loop .inv) (at-unmet .unmet .ensures) (at-lowest .before .before .if1 .left) (at-lowest .lowest .ensures) (omega arith)
-    (at-unmark .unmark .ensures) (step-to-note at-step .note .ensures .noted) (fresh (at-step .before)) _ (at-step .step .ensures) (c .wake .ensures)
+    (at-unmark .unmark .ensures) (step-to-note at-step .note .ensures .noted) (fresh (at-step .before)) _ (at-step .step .ensures .0) (c .wake .ensures)
 
 loop-less-2 : tie.Need-loop-less-2 Inv-loop μ-loop
 loop-less-2 c =

@@ -26,11 +26,11 @@ leading-requires c κs = search needs
 ensured : (c : tie.After-leading) → c .leading .result ≡ leading (actions (taskIn (c .before .before .before .before .before .args .task .now))) (c .before .before .before .before .before .args .list .now)
 ensured c = c .leading .ensures .0 ∙ ap (λ (n : ℕ). leading n (c .before .before .before .before .before .args .list .now)) (c .before .actions .ensures)
 
-slice-aggregate-judge-one : tie.Need-slice-aggregate-judge-one
-slice-aggregate-judge-one c = sym (length-take-le _ _ (c .before .leading .ensures .1))
+slice-aggregate-judge-relaxed : tie.Need-slice-aggregate-judge-relaxed
+slice-aggregate-judge-relaxed c = sym (length-take-le _ _ (c .before .leading .ensures .1))
 
-judge-one-requires : tie.Need-judge-one-requires
-judge-one-requires c κs =
+judge-relaxed-requires : tie.Need-judge-relaxed-requires
+judge-relaxed-requires c κs =
     let a = c .before .before .before .before .before .before .args in
     let n = c .before .leading .result in
     let l = a .list .now in (
@@ -48,12 +48,12 @@ cast-t13 c = search needs
 returns-2 : tie.Need-returns-2
 returns-2 c =
     let a = c .before .before .before .before .before .before .before .before .before .args in
-    relaxed-passed (taskIn (a .task .now)) (a .list .now) (c .before .before .before .before .leading .result) (ensured (c .before .before .before .before)) (omega arith) (c .before .before .before .before .leading .ensures .1) _ (c .before .before .judge-one .ensures) (c .before .if2 .taken) (c .if3 .taken)
+    relaxed-passed (taskIn (a .task .now)) (a .list .now) (c .before .before .before .before .leading .result) (ensured (c .before .before .before .before)) (omega arith) (c .before .before .before .before .leading .ensures .1) _ (c .before .before .judge-relaxed .ensures) (c .before .if2 .taken) (c .if3 .taken)
 
 returns-3 : tie.Need-returns-3
 returns-3 c =
     let a = c .before .before .before .before .before .before .before .before .args in
-    relaxed-refused (taskIn (a .task .now)) (a .list .now) (c .before .before .before .leading .result) (ensured (c .before .before .before)) (omega arith) (c .before .before .before .leading .ensures .1) _ (c .before .judge-one .ensures) (elim (c .if2 .came) [ inl q ↦ inl (q .1 .left) | inr q ↦ inr (q .left) ])
+    relaxed-refused (taskIn (a .task .now)) (a .list .now) (c .before .before .before .leading .result) (ensured (c .before .before .before)) (omega arith) (c .before .before .before .leading .ensures .1) _ (c .before .judge-relaxed .ensures) (elim (c .if2 .came) [ inl q ↦ inl (q .1 .left) | inr q ↦ inr (q .left) ])
 
 pub check-relaxed-spec : {M : Type 1} → statement M
 check-relaxed-spec =
@@ -62,8 +62,8 @@ check-relaxed-spec =
     returns
     actions-requires
     leading-requires
-    slice-aggregate-judge-one
-    judge-one-requires
+    slice-aggregate-judge-relaxed
+    judge-relaxed-requires
     cast-t13
     returns-2
     returns-3)

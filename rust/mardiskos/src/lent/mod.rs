@@ -25,5 +25,6 @@ mod sheet;
 
 pub use check::check;
 pub use plan::{plan, repair, PlanResult};
-pub use runs::{forward, judge, relax, ForwardRun, Judgement, RelaxedPlan};
+pub use runs::{forward, judge, newest, relax};
+pub use runs::{ForwardRun, Judgement, NewestValues, RelaxedPlan};
 pub use sheet::{read_sheet, write_sheet, Sheet, SheetSize};

@@ -28,6 +28,16 @@ pub fn in_words(store: &Store, refusal: Refusal, list: Option<&[u16]>) -> String
     words.unwrap_or_else(|| in_general(refusal))
 }
 
+/// The same where it is not known which call refused: 11 may be that of newest values.
+pub fn of_any_call(store: &Store, refusal: Refusal, list: Option<&[u16]>) -> String {
+    let words = in_words(store, refusal, list);
+    let (variables, place) = (store.variables.len(), refusal.place as usize);
+    if refusal.number != 11 || place >= variables {
+        return words;
+    }
+    format!("{words}; newest values need as many entries as there are variables, {variables}")
+}
+
 /// What a refusal means where nothing is known but its number and place.
 pub fn in_general(refusal: Refusal) -> String {
     let place = refusal.place;
@@ -52,7 +62,7 @@ pub fn in_general(refusal: Refusal) -> String {
              if the list ends there, a goal is missed"
         ),
         10 => format!("no plan: {place} facts are reached, and not all goals are among them"),
-        11 => format!("there is room for {place} (steps, or bytes of a sheet), and the result is longer"),
+        11 => format!("there is room for {place} (steps, values, or bytes of a sheet), and the result is longer"),
         12 => format!(
             "the sheet is faulty at bit {place}: cut short, not of edition 1, too many steps, or more \
              behind its last step"

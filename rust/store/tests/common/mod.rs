@@ -9,7 +9,7 @@ use std::sync::atomic::{AtomicUsize, Ordering};
 use reference::{Fact, Task, Variable};
 use store::{parse, Store};
 
-pub const EXAMPLES: [&str; 10] = [
+pub const EXAMPLES: [&str; 11] = [
     "two-shelves",
     "two-shelves-without-1",
     "two-shelves-without-2",
@@ -20,6 +20,7 @@ pub const EXAMPLES: [&str; 10] = [
     "tray",
     "door",
     "lit-return",
+    "newest",
 ];
 
 pub fn path(name: &str, extension: &str) -> PathBuf {

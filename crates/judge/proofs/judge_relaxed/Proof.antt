@@ -6,18 +6,19 @@ use native.Mathlib.Omega.{arith}
 use lib.ListN.{length, getD}
 use borrow.Author.Tests.{not-true, not-false}
 use mathlib.Core.Logic.{⊎-elim}
-use Rattle.planning.specs.Runs.{act, actions, holds}
-use Rattle.state.specs.Sets.{setsOf, modeOf}
+use Rattle.planning.specs.Runs.{act, actions, holds, relaxed}
+use Rattle.judge.proofs.Modes.{step-relaxed}
+use Rattle.state.specs.Sets.{setsOf}
 use Rattle.task.specs.Task.{taskIn}
 use Rattle.judge.proofs.Going.{Going, going-start, going-turn, going-known, going-stop, going-end}
-use Rattle.judge.proofs.judge_one.Statement.{statement}
-use Rattle.judge.proofs.judge_one.Tie as tie
+use Rattle.judge.proofs.judge_relaxed.Statement.{statement}
+use Rattle.judge.proofs.judge_relaxed.Tie as tie
 
 abbrev Inv-loop : tie.InvT-loop
-Inv-loop task list mode known s₀ k₀ s k = Going (taskIn task) (modeOf mode) list (setsOf (s .sets)) k
+Inv-loop task list known s₀ k₀ s k = Going (taskIn task) relaxed list (setsOf (s .sets)) k
 
 abbrev μ-loop : tie.MeasureT-loop
-μ-loop task list mode known s₀ k₀ s k = length list - k
+μ-loop task list known s₀ k₀ s k = length list - k
 
 module _ (c : tie.In-loop Inv-loop μ-loop) where
   abbrev entry : ℕ
@@ -30,7 +31,7 @@ initial-requires : tie.Need-initial-requires Inv-loop μ-loop
 initial-requires c κs = search needs
 
 loop-holds : tie.Need-loop-holds Inv-loop μ-loop
-loop-holds c = going-start _ _ _ _ (c .initial .ensures)
+loop-holds c = going-start _ _ _ _ (c .initial .ensures .0)
 
 mul-i : tie.Need-mul-i Inv-loop μ-loop
 mul-i c = search needs
@@ -63,7 +64,7 @@ loop-again : tie.Need-loop-again Inv-loop μ-loop
 loop-again c =
     let applied : holds (setsOf (c .before .before .before .before .loop .s .sets)) (act (taskIn (c .before .before .before .before .before .before .before .before .args .task .now)) (entry (c .before .before .before)) .pre) ≡ true =
     ⊎-elim (λ w. sym (w .3 .ensures) ∙ not-false _ (w .4 .left)) (λ w. going-known _ _ _ _ _ (c .before .before .before .before .loop .inv) (omega arith) _ refl (omega (arith, w .left, c .before .before .before .before .before .before .before .before .pre .1))) (c .before .if1 .came) in
-    going-turn _ _ _ _ _ (c .before .before .before .before .loop .inv) _ _ _ (omega arith) refl refl applied (c .step .ensures)
+    going-turn _ _ _ _ _ (c .before .before .before .before .loop .inv) _ _ _ (omega arith) refl refl applied (step-relaxed _ _ _ (c .step .ensures .0))
 
 load-requires : tie.Need-load-requires Inv-loop μ-loop
 load-requires c κs = search needs
@@ -77,8 +78,8 @@ all-hold-requires c κs = let G = c .before .before .before .before .before .loa
 returns-2 : tie.Need-returns-2 Inv-loop μ-loop
 returns-2 c = going-end _ _ _ _ _ (c .before .before .before .before .before .before .before .before .loop .inv) (omega arith) (c .before .before .before .before .before .before .before .before .before .before .before .before .pre .0 .entries) _ (c .all-hold .ensures ∙ ap (holds _) (c .before .before .before .before .before .before .load .ensures .are))
 
-pub judge-one-spec : {M : Type 1} → statement M
-judge-one-spec =
+pub judge-relaxed-spec : {M : Type 1} → statement M
+judge-relaxed-spec =
     tie.close
     (tie.spec
     Inv-loop
