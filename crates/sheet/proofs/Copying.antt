@@ -90,12 +90,6 @@ five-stored s d p i w e h =
     rw (p2, p3, p4, ← f0, ← bitsAt-cut s p 10 10 30, ← bitsAt-cut s p 20 10 20, ← bitsAt-cut s p 30 10 10, ← f4, ← e, i1, i2, i3, i4)
     (sets-eq (w / 2 ^ 40 % 1024 ∷ w / 2 ^ 30 % 1024 ∷ w / 2 ^ 20 % 1024 ∷ w / 2 ^ 10 % 1024 ∷ w % 1024 ∷ []) d i h)
 
--- four numbers of 16 bits in one, cut out again
-pub spread-cut : (x y z u : ℕ) → x < 1024 → y < 1024 → z < 1024 → u < 1024
-    → ((x + y * 65536 + z * 4294967296 + u * 281474976710656) % 65536 ≡ x) × ((x + y * 65536 + z * 4294967296 + u * 281474976710656) / 65536 % 65536 ≡ y)
-    × ((x + y * 65536 + z * 4294967296 + u * 281474976710656) / 4294967296 % 65536 ≡ z) × ((x + y * 65536 + z * 4294967296 + u * 281474976710656) / 281474976710656 ≡ u)
-spread-cut x y z u hx hy hz hu = (omega arith, omega arith, omega arith, omega arith)
-
 -- the same, the first four by other names
 pub four-and-one : (s d : List ℕ) (p i w x y z u : ℕ) → w ≡ bitsAt s p 50 → i + 5 ≤ length d
     → x ≡ w / 1099511627776 % 1024 → y ≡ w / 1073741824 % 1024 → z ≡ w / 1048576 % 1024 → u ≡ w / 1024 % 1024

@@ -7,7 +7,7 @@ ghost use mathlib.Core.Bool.{Bool};
 ghost use mathlib.Core.List.{_++_};
 ghost use mathlib.Core.Option.{none};
 ghost use Prim.Native.Nat.{ℕ, _+_, _-_, _*_, _/_, _%_, _<_, _≤_};
-ghost use lib.ListN.{length, take, drop, getD, set};
+ghost use lib.ListN.{length, take, drop, getD};
 ghost use Rattle.planning.specs.Basics.{bitsAt, oneIf, done, answer, refuseAt};
 ghost use Rattle.planning.specs.Record.{endsAt};
 ghost use Rattle.planning.specs.Sheet.{bitsOf, packed, stepBits, sheetSize, sheetCheck, stepsAt, stepsIn};
@@ -298,24 +298,13 @@ fn spread(word: u64) -> u64
         + (word >> 10) % 1024 * 281474976710656
 }
 
-// Four entries out of one number, the first one lowest: a function of its own, so that the compiler makes one store of it.
-fn put_four(list: &mut [u16], i: usize, four: u64)
-    requires { ⌜ i + 4 ≤ length (now list) ⌝ }
-    ensures { λ _. ⌜ now (list .exit) ≡ set (set (set (set (now (list .entry)) i (four % 65536)) (i + 1) (four / 65536 % 65536)) (i + 2) (four / 4294967296 % 65536)) (i + 3) (four / 281474976710656) ⌝ }
-{
-    list[i] = (four % 65536) as u16;
-    list[i + 1] = ((four >> 16) % 65536) as u16;
-    list[i + 2] = ((four >> 32) % 65536) as u16;
-    list[i + 3] = (four >> 48) as u16;
-}
-
 // Five steps out of one window, written from i on.
 fn read_five(bytes: &[u8], list: &mut [u16], i: usize)
     requires { ⌜ (10 * i + 117 ≤ 8 * length (now bytes)) × (i ≤ 32768) × (i + 5 ≤ length (now list)) ⌝ }
     ensures { λ _. ⌜ now (list .exit) ≡ take i (now (list .entry)) ++ stepsAt (now (bytes .entry)) (53 + 10 * i) 5 ++ drop (i + 5) (now (list .entry)) ⌝ }
 {
     let word = five_steps(bytes, 53 + 10 * i);
-    put_four(list, i, spread(word));
+    lists::put_four(list, i, spread(word));
     list[i + 4] = (word % 1024) as u16;
 }
 

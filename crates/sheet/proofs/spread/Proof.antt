@@ -2,7 +2,7 @@
 use Prim.Native.Nat.{_/_, _%_}
 use native.Mathlib.Omega.{arith}
 use borrow.Author.Needs.{needs}
-use Rattle.sheet.proofs.Copying.{spread-cut}
+use Rattle.lists.proofs.Four.{spread-cut}
 use Rattle.sheet.proofs.spread.Statement.{statement}
 use Rattle.sheet.proofs.spread.Tie as tie
 

@@ -2,8 +2,8 @@
 use native.Mathlib.Omega.{arith}
 use borrow.Author.Needs.{needs}
 use lib.ListN.{length-set}
-use Rattle.sheet.proofs.put_four.Statement.{statement}
-use Rattle.sheet.proofs.put_four.Tie as tie
+use Rattle.lists.proofs.put_four.Statement.{statement}
+use Rattle.lists.proofs.put_four.Tie as tie
 
 cast-list : tie.Need-cast-list
 cast-list c = search needs
