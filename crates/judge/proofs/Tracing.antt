@@ -15,7 +15,7 @@ use lib.ListN.{length, getD, take, drop, take-append-drop}
 use lib.Seq.{drop-cons, take-suc, length-take-le, take-all}
 use Rattle.planning.specs.Record.{Fact, Task}
 use Rattle.planning.specs.Runs.{State, Mode, has, holds, step, variables, actions, act, count, relaxed, real, black, initial, goals, run, stepsRun, judged, runBy, stepsBy}
-use Rattle.planning.specs.Newest.{Values, initialValues, newer, tracked, alone, stepsPainted, stopsIn}
+use Rattle.planning.specs.Newest.{Values, initialValues, newer, tracked, alone, redBlackSteps, stopsIn}
 use Rattle.planning.proofs.Tests.{T→true, true→T}
 use Rattle.planning.proofs.Facts.{_⊆_, holds→sub, sub→holds}
 use Rattle.planning.proofs.Formed.{Formed, sorted-has, goals-sorted}
@@ -107,7 +107,8 @@ module _ (t : Task) (l : List ℕ) where
         go (yes e) true q = omega (arith, further-yes k runs e, stepsBy-on (λ i s. holds s (act t i .pre)) (λ i. step real (act t i)) front i [] (initial t) (all e) (sym is-real ∙ q), long)
         go (yes e) false q = omega (arith, further-false k runs, stepsBy-fails (λ i s. holds s (act t i .pre)) (λ i. step real (act t i)) front i [] (initial t) (all e) (sym is-real ∙ q), long)
         go (no e) b q =
-            omega (arith, further-not b k runs e, p .run-real, stepsBy-stopped (λ i s. holds s (act t i .pre)) (λ i. step real (act t i)) front (i ∷ []) (initial t) (omega (arith, p .run-real, long, stepsBy-le (λ i s. holds s (act t i .pre)) (λ i. step real (act t i)) front (initial t), e)))
+            omega (arith, further-not b k runs e, p .run-real, stepsBy-stopped (λ i s. holds s (act t i .pre)) (λ i. step real (act t i)) front (i ∷ [])
+                (initial t) (omega (arith, p .run-real, long, stepsBy-le (λ i s. holds s (act t i .pre)) (λ i. step real (act t i)) front (initial t), e)))
 
     -- what is counted applies red-black
     pub applied : (r : ℕ) → r ≡ further (holds (alone f) (act t i .pre)) k runs → k < r → holds s (act t i .pre) ≡ true
@@ -128,7 +129,8 @@ module _ (t : Task) (l : List ℕ) where
       within = omega arith;
       painted =
           rw one-more
-          (omega (arith, long, stepsBy-on (λ i s. holds s (act t i .pre)) (λ i. step (black t) (act t i)) front i [] (initial t) (p .painted ∙ sym long) (ap (λ (u : State). holds u (act t i .pre)) (sym (p .sets)) ∙ ha)));
+          (omega (arith, long, stepsBy-on (λ i s. holds s (act t i .pre)) (λ i. step (black t) (act t i)) front i [] (initial t) (p .painted ∙ sym long)
+              (ap (λ (u : State). holds u (act t i .pre)) (sym (p .sets)) ∙ ha)));
       sets = rw (one-more, runBy-append (λ i s. true) (λ i. step (black t) (act t i)) front (i ∷ []) (initial t), ← p .sets) es;
       newest = rw (one-more, runBy-append (λ i s. true) (λ i. newer (act t i)) front (i ∷ []) (initialValues t), ← p .newest) ef;
       run-real = rw one-more (er ∙ counted);
@@ -136,10 +138,11 @@ module _ (t : Task) (l : List ℕ) where
 
     -- it stops before step k
     pub tracing-stop : (r : ℕ) → r ≡ further (holds (alone f) (act t i .pre)) k runs → r ≤ k → holds s (act t i .pre) ≡ false
-        → (k ≡ stepsPainted t l) × (r ≡ stepsRun (act t) real l (initial t))
-    unfolding stepsPainted
+        → (k ≡ redBlackSteps t l) × (r ≡ stepsRun (act t) real l (initial t))
+    unfolding redBlackSteps
     tracing-stop r er q ha =
-        let a = stepsBy-fails (λ i s. holds s (act t i .pre)) (λ i. step (black t) (act t i)) front i (drop (suc k) l) (initial t) (p .painted ∙ sym long) (ap (λ (u : State). holds u (act t i .pre)) (sym (p .sets)) ∙ ha) in
+        let a = stepsBy-fails (λ i s. holds s (act t i .pre)) (λ i. step (black t) (act t i)) front i (drop (suc k) l) (initial t) (p .painted ∙ sym long)
+            (ap (λ (u : State). holds u (act t i .pre)) (sym (p .sets)) ∙ ha) in
         let b : stepsRun (act t) (black t) l (initial t) ≡ k = rw split at (a ∙ long) in
         (sym b, go (ℕ-discrete runs k))
       where
@@ -163,23 +166,23 @@ module _ (t : Task) (l : List ℕ) where
 
   -- the pass went through the whole list
   module _ (s : State) (f : Values) (k r : ℕ) (p : Tracing s f k r) where
-    pub tracing-end : length l ≤ k → (k ≡ stepsPainted t l) × (r ≡ stepsRun (act t) real l (initial t))
-    unfolding stepsPainted
+    pub tracing-end : length l ≤ k → (k ≡ redBlackSteps t l) × (r ≡ stepsRun (act t) real l (initial t))
+    unfolding redBlackSteps
     tracing-end h =
         let e = take-all k l h in
         (sym (rw e at (p .painted)), rw e at (p .run-real))
 
     -- what the pass tells, once it has stopped at k
-    pub traced-sets : k ≡ stepsPainted t l → s ≡ stopsIn t l .sets
+    pub traced-sets : k ≡ redBlackSteps t l → s ≡ stopsIn t l .sets
     unfolding stopsIn tracked
-    traced-sets e = p .sets ∙ sym (track-sets (act t) (black t) (take (stepsPainted t l) l) (tracked t) ∙ rw (← e) refl)
+    traced-sets e = p .sets ∙ sym (track-sets (act t) (black t) (take (redBlackSteps t l) l) (tracked t) ∙ rw (← e) refl)
 
-    pub traced-newest : k ≡ stepsPainted t l → f ≡ stopsIn t l .newest
+    pub traced-newest : k ≡ redBlackSteps t l → f ≡ stopsIn t l .newest
     unfolding stopsIn tracked
-    traced-newest e = p .newest ∙ sym (track-newest (act t) (black t) (take (stepsPainted t l) l) (tracked t) ∙ rw (← e) refl)
+    traced-newest e = p .newest ∙ sym (track-newest (act t) (black t) (take (redBlackSteps t l) l) (tracked t) ∙ rw (← e) refl)
 
 pub stops-few : (t : Task) (l : List ℕ) (s : State) (n : ℕ) → StopsAs t l s n → n ≤ length l
-unfolding stepsPainted
+unfolding redBlackSteps
 stops-few t l s n p = omega (arith, p .steps, stepsBy-le (λ i s. holds s (act t i .pre)) (λ i. step (black t) (act t i)) l (initial t))
 
 pub runs-few : (t : Task) (l : List ℕ) (f : Values) (n : ℕ) → RunsAs t l f n → n ≤ length l
@@ -188,28 +191,30 @@ runs-few t l f n p = omega (arith, p .runs, stepsBy-le (λ i s. holds s (act t i
 -- the verdicts where the pass went through the whole list
 module _ (t : Task) (F : Formed t) (l : List ℕ) (below : (j : ℕ) → j < length l → getD l j 0 < actions t) where
   pub painted-short : (s : State) (n : ℕ) → StopsAs t l s n → n < length l → record { steps = n; plan = false } ≡ judged t (black t) l
-  unfolding stepsPainted
+  unfolding redBlackSteps
   painted-short s n p h = judged-of t (black t) l below n (p .steps) false (λ e. absurd (omega arith)) (λ e. refl)
 
   pub painted-whole : (s : State) (n : ℕ) → StopsAs t l s n → length l ≤ n → (b : Bool) → b ≡ holds s (goals t) → record { steps = n; plan = b } ≡ judged t (black t) l
-  unfolding stepsPainted stopsIn tracked
+  unfolding redBlackSteps stopsIn tracked
   painted-whole s n p h b eb =
-      let e : take (stepsPainted t l) l ≡ l = take-all (stepsPainted t l) l (omega (arith, p .steps)) in
-      let q : s ≡ run (act t) (black t) l (initial t) = p .sets ∙ track-sets (act t) (black t) (take (stepsPainted t l) l) (tracked t) ∙ rw e refl in
-      judged-of t (black t) l below n (p .steps) b (λ x. eb ∙ rw q refl) (λ x. absurd (x (omega (arith, p .steps, stepsBy-le (λ i s. holds s (act t i .pre)) (λ i. step (black t) (act t i)) l (initial t)))))
+      let e : take (redBlackSteps t l) l ≡ l = take-all (redBlackSteps t l) l (omega (arith, p .steps)) in
+      let q : s ≡ run (act t) (black t) l (initial t) = p .sets ∙ track-sets (act t) (black t) (take (redBlackSteps t l) l) (tracked t) ∙ rw e refl in
+      judged-of t (black t) l below n (p .steps) b (λ x. eb ∙ rw q refl)
+          (λ x. absurd (x (omega (arith, p .steps, stepsBy-le (λ i s. holds s (act t i .pre)) (λ i. step (black t) (act t i)) l (initial t)))))
 
   pub real-short : (f : Values) (n : ℕ) → RunsAs t l f n → n < length l → record { steps = n; plan = false } ≡ judged t real l
   real-short f n p h = judged-of t real l below n (p .runs) false (λ e. absurd (omega arith)) (λ e. refl)
 
   pub real-whole : (f : Values) (n : ℕ) → RunsAs t l f n → length l ≤ n → (b : Bool) → b ≡ holds (alone f) (goals t) → record { steps = n; plan = b } ≡ judged t real l
-  unfolding stepsPainted stopsIn tracked
+  unfolding redBlackSteps stopsIn tracked
   real-whole f n p h b eb =
-      let e : take (stepsPainted t l) l ≡ l = take-all (stepsPainted t l) l (omega (arith, p .runs, redBlack-further t l)) in
-      let q : f ≡ latest t l = p .newest ∙ track-newest (act t) (black t) (take (stepsPainted t l) l) (tracked t) ∙ rw e refl in
-      let g : holds (alone f) (goals t) ≡ holds (run (act t) real l (initial t)) (goals t) = rw q (sym (real-holds t F l (goals t) (λ v d x. sorted-has (variables t) (count t) 0 (goals t) (goals-sorted t F) v d x .var-below))) in
+      let e : take (redBlackSteps t l) l ≡ l = take-all (redBlackSteps t l) l (omega (arith, p .runs, redBlack-further t l)) in
+      let q : f ≡ latest t l = p .newest ∙ track-newest (act t) (black t) (take (redBlackSteps t l) l) (tracked t) ∙ rw e refl in
+      let g : holds (alone f) (goals t) ≡ holds (run (act t) real l (initial t)) (goals t) = rw q
+          (sym (real-holds t F l (goals t) (λ v d x. sorted-has (variables t) (count t) 0 (goals t) (goals-sorted t F) v d x .var-below))) in
       judged-of t real l below n (p .runs) b (λ x. eb ∙ g) (λ x. absurd (x (omega (arith, p .runs, stepsBy-le (λ i s. holds s (act t i .pre)) (λ i. step real (act t i)) l (initial t)))))
 
 -- the steps that run red-black run relaxed
-pub relaxed-known : (t : Task) (l : List ℕ) (n : ℕ) → n ≡ stepsPainted t l → n ≤ stepsRun (act t) relaxed l (initial t)
-unfolding stepsPainted
+pub relaxed-known : (t : Task) (l : List ℕ) (n : ℕ) → n ≡ redBlackSteps t l → n ≤ stepsRun (act t) relaxed l (initial t)
+unfolding redBlackSteps
 relaxed-known t l n e = omega (arith, e, relaxed-further t l)

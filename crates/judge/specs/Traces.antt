@@ -6,25 +6,25 @@ use Prim.Native.Nat.{ℕ, suc}
 use lib.Dec.{eqb}
 use Rattle.planning.specs.Record.{Task}
 use Rattle.planning.specs.Runs.{State, real, act, initial, stepsRun}
-use Rattle.planning.specs.Newest.{Values, stepsPainted, stopsIn}
+use Rattle.planning.specs.Newest.{Values, redBlackSteps, stopsIn}
 use Rattle.state.specs.Sets.{setsOf, valuesOf}
 use Rattle.judge.specs.declared.Trace.{Trace}
 
--- the steps that run for real, n so far, with step k, which applies or not
+-- the steps that run for real, n of the first k, with step k, which applies for real or not
 unfoldable pub further : Bool → ℕ → ℕ → ℕ
 further true k n = elim (eqb n k) [ true ↦ suc n | false ↦ n ]
 further false k n = n
 
 -- 3.13: what a pass over the list l finds
 pub record Traces (t : Task) (l : List ℕ) (x : Trace) : Type 0 where
-  pub painted : x .steps ≡ stepsPainted t l
+  pub painted : x .steps ≡ redBlackSteps t l
   pub run-real : x .runs ≡ stepsRun (act t) real l (initial t)
   pub sets : setsOf (x .state .sets) ≡ stopsIn t l .sets
   pub newest : valuesOf (x .state .newest) ≡ stopsIn t l .newest
 
--- its parts for the two verdicts: the sets where the red-black run stops; the newest values there, where the list runs for real
+-- its parts for the two verdicts: the sets where the red-black run stops; how many steps run for real, and the newest values at that stop
 pub record StopsAs (t : Task) (l : List ℕ) (s : State) (n : ℕ) : Type 0 where
-  pub steps : n ≡ stepsPainted t l
+  pub steps : n ≡ redBlackSteps t l
   pub sets : s ≡ stopsIn t l .sets
 
 pub record RunsAs (t : Task) (l : List ℕ) (f : Values) (n : ℕ) : Type 0 where

@@ -102,7 +102,8 @@ record-numbered : (s : List ℕ) → Numbered (recordCheck s)
 unfolding recordCheck recordChecks
 record-numbered s =
     front-all (recordChecks s)
-    (front-++ (headerChecks s) _ (front-header s) (front-++ (variablesChecks s 22 _) _ (front-variables s 22 _) (front-++ (actionsChecks s _ _) _ (front-actions s _ _) (test _ 6 _ [] (omega arith) (omega arith) front-nil))))
+    (front-++ (headerChecks s) _ (front-header s) (front-++ (variablesChecks s 22 _) _ (front-variables s 22 _)
+        (front-++ (actionsChecks s _ _) _ (front-actions s _ _) (test _ 6 _ [] (omega arith) (omega arith) front-nil))))
 
 painting-numbered : (s : List ℕ) → Numbered (acyclicCheck (taskOf s)) × Numbered (returnCheck (taskOf s))
 unfolding acyclicCheck returnCheck

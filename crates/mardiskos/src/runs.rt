@@ -4,7 +4,7 @@ use crate::code_of;
 use crate::number_code;
 use answers::Number;
 use forward::Found;
-use newest::Traced;
+use newest::Progress;
 ghost use mathlib.Core.Path.{_≡_};
 ghost use lib.ListN.{length};
 ghost use Rattle.planning.specs.Basics.{code};
@@ -77,10 +77,10 @@ pub struct NewestValues {
     pub runs: u32,
 }
 
-fn traced_code(a: Traced) -> u64
+fn progress_code(a: Progress) -> u64
     ensures { λ r. ⌜ r ≡ code (answerOf a) ⌝ }
 {
-    let Traced::Refused(f) = a else {
+    let Progress::Refused(f) = a else {
         return 0;
     };
     code_of(f)
@@ -94,9 +94,9 @@ pub extern "C" fn mardiskos_newest(bytes: &[u8], list: &[u16], values: &mut [u16
     ensures { λ _. ⌜ now (values .exit) ≡ newestList (now (bytes .entry)) (now (list .entry)) (length (now (values .entry))) ⌝ }
 {
     let a = newest::newest(bytes, list, values);
-    let Traced::Run { steps, runs } = a else {
+    let Progress::Run { steps, runs } = a else {
         return NewestValues {
-            code: traced_code(a),
+            code: progress_code(a),
             steps: 0,
             runs: 0,
         };

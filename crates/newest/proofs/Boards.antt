@@ -10,7 +10,7 @@ use lib.Seq.{drop-cons, set-at, take-at}
 use Rattle.planning.specs.Basics.{Check, refuse, andThen, inOrder, Answer, refused, done, answer}
 use Rattle.planning.specs.Record.{Task, taskOf, recordCheck}
 use Rattle.planning.specs.Runs.{real, variables, act, initial, stepsRun}
-use Rattle.planning.specs.Newest.{Values, Traced as Result, traced, tabulate, newestValues, stepsPainted, stopsIn}
+use Rattle.planning.specs.Newest.{Values, Progress as Result, progress, tabulate, newestValues, redBlackSteps, stopsIn}
 use Rattle.planning.specs.Calls.{lengthCheck, entriesCheck, roomCheck, lent, newestCall, newestList}
 use Rattle.planning.proofs.Checks.{inOrder-pass, inOrder-++}
 use Rattle.planning.proofs.Newest.{tabulate-length}
@@ -20,7 +20,7 @@ use Rattle.lists.proofs.Laying.{room-fits, room-short}
 use Rattle.state.specs.Sets.{valuesOf}
 use Rattle.judge.specs.Answers.{listCheck}
 use Rattle.newest.specs.declared.Board.{Board}
-use Rattle.newest.specs.declared.Traced.the-variants.{Run}
+use Rattle.newest.specs.declared.Progress.the-variants.{Run}
 use Rattle.newest.specs.Answers.{answerOf, emptyBy, shownOf, Shows, Tells, Called}
 
 -- one number more in the table
@@ -58,7 +58,7 @@ module _ (t : Task) (l : List ℕ) (room : ℕ) where
   unfolding answer andThen
   list-refused f e =
       let q : asked ≡ refuse (f .number) (f .place) = inOrder-++ (lengthCheck l ∷ entriesCheck t l ∷ []) (roomCheck (variables t) room ∷ []) ∙ rw e refl in
-      empty-shows (answer asked (traced t l)) (newestValues t l) room f (rw q refl)
+      empty-shows (answer asked (progress t l)) (newestValues t l) room f (rw q refl)
 
   module _ (e : listCheck t l ≡ none) where
     rest : asked ≡ inOrder (roomCheck (variables t) room ∷ [])
@@ -68,11 +68,11 @@ module _ (t : Task) (l : List ℕ) (room : ℕ) where
     unfolding answer andThen inOrder
     room-refused n en h =
         let q : asked ≡ refuse 11 room = rest ∙ rw (room-short (variables t) room (omega arith)) refl in
-        empty-shows (answer asked (traced t l)) (newestValues t l) room (record { number = 11; place = room }) (rw q refl)
+        empty-shows (answer asked (progress t l)) (newestValues t l) room (record { number = 11; place = room }) (rw q refl)
 
-    pub values-told : (b : Board) (n k : ℕ) → b .answer ≡ Run n k → b .count ≡ variables t → b .count ≤ 64 → b .count ≤ room → n ≡ stepsPainted t l
+    pub values-told : (b : Board) (n k : ℕ) → b .answer ≡ Run n k → b .count ≡ variables t → b .count ≤ 64 → b .count ≤ room → n ≡ redBlackSteps t l
         → k ≡ stepsRun (act t) real l (initial t) → valuesOf (b .state .newest) ≡ stopsIn t l .newest → Tells t l room b
-    unfolding answer andThen inOrder traced newestValues
+    unfolding answer andThen inOrder progress newestValues
     values-told b n k ea ec h₁ h₂ en ek ef =
         let q : asked ≡ none = rest ∙ rw (room-fits (variables t) room (omega arith)) refl in
         rw q (record { answer′ = rw (ea, en, ek) refl; few = h₁; fits = h₂; front = rw (ec, ef) refl })

@@ -1,4 +1,4 @@
--- 3.13 and 9.5: number, place and values for each case of the answer, and the board that goes with it.
+-- 3.13 and 9.5: number, place and steps for each case of the answer, and the board that goes with it.
 use mathlib.Core.Path.{_≡_}
 use mathlib.Core.List.{List, [], _∷_}
 use Prim.Native.Nat.{ℕ, _≤_}
@@ -6,15 +6,15 @@ use lib.ListN.{length, replicate}
 use Rattle.planning.specs.Basics.{inOrder, Answer, refused, done, answer}
 use Rattle.planning.specs.Record.{Task, taskOf}
 use Rattle.planning.specs.Runs.{variables}
-use Rattle.planning.specs.Newest.{Traced as Result, traced, tabulate, newestValues}
+use Rattle.planning.specs.Newest.{Progress as Result, progress, tabulate, newestValues}
 use Rattle.planning.specs.Calls.{lengthCheck, entriesCheck, roomCheck, newestCall}
 use Rattle.answers.specs.declared.Refusal.{Refusal}
 use Rattle.state.specs.Sets.{valuesOf}
 use Rattle.newest.specs.declared.Board.{Board}
-use Rattle.newest.specs.declared.Traced.{Traced}
-use Rattle.newest.specs.declared.Traced.the-variants.{Run, Refused}
+use Rattle.newest.specs.declared.Progress.{Progress}
+use Rattle.newest.specs.declared.Progress.the-variants.{Run, Refused}
 
-abbrev pub answerOf : Traced → Answer Result
+abbrev pub answerOf : Progress → Answer Result
 answerOf (Run s n) = done (record { steps = s; runs = n })
 answerOf (Refused f) = refused (f .number) (f .place)
 
@@ -37,7 +37,7 @@ pub record Shows (r : Answer Result) (l : List ℕ) (room : ℕ) (b : Board) : T
 -- from the checks of the list on, and from those of the record on
 abbrev pub Tells : Task → List ℕ → ℕ → Board → Type 0
 Tells t l room =
-    Shows (answer (inOrder (lengthCheck l ∷ entriesCheck t l ∷ roomCheck (variables t) room ∷ [])) (traced t l)) (newestValues t l) room
+    Shows (answer (inOrder (lengthCheck l ∷ entriesCheck t l ∷ roomCheck (variables t) room ∷ [])) (progress t l)) (newestValues t l) room
 
 abbrev pub Called : List ℕ → List ℕ → ℕ → Board → Type 0
 Called s l room = Shows (newestCall s l room) (newestValues (taskOf s) l) room

@@ -16,14 +16,14 @@ ghost use Rattle.state.specs.Sets.{valuesOf};
 ghost use Rattle.newest.specs.Answers.{answerOf, emptyBy, Tells, Called};
 
 // How many steps of the list run red-black and for real; or the refusal.
-pub enum Traced {
+pub enum Progress {
     Run { steps: u32, runs: u32 },
     Refused(Refusal),
 }
 
 // The answer, and the state where the run stops, of which `count` variables are shown; after a refusal none.
 pub struct Board {
-    pub answer: Traced,
+    pub answer: Progress,
     pub count: usize,
     pub state: State,
 }
@@ -33,7 +33,7 @@ fn empty(f: Refusal) -> Board
     ensures { λ r. ⌜ r ≡ emptyBy f ⌝ }
 {
     Board {
-        answer: Traced::Refused(f),
+        answer: Progress::Refused(f),
         count: 0,
         state: State {
             sets: [0; 64],
@@ -63,7 +63,7 @@ fn tell_loaded(task: &[u16], list: &[u16], room: usize) -> Board
     let runs = x.runs as u32;
     let state = x.state;
     Board {
-        answer: Traced::Run { steps, runs },
+        answer: Progress::Run { steps, runs },
         count: n,
         state,
     }
@@ -115,7 +115,7 @@ fn put(newest: &[u8; 64], n: usize, values: &mut [u16])
 }
 
 // The newest value of each variable in the front of the list lent for them, or the refusal by 1 to 6, 13, 9, 11.
-pub fn newest(bytes: &[u8], list: &[u16], values: &mut [u16]) -> Traced
+pub fn newest(bytes: &[u8], list: &[u16], values: &mut [u16]) -> Progress
     ensures { λ r. ⌜ answerOf r ≡ newestCall (now (bytes .entry)) (now (list .entry)) (length (now (values .entry))) ⌝ }
     ensures { λ r. ⌜ now (values .exit) ≡ newestList (now (bytes .entry)) (now (list .entry)) (length (now (values .entry))) ⌝ }
 {

@@ -8,30 +8,22 @@ use Prim.Native.Nat.{ℕ, zero, suc, _<_, _≤_}
 use native.Mathlib.Omega.{arith}
 use lib.Dec.{leb, leb→le}
 use lib.ListN.{length, getD, take}
-use Rattle.planning.specs.Basics.{Check, refuse, check, andThen, inOrder, Answer, answer, done, refuseAt}
+use Rattle.planning.specs.Basics.{Check, refuse, check, andThen, inOrder, Answer, answer, done}
 use Rattle.planning.specs.Record.{Task, taskOf, recordCheck}
-use Rattle.planning.specs.Runs.{actions, relaxed, real, black, isPlan, costOf, stepsRun, act, initial, Judged, judged}
+use Rattle.planning.specs.Runs.{actions, relaxed, isPlan}
 use Rattle.planning.specs.Relaxed.{reachesGoals, relaxedPlan}
 use Rattle.planning.specs.Painting.{cyclic, unreturned, acyclicCheck, returnCheck}
 use Rattle.planning.specs.Repair.{repaired}
 use Rattle.planning.specs.Calls.{capacity, capacityOf, roomCheck, goalsCheck, Planned as Result, lengthCheck, relaxedCheck, planned, planOf, planCall, repairCall}
 use Rattle.planning.proofs.Steps.{All}
 use Rattle.planning.proofs.Plans.{isPlan-elim}
-use Rattle.planning.proofs.Formed.{Formed}
-use Rattle.planning.proofs.Painting.{repaired-is-plan}
-use Rattle.planning.proofs.Checks.{check-none, andThen-none, andThen-assoc, refuseAt-none, inOrder-pass, inOrder-passed, inOrder-++}
+use Rattle.planning.proofs.Checks.{check-none, andThen-last, andThen-none, andThen-assoc, refuseAt-none, inOrder-pass, inOrder-++}
 use Rattle.answers.specs.declared.Refusal.{Refusal}
-use Rattle.answers.specs.declared.Number.{Number}
-use Rattle.answers.specs.declared.Number.the-variants.{Value}
-use Rattle.answers.proofs.Stages.{passed}
+use Rattle.answers.proofs.Stages.{answer-done}
 use Rattle.relax.specs.Keeping.{Unfound}
-use Rattle.repair.specs.Repairs.{Held}
-use Rattle.judge.specs.declared.Verdict.{Verdict}
-use Rattle.judge.specs.Answers.{judgedOf, Entries, Ready, callerCheck}
-use Rattle.judge.proofs.Modes.{judged-alike, mode-real}
-use Rattle.state.specs.Sets.{modeOf}
-use Rattle.task.specs.Task.{taskIn, Loaded}
-use Rattle.task.specs.Links.{Prepared}
+use Rattle.repair.specs.Answers.{Held, answerOf as repairedOf}
+use Rattle.repair.specs.declared.Repaired.{Repaired}
+use Rattle.judge.specs.Answers.{Entries, callerCheck}
 use Rattle.planner.specs.declared.Planned.{Planned}
 use Rattle.planner.specs.declared.Planned.the-variants.{Plan, Refused}
 use Rattle.planner.specs.Answers.{answerOf}
@@ -45,27 +37,6 @@ all-entries n (i ∷ l) h (suc k) b = all-entries n l (h .1) k (omega arith)
 
 pub plan-entries : (t : Task) (m : ℕ → Bool) (l : List ℕ) → isPlan t m l ≡ true → Entries t l
 plan-entries t m l p = all-entries (actions t) l (isPlan-elim t m l p .below)
-
--- the repaired list can be judged
-pub repaired-ready : (task : List ℕ) → Prepared task → (l : List ℕ) → isPlan (taskIn task) relaxed l ≡ true → (k : List ℕ) → k ≡ repaired (taskIn task) l → length k ≤ 32768 → Ready task k
-repaired-ready task P l p k e h = record {
-  loaded = P .loaded;
-  short = h;
-  entries = rw e (plan-entries (taskIn task) (black (taskIn task)) (repaired (taskIn task) l) (repaired-is-plan (taskIn task) (P .loaded .formed) (P .acyclic) (P .returns) l p));
-}
-
--- the numbers of an assessed list
-pub assessed : (t : Task) → Formed t → (l : List ℕ) (n c : ℕ) (v : Verdict) → n ≡ length l → c ≡ costOf t l → judgedOf v ≡ judged t (modeOf 18446744073709551615) l → answerOf (Plan n c (v .steps) (v .plan)) ≡ done (planned t l)
-unfolding planned judged
-assessed t F l n c v en ec ev =
-    let j : judgedOf v ≡ judged t real l = ev ∙ judged-alike t F (modeOf 18446744073709551615) real (mode-real t F) l in
-    let a : v .steps ≡ stepsRun (act t) real l (initial t) = ap (λ (x : Judged). x .steps) j in
-    let b : v .plan ≡ isPlan t real l = ap (λ (x : Judged). x .plan) j in
-    rw (en, ec, a, b) refl
-
-pub capacity-max : (p w : ℕ) → capacityOf p w ≤ 32768
-unfolding capacityOf capacity
-capacity-max p w = omega arith
 
 pub capacity-fits : (p w : ℕ) → capacityOf p w ≤ p
 unfolding capacityOf capacity
@@ -84,26 +55,21 @@ module _ (t : Task) (k : List ℕ) (room : ℕ) (plan : List ℕ) where
   unfolding inOrder andThen answer
   drafted-stop c cs f e = record { answer′ = rw e refl; front = tt }
 
-  -- so is 11, where no other check is left
-  pub drafted-long : (f : Refusal) → roomCheck (length (repaired t k)) room ≡ refuse (f .number) (f .place) → Drafted t [] k room plan (Refused f)
-  unfolding inOrder andThen answer
-  drafted-long f e = record { answer′ = rw e refl; front = tt }
+  one : (l : List ℕ) → answer (roomCheck (length l) room) (planned t l) ≡ answer (inOrder (roomCheck (length l) room ∷ [])) (planned t l)
+  unfolding inOrder
+  one l = ap (λ (x : Check). answer x (planned t l)) (sym (andThen-last (roomCheck (length l) room)))
 
-  pub drafted-whole : (n : ℕ) → roomCheck (length (repaired t k)) room ≡ none → n ≡ length (repaired t k) → n ≤ length plan → take n plan ≡ repaired t k → (r : Planned) → answerOf r ≡ done (planned t (repaired t k)) → Drafted t [] k room plan r
-  unfolding inOrder andThen answer planned
-  drafted-whole n c en h e (Plan a b g d) q =
-      let y : record { steps = a; cost = b; real′ = d; runs = g } ≡ planned t (repaired t k) = cc in
-      let z : a ≡ length (repaired t k) = ap (λ (x : Result). x .steps) y in
-      record { answer′ = q ∙ rw c refl; front = (omega (arith, z, en), rw (z ∙ sym en) e) }
-  drafted-whole n c en h e (Refused f) q = let z : _≡_ {A = ℕ} 0 1 = cc in absurd (omega arith)
-
--- a repair that fits, taken apart
-pub held-whole : (l d : List ℕ) (room : ℕ) (r : Number) (n : ℕ) → Held l d room r → r ≡ Value n → (roomCheck (length l) room ≡ none) × (n ≡ length l) × (n ≤ room) × (take n d ≡ l)
-unfolding roomCheck
-held-whole l d room r n H e =
-    let p = passed r n (roomCheck (length l) room) (length l) e (H .says) in
-    let q = leb→le (length l) room (check-none (leb (length l) room) 11 room (p .0)) in
-    (p .0, sym (p .1), omega (arith, p .1), H .fills n e)
+  -- the repair's own answer x, where no other check is left
+  pub drafted-repair : (x : Repaired) → Held t (repaired t k) plan room x → room ≤ length plan → (r : Planned) → answerOf r ≡ repairedOf x → Drafted t [] k room plan r
+  unfolding inOrder roomCheck planned
+  drafted-repair x H h (Plan n c s v) e =
+      let l = repaired t k in
+      let told : done (record { steps = n; cost = c; real′ = v; runs = s }) ≡ answer (roomCheck (length l) room) (planned t l) = e ∙ H .says in
+      let p = answer-done (roomCheck (length l) room) (planned t l) (record { steps = n; cost = c; real′ = v; runs = s }) (sym told) in
+      let fits = leb→le (length l) room (check-none (leb (length l) room) 11 room (p .0)) in
+      let m : length l ≡ n = ap (λ (y : Result). y .steps) (p .1) in
+      record { answer′ = told ∙ one l; front = (omega (arith, m, fits), subst (λ (y : ℕ). take y plan ≡ l) m (H .fills fits)) }
+  drafted-repair x H h (Refused f) e = record { answer′ = e ∙ H .says ∙ one (repaired t k); front = tt }
 
 -- what is asked of the relaxed plan, and which it is
 module _ (t : Task) (l : List ℕ) where

@@ -4,21 +4,19 @@
 use answers::Checked;
 use answers::Number;
 use answers::Refusal;
+use repair::Repaired;
 ghost use mathlib.Core.Path.{_≡_};
 ghost use mathlib.Core.Bool.{true};
 ghost use mathlib.Core.List.{[]};
 ghost use mathlib.Core.Option.{none};
-ghost use Prim.Native.Nat.{_*_, _≤_};
 ghost use lib.ListN.{length};
-ghost use Rattle.planning.specs.Basics.{done};
 ghost use Rattle.planning.specs.Record.{taskOf, recordCheck};
-ghost use Rattle.planning.specs.Runs.{relaxed, isPlan, costOf};
+ghost use Rattle.planning.specs.Runs.{relaxed, isPlan};
 ghost use Rattle.planning.specs.Relaxed.{relaxedPlan};
-ghost use Rattle.planning.specs.Calls.{planned, planCall, planList, repairCall, repairList, workList, planIn, runnable, lent};
+ghost use Rattle.planning.specs.Calls.{planCall, planList, repairCall, repairList, workList, planIn, runnable, lent};
 ghost use Rattle.planning.specs.Existence.{Demand3, Bounded};
 ghost use Rattle.task.specs.Task.{taskIn, Loaded};
 ghost use Rattle.task.specs.Links.{Prepared};
-ghost use Rattle.judge.specs.Answers.{Ready};
 ghost use Rattle.planner.specs.Answers.{answerOf, stepsOf};
 ghost use Rattle.planner.specs.Drafts.{Drafted, Sourced, Painted, Called, roomIn};
 
@@ -33,46 +31,26 @@ pub enum Planned {
     Refused(Refusal),
 }
 
-// The cost of a list: the sum over its steps.
-fn cost(task: &[u16], list: &[u16]) -> u64
-    requires { ⌜ Ready (now task) (now list) ⌝ }
-    ensures { λ r. ⌜ (r ≡ costOf (taskIn (now (task .entry))) (now (list .entry))) × (r ≤ 65535 * length (now (list .entry))) ⌝ }
-{
-    let mut sum: u64 = 0;
-    let mut k: usize = 0;
-    while k < list.len() {
-        sum += task::cost(task, lists::wide(list[k])) as u64;
-        k += 1;
-    }
-    sum
-}
-
-// A list of actions that fits: its steps, its cost, and how far it runs for real.
-fn assess(task: &[u16], list: &[u16]) -> Planned
-    requires { ⌜ Ready (now task) (now list) ⌝ }
-    ensures { λ r. ⌜ answerOf r ≡ done (planned (taskIn (now (task .entry))) (now (list .entry))) ⌝ }
-{
-    let sum = cost(task, list) as u32;
-    let v = judge::judge_one(task, list, u64::MAX, 0);
-    Planned::Plan {
-        steps: list.len() as u32,
-        cost: sum,
-        runs: v.steps,
-        real: v.plan,
-    }
-}
-
-// The repair of a relaxed plan in the front of the plan list, and its assessment; 11 if it is longer than the capacity.
+// The repair of a relaxed plan in the front of the plan list; 11 if it is longer than the capacity.
 fn draft(task: &[u16], list: &[u16], plan: &mut [u16], work: &mut [u16]) -> Planned
     requires { ⌜ Prepared (now task) × (isPlan (taskIn (now task)) relaxed (now list) ≡ true) ⌝ }
     ensures { λ r. ⌜ Drafted (taskIn (now (task .entry))) [] (now (list .entry)) (roomIn (now (plan .entry)) (now (work .entry))) (now (plan .exit)) r ⌝ }
 {
     let r = repair::repair(task, list, plan, work);
-    let Number::Value(n) = r else {
-        return Planned::Refused(answers::refusal_of(r));
-    };
-    let steps = n as usize;
-    assess(task, &plan[..steps])
+    match r {
+        Repaired::Plan {
+            steps,
+            cost,
+            runs,
+            real,
+        } => Planned::Plan {
+            steps,
+            cost,
+            runs,
+            real,
+        },
+        Repaired::Refused(f) => Planned::Refused(f),
+    }
 }
 
 // The relaxed plan is the caller's list where it is given, checked by 13 and 9, else the task's own, or 10.

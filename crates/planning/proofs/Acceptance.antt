@@ -1,12 +1,12 @@
 -- The examples of clause 12: one table, proved by one theorem. Each record, the bytes of examples/*.record, states the task that the
--- clause describes, and the planner is called on it; antt computes the rows. The prover takes files by name, so this one comes before
+-- clause describes; the planner is called on it, or the newest values of a list are asked for; antt computes the rows. The prover takes files by name, so this one comes before
 -- the laws, and a definition that makes a row false is refused here first.
 use Prim.Native.Nat.{ℕ, zero, suc}
 use mathlib.Core.Path.{_≡_, refl}
 use mathlib.Core.Bool.{Bool, true, false}
 use mathlib.Core.List.{List, [], _∷_}
 use mathlib.Core.Option.{Option, none, some}
-use lib.ListN.{length}
+use lib.ListN.{length, replicate}
 use Rattle.planning.specs.Basics.{Answer, refused, done, times, check, andThen, inOrder, answer, bitAt, bitsAt, holdsField, someBelow, oneIf}
 use Rattle.planning.specs.Basics.{tally, first, total, refuseAt, reach}
 use Rattle.planning.specs.Record.{Fact, Action, Variable, Task, variablesIn, actionsIn, goalOf, variableAt, variablesAt, factsAt, preconditionsIn}
@@ -20,7 +20,7 @@ use Rattle.planning.specs.Painting.{causalArc, blackArc, onCycle, cyclic
 use Rattle.planning.specs.Painting.{unreturned, acyclicCheck, returnCheck}
 use Rattle.planning.specs.Repair.{known, union, everAfter, usableArc, adjacent, pathIn, shortest, toward, after, pass, fill, ready, clientsFirst}
 use Rattle.planning.specs.Repair.{order, value, blackMet, moves, stageSteps, allSteps, stagesFrom, stages, repaired}
-use Rattle.planning.specs.Newest.{initialValues, newer, tracked, track, stepsPainted, stopsIn, tabulate, newestValues, Traced, traced}
+use Rattle.planning.specs.Newest.{initialValues, newer, tracked, track, redBlackSteps, stopsIn, tabulate, newestValues, Progress, progress}
 use Rattle.planning.specs.Existence.{share, blackProduct}
 use Rattle.planning.specs.Calls.{Planned, lent, capacity, capacityOf, roomCheck, goalsCheck, planned, planOf, planCall, planList}
 use Rattle.planning.specs.Calls.{newestCall, newestList, lengthCheck, notBelow, entriesCheck}
@@ -97,6 +97,12 @@ variables64 = 24 ∷ 0 ∷ redPairs 32 (0 ∷ [])
 
 unfoldable pub variables65 : List ℕ
 variables65 = 24 ∷ 32 ∷ redPairs 32 (3 ∷ 240 ∷ 0 ∷ 0 ∷ [])
+
+-- newest, 12.17
+unfoldable pub newest : List ℕ
+newest =
+    16 ∷ 96 ∷ 20 ∷ 24 ∷ 16 ∷ 1 ∷ 1 ∷ 4 ∷ 16 ∷ 0 ∷ 0 ∷ 1 ∷ 4 ∷ 128 ∷ 0 ∷ 0 ∷ 66 ∷ 4 ∷ 0 ∷ 16 ∷ 68 ∷ 0 ∷ 64 ∷ 0 ∷ 0 ∷ 4 ∷
+    132 ∷ 0 ∷ 65 ∷ 0 ∷ 16 ∷ 64 ∷ 0 ∷ 72 ∷ 64 ∷ 4 ∷ 16 ∷ 65 ∷ 0 ∷ 0 ∷ 8 ∷ 132 ∷ 16 ∷ 66 ∷ 0 ∷ 32 ∷ 0 ∷ []
 
 -- how a clause writes facts, actions and variables
 abbrev pub fact : ℕ → ℕ → Fact
@@ -180,22 +186,34 @@ plan n l c b r = record { number = 0; place = 0; steps = n; list = l; cost = c; 
 abbrev pub refusal : ℕ → ℕ → List ℕ → Outcome
 refusal n p l = record { number = n; place = p; steps = 0; list = l; cost = 0; real = false; runs = 0 }
 
--- 3.12: a box on a red variable, moved to 1 and back to 0, and one that is put where it was
-abbrev pub boxes : Task
-boxes =
-    task (redOne 2 0 none ∷ blackOne 2 0 none ∷ [])
-    (action 1 (fact 0 0 ∷ []) (fact 0 1 ∷ []) ∷ action 1 (fact 0 1 ∷ []) (fact 0 0 ∷ []) ∷ action 1 (fact 0 0 ∷ []) (fact 0 0 ∷ [])
-    ∷ action 1 (fact 1 1 ∷ []) (fact 1 0 ∷ []) ∷ [])
+-- newest, 12.17: driving out lights the lamp, scanning needs it off and leaves it off
+abbrev pub newestTask : Task
+newestTask =
+    task (blackOne 2 0 (some 0) ∷ redOne 2 0 (some 1) ∷ redOne 2 0 none ∷ [])
+    (action 4 (fact 0 0 ∷ []) (fact 0 1 ∷ fact 2 1 ∷ []) ∷ action 4 (fact 0 1 ∷ []) (fact 0 0 ∷ [])
+    ∷ action 1 (fact 0 1 ∷ fact 1 0 ∷ []) (fact 1 1 ∷ []) ∷ action 1 (fact 0 1 ∷ fact 1 1 ∷ []) (fact 1 0 ∷ [])
+    ∷ action 2 (fact 1 1 ∷ fact 2 0 ∷ []) (fact 2 0 ∷ []) ∷ [])
 
--- what is told of a list, and the values' list of n entries afterwards
-unfoldable pub desk : List ℕ → List ℕ → ℕ → Outcome
-desk s l n = elim (newestCall s l n) [
-  | refused m p ↦ record { number = m; place = p; steps = 0; list = newestList s l n; cost = 0; real = false; runs = 0 }
-  | done x ↦ record { number = 0; place = 0; steps = x .steps; list = newestList s l n; cost = 0; real = false; runs = x .runs }
-]
+-- the newest values' call: number, place, steps that run red-black and for real, the list of n entries afterwards
+pub record Desk : Type 0 where
+  pub number : ℕ
+  pub place : ℕ
+  pub steps : ℕ
+  pub runs : ℕ
+  pub values : List ℕ
 
-abbrev pub shown : ℕ → ℕ → List ℕ → Outcome
-shown n r l = record { number = 0; place = 0; steps = n; list = l; cost = 0; real = false; runs = r }
+unfoldable pub deskOf : Answer Progress → List ℕ → Desk
+deskOf (refused n p) l = record { number = n; place = p; steps = 0; runs = 0; values = l }
+deskOf (done x) l = record { number = 0; place = 0; steps = x .steps; runs = x .runs; values = l }
+
+unfoldable pub desk : List ℕ → List ℕ → ℕ → Desk
+desk s l n = deskOf (newestCall s l n) (newestList s l n)
+
+abbrev pub shown : ℕ → ℕ → List ℕ → Desk
+shown n r l = record { number = 0; place = 0; steps = n; runs = r; values = l }
+
+abbrev pub turnedAway : ℕ → ℕ → List ℕ → Desk
+turnedAway n p l = record { number = n; place = p; steps = 0; runs = 0; values = l }
 
 -- The table: a row a line, its proof the refl at the same place below.
 pub starred :
@@ -235,16 +253,19 @@ pub starred :
     × (called litReturn 6 ≡ plan 5 (1 ∷ 3 ∷ 2 ∷ 4 ∷ 0 ∷ 65535 ∷ []) 13 true 5)
     × (taskOf repeatedVariable ≡ task (redOne 2 0 none ∷ []) (action 1 [] (fact 0 0 ∷ fact 0 1 ∷ []) ∷ []))
     × (called repeatedVariable 1 ≡ refusal 5 78 (65535 ∷ []))
-    × (newestValues boxes [] ≡ 0 ∷ 0 ∷ [])
-    × (newestValues boxes (0 ∷ []) ≡ 1 ∷ 0 ∷ [])
-    × (newestValues boxes (0 ∷ 1 ∷ []) ≡ 0 ∷ 0 ∷ [])
-    × (newestValues boxes (0 ∷ 2 ∷ []) ≡ 0 ∷ 0 ∷ [])
-    × (newestValues boxes (0 ∷ 2 ∷ 0 ∷ 3 ∷ 2 ∷ []) ≡ 1 ∷ 0 ∷ [])
-    × (traced boxes (0 ∷ 2 ∷ 0 ∷ 3 ∷ 2 ∷ []) ≡ record { steps = 3; runs = 1 })
-    × (desk twoShelves (0 ∷ 2 ∷ 1 ∷ 3 ∷ []) 2 ≡ shown 4 4 (0 ∷ 0 ∷ []))
+    × (taskOf newest ≡ newestTask)
+    × (called newest 4 ≡ plan 3 (0 ∷ 2 ∷ 1 ∷ 65535 ∷ []) 9 true 3)
+    × (desk newest [] 3 ≡ shown 0 0 (0 ∷ 0 ∷ 0 ∷ []))
+    × (desk newest (0 ∷ 2 ∷ 1 ∷ []) 3 ≡ shown 3 3 (0 ∷ 1 ∷ 1 ∷ []))
+    × (desk newest (0 ∷ 2 ∷ 3 ∷ []) 3 ≡ shown 3 3 (1 ∷ 0 ∷ 1 ∷ []))
+    × (desk newest (0 ∷ 2 ∷ 3 ∷ 4 ∷ 0 ∷ 1 ∷ []) 5 ≡ shown 4 3 (1 ∷ 0 ∷ 0 ∷ 65535 ∷ 65535 ∷ []))
+    × (desk newest (0 ∷ 2 ∷ 3 ∷ 4 ∷ 0 ∷ 1 ∷ []) 2 ≡ turnedAway 11 2 (65535 ∷ 65535 ∷ []))
+    × (desk newest (1 ∷ 5 ∷ []) 2 ≡ turnedAway 9 1 (65535 ∷ 65535 ∷ []))
+    × (desk newest (replicate 32769 9) 2 ≡ turnedAway 13 32768 (65535 ∷ 65535 ∷ []))
+    × (desk [] (7 ∷ []) 1 ≡ turnedAway 1 0 (65535 ∷ []))
+    × (desk twoShelves [] 2 ≡ shown 0 0 (0 ∷ 1 ∷ []))
     × (desk tray (0 ∷ 1 ∷ []) 4 ≡ shown 2 1 (1 ∷ 1 ∷ 1 ∷ 65535 ∷ []))
-    × (desk tray (0 ∷ 1 ∷ []) 2 ≡ refusal 11 2 (65535 ∷ 65535 ∷ []))
-    × (desk tray (0 ∷ 2 ∷ []) 2 ≡ refusal 9 1 (65535 ∷ 65535 ∷ []))
+    × (desk bothBlack (0 ∷ []) 2 ≡ shown 1 1 (1 ∷ 1 ∷ []))
 unfolding times share blackProduct check andThen inOrder answer bitAt bitsAt holdsField someBelow oneIf tally first total refuseAt reach variablesIn
     actionsIn goalOf variableAt variablesAt factsAt preconditionsIn effectsIn effectsFrom actionEnd actionAt actionsAt actionsEnd taskOf fieldCheck
     headerChecks goalFits variableChecks variablesChecks countIn factChecks factsChecks actionChecks actionsChecks endsAt recordEnd recordChecks
@@ -253,9 +274,12 @@ unfolding times share blackProduct check andThen inOrder answer bitAt bitsAt hol
     cyclic fits leaves orZero target arcFrom outside returnBy lacksReturn unreturned acyclicCheck returnCheck known union everAfter usableArc adjacent
     pathIn shortest toward after pass fill ready clientsFirst order value blackMet moves stageSteps allSteps stagesFrom stages repaired lent
     capacity capacityOf roomCheck goalsCheck planned planOf planCall planList called outcome redPairs variables64 variables65 twoShelves withoutOne withoutTwo lampOne lampTwo
-    bothBlack goalMet tray door litReturn repeatedVariable initialValues newer tracked track stepsPainted stopsIn tabulate newestValues traced
-    newestCall newestList lengthCheck notBelow entriesCheck desk
+    bothBlack goalMet tray door litReturn repeatedVariable initialValues newer tracked track redBlackSteps stopsIn tabulate newestValues progress
+    newestCall newestList lengthCheck notBelow entriesCheck deskOf desk newest
 starred = (
+  refl,
+  refl,
+  refl,
   refl,
   refl,
   refl,

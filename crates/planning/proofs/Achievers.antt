@@ -79,7 +79,8 @@ module _ (act : ℕ → Action) where
   firstAchiever-reaches [] s o = tt
   firstAchiever-reaches (i ∷ l) s o = (
     firstAchiever-own i l s,
-    reaches-shadow i (firstAchiever act l (step relaxed (act i) s)) (firstAchiever act (i ∷ l) s) l (step relaxed (act i) s) (o .0) (firstAchiever-later i l s) (firstAchiever-reaches l (step relaxed (act i) s) (o .1)),
+    reaches-shadow i (firstAchiever act l (step relaxed (act i) s)) (firstAchiever act (i ∷ l) s) l (step relaxed (act i) s) (o .0) (firstAchiever-later i l s)
+        (firstAchiever-reaches l (step relaxed (act i) s) (o .1)),
   )
 
 -- an effect that the table names and that is needed has its entry kept

@@ -107,7 +107,8 @@ module _ (act : ℕ → Action) (A : ℕ) (m : Mode) (count : ℕ → ℕ) where
       back v c e mv h k (yes q) = ([], subst (λ z. Walk act (Usable act A W′ v) v z [] c) q stop)
       back v c e mv h k (no q) =
           let r = R v i c e mv below (I .ranged v c (I .ins v c h)) (record { from = λ x g. I .single v x c mv (met v x g) h; into = k; leaves′ = q }) in
-          (r .by ∷ [], move (record { below = r .below; met = λ u x g. back-met v c e k r u x g (ℕ-discrete u v); sets = has→touches (act (r .by) .eff) v c (r .arc .into) }) (r .arc .from) (r .arc .into) stop)
+          (r .by ∷ [], move (record { below = r .below; met = λ u x g. back-met v c e k r u x g (ℕ-discrete u v); sets = has→touches (act (r .by) .eff) v c
+              (r .arc .into) }) (r .arc .from) (r .arc .into) stop)
 
       -- a value in W′ is new or old: by the walks above any two are joined by way of the value in s
       Step : ℕ → ℕ → Type 0

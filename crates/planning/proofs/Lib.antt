@@ -1,6 +1,7 @@
 -- First the table of examples, computed; then laws about the definitions of specs/, from the ground up: tests and lists, the record,
 -- plans, the forward run and its relaxed plan, the parts of the repair, the painting, and on top the calls and demand 3.
 pub mod Acceptance
+pub mod AcceptanceCalls
 pub mod Tests
 pub mod Checks
 pub mod Below

@@ -11,7 +11,9 @@ use lib.ListN.{length, take}
 use lib.Seq.{getD-take, length-take-le}
 use native.Mathlib.Omega.{arith}
 use Rattle.planning.specs.Basics.{Check, refuse, check, andThen, inOrder, answer, bitAt, bitsAt, holdsField}
-use Rattle.planning.specs.Record.{variablesIn, actionsIn, preconditionsIn, effectsIn, effectsFrom, actionEnd, actionsEnd, fieldCheck, headerChecks, variableChecks, variablesChecks, countIn, factChecks, factsChecks, actionChecks, actionsChecks, endsAt, recordEnd, recordChecks, recordCheck}
+use Rattle.planning.specs.Record.{variablesIn, actionsIn, preconditionsIn, effectsIn, effectsFrom, actionEnd, actionsEnd, fieldCheck, headerChecks}
+use Rattle.planning.specs.Record.{variableChecks, variablesChecks, countIn, factChecks, factsChecks, actionChecks, actionsChecks, endsAt, recordEnd}
+use Rattle.planning.specs.Record.{recordChecks, recordCheck}
 use Rattle.planning.specs.Calls.{planCall}
 use Rattle.planning.proofs.Tests.{and-l, and-r}
 use Rattle.planning.proofs.Checks.{check-none, check-pass, check-fail, Passed, inOrder-passed, inOrder-++}

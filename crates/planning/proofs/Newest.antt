@@ -1,6 +1,7 @@
--- Newest values, for every list and every semantics by one induction (`fresh-run`): the newest value is in the set, and it is the only one
--- of a variable that acts as black. They do not depend on the painting. In a real run all variables act as black, so that the newest values
--- are the real state; hence one run of any semantics tells, up to the first step that fails for real, what the real run does.
+-- Newest values, for every list and every semantics by one induction (`fresh-run`): the newest value is in the set (`fresh`, `held`), and it
+-- is the only one of a variable that acts as black (`set-alone`). They do not depend on the painting (`newest-any`). In a real run all
+-- variables act as black, so that the newest values are the real state (`real-state`); hence one run of any semantics tells how many steps
+-- run for real, tested on its newest values (`real-steps`), and that state after each of them.
 use Prim.Native.Nat.{ℕ, zero, suc, _+_, _≤_, _<_}
 use mathlib.Core.Path.{_≡_, refl, sym, ap, _∙_}
 use mathlib.Core.Logic.{_⊎_, inl, inr}
@@ -11,12 +12,13 @@ use lib.Dec.{T, eqb, eqb→eq, eqb-refl, ltb, lt→ltb}
 use lib.ListN.{length, getD}
 use native.Mathlib.Omega.{arith}
 use Rattle.planning.specs.Record.{Fact, Action, Task}
-use Rattle.planning.specs.Runs.{State, Mode, has, touches, look, holds, step, real, variables, variable, count, act, initial, run, runBy}
+use Rattle.planning.specs.Runs.{State, Mode, has, touches, look, holds, step, real, variables, variable, count, act, black, initial, run, stepsRun, runBy, stepsBy}
 use Rattle.planning.specs.Newest.{Values, initialValues, newer, Tracked, tracked, track, alone, tabulate}
 use Rattle.planning.proofs.Tests.{T→true, true→T, F→false, and-l, and-r, and-i}
 use Rattle.planning.proofs.Facts.{has-here, has-there, has→touches, touches→has, look-some, look-none, look-is, Func}
 use Rattle.planning.proofs.Steps.{step-eff, step-keep, step-cases}
 use Rattle.planning.proofs.Formed.{Formed, sorted-has, sorted-func}
+use Rattle.planning.proofs.Prefixes.{runBy-append, stepsBy-pass, stepsBy-stop}
 
 -- an effect sets the newest value; other variables keep theirs
 module _ (a : Action) (f : Values) (v : ℕ) where
@@ -57,6 +59,19 @@ module _ (n : ℕ) (m : Mode) where
   fresh-run act F [] x X = X
   fresh-run act F (i ∷ l) x X = fresh-run act F l (track m (act i) x) (fresh-step (act i) (F i) x X)
 
+-- where the variable acts as black the set is the newest value alone
+pub set-alone : (n : ℕ) (m : Mode) (x : Tracked) → Fresh n m x → (v d : ℕ) → v < n → T (m v) → x .sets v d ≡ alone (x .newest) v d
+unfolding alone
+set-alone n m x X v d h b = go (x .sets v d) refl
+  where
+    go : (c : Bool) → x .sets v d ≡ c → c ≡ eqb d (x .newest v)
+    go true e = sym (T→true (eqb d (x .newest v)) (rw (X .only v d b (rw e tt)) (eqb-refl (x .newest v))))
+    go false e = sym (F→false (eqb d (x .newest v)) (λ q. let y : T (x .sets v d) = rw (eqb→eq d (x .newest v) q) (X .held v h) in rw e at y))
+
+last : {S : Type 0} {i : ℕ} (next : ℕ → S → S) (x : S) → runBy next (i ∷ []) x ≡ next i x
+unfolding runBy
+last next x = refl
+
 -- sets and newest values are each those of a run of their own, the latter without a mode
 module _ (act : ℕ → Action) (m : Mode) where
   pub track-sets : (l : List ℕ) (x : Tracked) → runBy (λ i. track m (act i)) l x .sets ≡ run act m l (x .sets)
@@ -69,7 +84,7 @@ module _ (act : ℕ → Action) (m : Mode) where
   track-newest [] x = refl
   track-newest (i ∷ l) x = track-newest l (track m (act i) x)
 
--- two lists of tests that agree on the facts of a list hold it alike
+-- two states that agree on the facts of a list hold it alike
 pub holds-same : (s u : State) (fs : List Fact) → ((v d : ℕ) → T (has fs v d) → s v d ≡ u v d) → holds s fs ≡ holds u fs
 unfolding holds
 holds-same s u [] h = refl
@@ -97,32 +112,57 @@ module _ (t : Task) (F : Formed t) where
 
   -- the real state: the newest values alone
   pub real-state : (l : List ℕ) (v d : ℕ) → v < variables t → run (act t) real l (initial t) v d ≡ alone (newestAfter l) v d
-  unfolding tracked alone
-  real-state l v d h = go (run (act t) real l (initial t) v d) refl
-    where
-      X : Fresh (variables t) real (runBy (λ i. track real (act t i)) l (tracked t))
-      X = fresh real l
+  unfolding tracked
+  real-state l v d h =
+      let e = set-alone (variables t) real (runBy (λ i. track real (act t i)) l (tracked t)) (fresh real l) v d h tt in
+      rw (track-sets (act t) real l (tracked t), newest-any real l) at e
 
-      sets : runBy (λ i. track real (act t i)) l (tracked t) .sets ≡ run (act t) real l (initial t)
-      sets = track-sets (act t) real l (tracked t)
-
-      go : (b : Bool) → run (act t) real l (initial t) v d ≡ b → b ≡ eqb d (newestAfter l v)
-      go true e =
-          let q : d ≡ newestAfter l v = X .only v d tt (rw (sets, e) tt) ∙ ap (λ (f : Values). f v) (newest-any real l) in
-          sym (T→true (eqb d (newestAfter l v)) (rw q (eqb-refl (newestAfter l v))))
-      go false e = sym (F→false (eqb d (newestAfter l v)) (λ q. no (eqb→eq d (newestAfter l v) q)))
-        where
-          no : d ≡ newestAfter l v → ⊥
-          no q =
-              let w : T (run (act t) real l (initial t) v (newestAfter l v)) = rw (sets, newest-any real l) at (X .held v h) in
-              let y : T (run (act t) real l (initial t) v d) = rw q w in
-              rw e at y
+  -- in a red-black run so for black variables
+  pub black-state : (l : List ℕ) (v d : ℕ) → v < variables t → T (black t v) → run (act t) (black t) l (initial t) v d ≡ alone (newestAfter l) v d
+  unfolding tracked
+  black-state l v d h b =
+      let e = set-alone (variables t) (black t) (runBy (λ i. track (black t) (act t i)) l (tracked t)) (fresh (black t) l) v d h b in
+      rw (track-sets (act t) (black t) l (tracked t), newest-any (black t) l) at e
 
   pub real-holds : (l : List ℕ) (fs : List Fact) → ((v d : ℕ) → T (has fs v d) → v < variables t) → holds (run (act t) real l (initial t)) fs ≡ holds (alone (newestAfter l)) fs
   real-holds l fs h = holds-same (run (act t) real l (initial t)) (alone (newestAfter l)) fs (λ v d x. real-state l v d (h v d x))
 
   pub real-applies : (l : List ℕ) (i : ℕ) → holds (run (act t) real l (initial t)) (act t i .pre) ≡ holds (alone (newestAfter l)) (act t i .pre)
   real-applies l i = real-holds l (act t i .pre) (λ v d x. sorted-has (variables t) (count t) 0 (act t i .pre) (F .pre-sorted i) v d x .var-below)
+
+  -- one run of any semantics tells the steps that run for real: those that apply to its newest values
+  module _ (m : Mode) where
+    abbrev seen : List ℕ → Tracked
+    seen p = runBy (λ i. track m (act t i)) p (tracked t)
+
+    abbrev counts : List ℕ → Tracked → ℕ
+    counts = stepsBy (λ i x. holds (alone (x .newest)) (act t i .pre)) (λ i. track m (act t i))
+
+    real-steps-from : (l p : List ℕ) → stepsRun (act t) real l (run (act t) real p (initial t)) ≡ counts l (seen p)
+    unfolding stepsBy
+    real-steps-from [] p = refl
+    real-steps-from (i ∷ l) p = go (holds (run (act t) real p (initial t)) (act t i .pre)) refl (real-steps-from l (p ++ (i ∷ [])))
+      where
+        here : holds (run (act t) real p (initial t)) (act t i .pre) ≡ holds (alone (seen p .newest)) (act t i .pre)
+        here = rw (newest-any m p) (real-applies p i)
+
+        one : {S : Type 0} (next : ℕ → S → S) (x : S) → runBy next (p ++ (i ∷ [])) x ≡ next i (runBy next p x)
+        one next x = runBy-append (λ _ _. true) next p (i ∷ []) x ∙ last next (runBy next p x)
+
+        go : (b : Bool) → holds (run (act t) real p (initial t)) (act t i .pre) ≡ b
+            → stepsRun (act t) real l (run (act t) real (p ++ (i ∷ [])) (initial t)) ≡ counts l (seen (p ++ (i ∷ [])))
+            → stepsRun (act t) real (i ∷ l) (run (act t) real p (initial t)) ≡ counts (i ∷ l) (seen p)
+        go true e more =
+            stepsBy-pass (λ i s. holds s (act t i .pre)) (λ i. step real (act t i)) i l (run (act t) real p (initial t)) e
+            ∙ ap suc (rw (one (λ i. step real (act t i)) (initial t), one (λ i. track m (act t i)) (tracked t)) at more)
+            ∙ sym (stepsBy-pass (λ i x. holds (alone (x .newest)) (act t i .pre)) (λ i. track m (act t i)) i l (seen p) (sym here ∙ e))
+        go false e more =
+            stepsBy-stop (λ i s. holds s (act t i .pre)) (λ i. step real (act t i)) i l (run (act t) real p (initial t)) e
+            ∙ sym (stepsBy-stop (λ i x. holds (alone (x .newest)) (act t i .pre)) (λ i. track m (act t i)) i l (seen p) (sym here ∙ e))
+
+    pub real-steps : (l : List ℕ) → stepsRun (act t) real l (initial t) ≡ stepsBy (λ i x. holds (alone (x .newest)) (act t i .pre)) (λ i. track m (act t i)) l (tracked t)
+    unfolding runBy
+    real-steps l = real-steps-from l []
 
 -- the numbers of a table
 pub tabulate-length : (n : ℕ) (f : ℕ → ℕ) → length (tabulate n f) ≡ n

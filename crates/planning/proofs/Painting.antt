@@ -181,7 +181,8 @@ module _ (t : Task) (F : Formed t) where
     pub product-order : product (count t) (order t) ≡ blackProduct t
     unfolding order blackProduct
     product-order =
-        clientsFirst-product (variables t) (blackArc t) (black t) (black-inside t) (blackArc-ends t) (no-cycle Y) (count t) (variables t) (λ _. false) (tally-le (variables t) (untaken (black t) (λ _. false)))
+        clientsFirst-product (variables t) (blackArc t) (black t) (black-inside t) (blackArc-ends t) (no-cycle Y) (count t) (variables t) (λ _. false)
+            (tally-le (variables t) (untaken (black t) (λ _. false)))
         ∙ times-same (variables t) (λ v. share (untaken (black t) (λ _. false) v) (count t v)) (λ v. share (black t v) (count t v)) (λ v _. rw (and-true (black t v)) refl)
 
     -- the repair of a relaxed plan: a red-black plan of at most n × P steps

@@ -60,7 +60,8 @@ module _ (act : ℕ → Action) (A : ℕ) (W : State) (v n : ℕ) (pres : (i : �
 
   pub usableArc→adjacent : (c i : ℕ) → i < A → T (usableArc act W v c i) → T (adjacent act A W v c (target act v i))
   unfolding adjacent
-  usableArc→adjacent c i b t = some-intro A (λ j. usableArc act W v c j && eqb (target act v j) (target act v i)) i b (and-i (usableArc act W v c i) (eqb (target act v i) (target act v i)) t (eqb-refl (target act v i)))
+  usableArc→adjacent c i b t =
+      some-intro A (λ j. usableArc act W v c j && eqb (target act v j) (target act v i)) i b (and-i (usableArc act W v c i) (eqb (target act v i) (target act v i)) t (eqb-refl (target act v i)))
 
   -- a walk is a way in the graph; moves that stay where they are can be left out
   pub walk→reach : {c d : ℕ} {p : List ℕ} → Way c p d → T (reach n adj (length p) c d)

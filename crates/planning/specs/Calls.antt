@@ -9,13 +9,13 @@ use lib.ListN.{length, take, replicate}
 use Rattle.planning.specs.Basics.{Check, check, inOrder, Answer, answer, refused, done, code, refuseAt}
 use Rattle.planning.specs.Record.{Task, taskOf, recordCheck}
 use Rattle.planning.specs.Runs.{State, holds, step, relaxed, real, variables, actions, act, initial, goals, stepsRun, isPlan, costOf, Judgement, judgement}
-use Rattle.planning.specs.Newest.{Traced, traced, newestValues}
+use Rattle.planning.specs.Newest.{Progress, progress, newestValues}
 use Rattle.planning.specs.Relaxed.{forwardRun, reachesGoals, factsReached, relaxedPlan}
 use Rattle.planning.specs.Painting.{acyclicCheck, returnCheck}
 use Rattle.planning.specs.Repair.{repaired}
 use Rattle.planning.specs.Sheet.{Sheet, sheetBytes, sheetSize, sheetOf, sheetCheck, stepsIn}
 
--- 7.4 and 7.5: a lent list of n entries afterwards
+-- 7.4, 7.5 and 7.9: a lent list of n entries afterwards
 unfoldable pub lent : {A : Type 0} → Answer A → ℕ → List ℕ → List ℕ
 lent (refused _ _) n l = replicate n 65535
 lent (done _) n l = l ++ replicate (n - length l) 65535
@@ -42,7 +42,7 @@ capacity n = min n 32768
 unfoldable pub capacityOf : ℕ → ℕ → ℕ
 capacityOf plan work = capacity (min plan work)
 
--- 7.3 and 8.3: there is room, else 11
+-- 7.3, 7.9 and 8.3: there is room, else 11
 unfoldable pub roomCheck : ℕ → ℕ → Check
 roomCheck wanted room = check (leb wanted room) 11 room
 
@@ -59,7 +59,7 @@ unfoldable pub notBelow : ℕ → ℕ → List ℕ → Option ℕ
 notBelow n k [] = none
 notBelow n k (i ∷ l) = elim (ltb i n) [ true ↦ notBelow n (suc k) l | false ↦ some k ]
 
--- 9.6, judging: all entries are below A, else 9
+-- 9.6, judging and newest values: all entries are below A, else 9
 unfoldable pub entriesCheck : Task → List ℕ → Check
 entriesCheck t l = refuseAt 9 (notBelow (actions t) 0 l)
 
@@ -83,18 +83,18 @@ unfoldable pub judgeCall : List ℕ → List ℕ → Answer Judgement
 judgeCall s l = answer (inOrder (recordCheck s ∷ lengthCheck l ∷ entriesCheck (taskOf s) l ∷ [])) (judgement (taskOf s) l)
 
 -- 9.1 and 7.9: newest values of the list l, with a list of n entries lent for them
-abbrev pub tracing : List ℕ → List ℕ → ℕ → Call Traced
-tracing s l n = record {
+abbrev pub showing : List ℕ → List ℕ → ℕ → Call Progress
+showing s l n = record {
   checks = recordCheck s ∷ lengthCheck l ∷ entriesCheck (taskOf s) l ∷ roomCheck (variables (taskOf s)) n ∷ [];
-  result = traced (taskOf s) l;
+  result = progress (taskOf s) l;
   front = newestValues (taskOf s) l;
 }
 
-unfoldable pub newestCall : List ℕ → List ℕ → ℕ → Answer Traced
-newestCall s l n = answerTo (tracing s l n)
+unfoldable pub newestCall : List ℕ → List ℕ → ℕ → Answer Progress
+newestCall s l n = answerTo (showing s l n)
 
 unfoldable pub newestList : List ℕ → List ℕ → ℕ → List ℕ
-newestList s l n = lent (newestCall s l n) n (tracing s l n .front)
+newestList s l n = lent (newestCall s l n) n (showing s l n .front)
 
 -- 9.1: forward run, with a plan list of n entries
 pub record Forward : Type 0 where

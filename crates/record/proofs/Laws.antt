@@ -13,7 +13,9 @@ use lib.Dec.{eqb, leb, ltb}
 use lib.ListN.{length, getD, set, replicate, length-set}
 use lib.Seq.{getD-set-same, getD-set-other}
 use Rattle.planning.specs.Basics.{refuse, check, andThen, inOrder, Answer, answer, refused, done, bitsAt, holdsField}
-use Rattle.planning.specs.Record.{variablesIn, actionsIn, countIn, headerChecks, recordChecks, recordCheck, preconditionsIn, effectsIn, effectsFrom, actionEnd, actionsEnd, fieldCheck, goalFits, variableChecks, variablesChecks, endsAt, recordEnd, factChecks, factsChecks, actionChecks, actionsChecks}
+use Rattle.planning.specs.Record.{variablesIn, actionsIn, countIn, headerChecks, recordChecks, recordCheck, preconditionsIn, effectsIn, effectsFrom, actionEnd}
+use Rattle.planning.specs.Record.{actionsEnd, fieldCheck, goalFits, variableChecks, variablesChecks, endsAt, recordEnd, factChecks, factsChecks, actionChecks}
+use Rattle.planning.specs.Record.{actionsChecks}
 use Rattle.planning.proofs.Fields.{actionEnd-le, actionsEnd-le}
 use Rattle.bits.proofs.Window.{bitsAt-lt, bitsAt-add}
 use Rattle.answers.proofs.Stages.{stage-passes, skip, skip-stage, stops-stage, pass-end}
@@ -168,7 +170,8 @@ few-none w low counts =
 pub few-more : (w n k low : ℕ) (counts : List ℕ) (r f : ℕ) → n ≡ k + 1 → k ≤ 3 → Few w k low counts r → f ≡ w / 2 ^ (64 - (12 * k + 12)) % 4096 → Sound counts f r → Few w n low counts (f / 64 + 1)
 few-more w n k low counts r f en h F ef S = record { passes = more }
   where
-    more : (s : List ℕ) (p m : ℕ) → Leading s p w → p + 12 * n ≤ 8 * length s → Counts s counts (variablesIn s) → inOrder (factsChecks s p low (n + m)) ≡ inOrder (factsChecks s (p + 12 * n) (f / 64 + 1) m)
+    more : (s : List ℕ) (p m : ℕ) → Leading s p w → p + 12 * n ≤ 8 * length s → Counts s counts (variablesIn s) → inOrder (factsChecks s p low (n + m)) ≡
+        inOrder (factsChecks s (p + 12 * n) (f / 64 + 1) m)
     more s p m L l C =
         let e1 : n + m ≡ k + suc m = omega arith in
         let e2 : p + 12 * n ≡ p + 12 * k + 12 = omega arith in
@@ -186,7 +189,8 @@ pub record Run (s : List ℕ) (from count at low left : ℕ) : Type 0 where
 pub run-start : (s : List ℕ) (from count : ℕ) → Run s from count from 0 count
 run-start s from count = record { within = omega arith; place = refl; checks = refl }
 
-module _ (s : List ℕ) (from count at low left w : ℕ) (counts : List ℕ) (r : ℕ) (I : Run s from count at low left) (L : Leading s at w) (there : from + 12 * count ≤ 8 * length s) (C : Counts s counts (variablesIn s)) where
+module _ (s : List ℕ) (from count at low left w : ℕ) (counts : List ℕ) (r : ℕ) (I : Run s from count at low left) (L : Leading s at w)
+    (there : from + 12 * count ≤ 8 * length s) (C : Counts s counts (variablesIn s)) where
   pub run-turn : 4 < left → Few w 4 low counts r → Run s from count (at + 48) r (left - 4)
   run-turn h F =
       let e : left ≡ 4 + (left - 4) = omega arith in
@@ -271,10 +275,14 @@ module _ (s : List ℕ) (p b : ℕ) (e : b ≡ bitsAt s p 20) where
       let f = split-20 in
       variable-rest s p (b / 16384) (done (b / 16384)) (sym (f .0)) (field-there s p 6 (omega arith)) (field-there s (p + 6) 1 (omega arith)) (initial f)
     where
-      goal : (b / 16384 ≡ bitsAt s p 6) × (b / 128 % 64 ≡ bitsAt s (p + 7) 6) × (b / 64 % 2 ≡ bitsAt s (p + 13) 1) × (b % 64 ≡ bitsAt s (p + 14) 6) → done (b / 16384) ≡ answer (inOrder (goalChecks s p (b / 16384))) (b / 16384)
-      goal f = skip _ _ _ _ (field-there s (p + 13) 1 (omega arith)) (skip _ _ _ _ (field-there s (p + 14) 6 (omega arith)) (skip _ _ _ _ (goal-right s p (b / 16384) (b / 64 % 2) (b % 64) (sym (f .2)) (sym (f .3)) (S .goal)) (pass-end (b / 16384))))
+      goal : (b / 16384 ≡ bitsAt s p 6) × (b / 128 % 64 ≡ bitsAt s (p + 7) 6) × (b / 64 % 2 ≡ bitsAt s (p + 13) 1) × (b % 64 ≡ bitsAt s (p + 14) 6) → done
+          (b / 16384) ≡ answer (inOrder (goalChecks s p (b / 16384))) (b / 16384)
+      goal f =
+          skip _ _ _ _ (field-there s (p + 13) 1 (omega arith))
+          (skip _ _ _ _ (field-there s (p + 14) 6 (omega arith)) (skip _ _ _ _ (goal-right s p (b / 16384) (b / 64 % 2) (b % 64) (sym (f .2)) (sym (f .3)) (S .goal)) (pass-end (b / 16384))))
 
-      initial : (b / 16384 ≡ bitsAt s p 6) × (b / 128 % 64 ≡ bitsAt s (p + 7) 6) × (b / 64 % 2 ≡ bitsAt s (p + 13) 1) × (b % 64 ≡ bitsAt s (p + 14) 6) → done (b / 16384) ≡ answer (inOrder (initialChecks s p (b / 16384))) (b / 16384)
+      initial : (b / 16384 ≡ bitsAt s p 6) × (b / 128 % 64 ≡ bitsAt s (p + 7) 6) × (b / 64 % 2 ≡ bitsAt s (p + 13) 1) × (b % 64 ≡ bitsAt s (p + 14) 6) → done
+          (b / 16384) ≡ answer (inOrder (initialChecks s p (b / 16384))) (b / 16384)
       initial f = skip _ _ _ _ (field-there s (p + 7) 6 (omega arith)) (skip _ _ _ _ (value-right (b / 128 % 64) (bitsAt s (p + 7) 6) (b / 16384) 4 (p + 7) (sym (f .1)) (S .initial)) (goal f))
 
 -- the facts of an action: the preconditions refuse, or pass and the effects say
@@ -283,7 +291,8 @@ module _ (s : List ℕ) (p pre : ℕ) (ep : pre ≡ preconditionsIn s p) where
   unfolding actionFactsChecks
   pre-refused r f b d e h = rw (← ep) (stops-stage r f _ _ b d e h)
 
-  pub eff-answer : (eff mid : ℕ) (a : Answer ℕ) → eff ≡ effectsIn s p → (inOrder (factsChecks s (p + 24) 0 pre) ≡ none) × (p + 24 + 12 * pre ≡ mid) → a ≡ answer (inOrder (factsChecks s mid 0 eff)) (mid + 12 * eff)
+  pub eff-answer : (eff mid : ℕ) (a : Answer ℕ) → eff ≡ effectsIn s p → (inOrder (factsChecks s (p + 24) 0 pre) ≡ none) × (p + 24 + 12 * pre ≡ mid) → a ≡ answer
+      (inOrder (factsChecks s mid 0 eff)) (mid + 12 * eff)
       → a ≡ answer (inOrder (actionFactsChecks s p)) (actionEnd s p)
   unfolding actionFactsChecks actionEnd effectsFrom
   eff-answer eff mid a ee e h = rw (← ep, ← ee, e .1) (skip-stage (factsChecks s (p + 24) 0 pre) (factsChecks s mid 0 eff) a (mid + 12 * eff) (e .0) h)
@@ -330,7 +339,8 @@ module _ (s : List ℕ) (from count at i : ℕ) (I : Behind s from count at i) w
   unfolding actionsChecks
   actions-step h = let e : count - i ≡ suc (count - (i + 1)) = omega arith in I .checks ∙ rw e refl
 
-  pub action-stops : (r : Number) (f : Refusal) (d : ℕ) → i < count → r ≡ Refused f → valueOf r ≡ answer (inOrder (actionChecks s at)) (actionEnd s at) → valueOf r ≡ answer (inOrder (actionsChecks s from count)) d
+  pub action-stops : (r : Number) (f : Refusal) (d : ℕ) → i < count → r ≡ Refused f → valueOf r ≡ answer (inOrder (actionChecks s at)) (actionEnd s at) →
+      valueOf r ≡ answer (inOrder (actionsChecks s from count)) d
   action-stops r f d h e k = rw (actions-step h) (stops-stage r f _ _ _ d e k)
 
   pub actions-turn : (end : ℕ) → i < count → (inOrder (actionChecks s at) ≡ none) × (actionEnd s at ≡ end) → Behind s from count end (i + 1)
@@ -384,10 +394,12 @@ module _ (s : List ℕ) (count : ℕ) (counts : List ℕ) (i : ℕ) (I : Seen s 
       let f : 22 + 20 * i + 20 ≡ 22 + 20 * (i + 1) = omega arith in
       I .checks ∙ rw (e, f) refl
 
-  pub variable-stops : (r : Number) (f : Refusal) (b d : ℕ) → i < count → r ≡ Refused f → valueOf r ≡ answer (inOrder (variableChecks s (22 + 20 * i))) b → valueOf r ≡ answer (inOrder (variablesChecks s 22 count)) d
+  pub variable-stops : (r : Number) (f : Refusal) (b d : ℕ) → i < count → r ≡ Refused f → valueOf r ≡ answer (inOrder (variableChecks s (22 + 20 * i))) b →
+      valueOf r ≡ answer (inOrder (variablesChecks s 22 count)) d
   variable-stops r f b d h e k = rw (variables-step h) (stops-stage r f _ _ b d e k)
 
-  pub variables-turn : (last : ℕ) → i < count → count ≤ 64 → (inOrder (variableChecks s (22 + 20 * i)) ≡ none) × (bitsAt s (22 + 20 * i) 6 ≡ last) → Seen s count (set counts i ((last + 1) % 256)) (i + 1)
+  pub variables-turn : (last : ℕ) → i < count → count ≤ 64 → (inOrder (variableChecks s (22 + 20 * i)) ≡ none) × (bitsAt s (22 + 20 * i) 6 ≡ last) → Seen s
+      count (set counts i ((last + 1) % 256)) (i + 1)
   unfolding countIn
   variables-turn last h k a =
       record {

@@ -15,6 +15,10 @@ pub record Counts (s counts : List ℕ) (n : ℕ) : Type 0 where
   pub right : (v : ℕ) → v < n → getD counts v 0 ≡ countIn s v
   pub behind : (v : ℕ) → n ≤ v → getD counts v 0 ≡ 0
 
+-- the count of variables, and their counts of values
+abbrev pub Known : List ℕ → ℕ → List ℕ → Type 0
+Known s n counts = (n ≡ variablesIn s) × (n ≤ 64) × Counts s counts n
+
 -- what the quick test of a fact of 12 bits tests
 pub record Sound (counts : List ℕ) (fact low : ℕ) : Type 0 where
   pub rises : low ≤ fact / 64

@@ -13,7 +13,7 @@ ghost use lib.ListN.{length};
 ghost use Rattle.planning.specs.Basics.{answer, done, inOrder, bitsAt};
 ghost use Rattle.planning.specs.Record.{variablesIn, actionsIn, preconditionsIn, effectsIn, actionEnd, actionsEnd, recordEnd, fieldCheck, variableChecks, variablesChecks, factChecks, factsChecks, actionChecks, actionsChecks, recordCheck};
 ghost use Rattle.answers.specs.Answers.{checkOf, valueOf};
-ghost use Rattle.record.specs.Stages.{actionFactsChecks, Counts, Few, SoundVariable, Sound, fromEnd, fromActions, fromVariables, fromActionCount, fromVariableCount, goalChecks, initialChecks};
+ghost use Rattle.record.specs.Stages.{actionFactsChecks, Counts, Known, Few, SoundVariable, Sound, fromEnd, fromActions, fromVariables, fromActionCount, fromVariableCount, goalChecks, initialChecks};
 
 // A field, or refusal 1 at its first bit.
 fn take(bytes: &[u8], at: u32, width: usize) -> Number
@@ -111,7 +111,7 @@ fn check_action_facts(
     variables: u32,
     counts: &[u8; 64],
 ) -> Number
-    requires { ⌜ (at ≤ 398000) × (pre ≡ preconditionsIn (now bytes) at) × (eff ≡ effectsIn (now bytes) at) × (pre ≤ 15) × (eff ≤ 15) × (variables ≡ variablesIn (now bytes)) × (variables ≤ 64) × Counts (now bytes) (now counts) variables ⌝ }
+    requires { ⌜ (at ≤ 398000) × (pre ≡ preconditionsIn (now bytes) at) × (eff ≡ effectsIn (now bytes) at) × (pre ≤ 15) × (eff ≤ 15) × Known (now bytes) variables (now counts) ⌝ }
     ensures { λ r. ⌜ valueOf r ≡ answer (inOrder (actionFactsChecks (now (bytes .entry)) at)) (actionEnd (now (bytes .entry)) at) ⌝ }
 {
     let p = check_facts(bytes, at + 24, pre, variables, counts);

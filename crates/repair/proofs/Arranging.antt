@@ -1,10 +1,10 @@
 -- Moves for wanted facts, and an action behind them: the facts are a part of the loaded task, the action's preconditions.
 use mathlib.Core.Path.{_≡_, refl, sym, ap, _∙_, subst}
-use mathlib.Core.Bool.{Bool, true, false}
-use mathlib.Core.List.{List, [], _++_, append-nil, append-assoc, map}
+use mathlib.Core.Bool.{true, false}
+use mathlib.Core.List.{List, [], _∷_, _++_, append-nil, map}
 use Prim.Native.Nat.{ℕ, _+_, _-_, _<_, _≤_}
 use native.Mathlib.Omega.{arith}
-use lib.ListN.{length, take, drop, length-drop}
+use lib.ListN.{length, getD, take, drop, length-drop}
 use lib.Seq.{take-length, take-add, take-at, drop-at, getD-take, getD-drop, length-take-le, take-append-le}
 use Rattle.planning.specs.Record.{Fact, Task}
 use Rattle.planning.specs.Runs.{State, variables, actions, count, act, black}
@@ -17,7 +17,7 @@ use Rattle.paths.specs.declared.Written.{Written}
 use Rattle.paths.specs.declared.Written.the-variants.{Upto, Long}
 use Rattle.passes.specs.Passes.{factsOf}
 use Rattle.passes.proofs.Putting.{pre-fitting, put-as}
-use Rattle.repair.specs.Repairs.{Wanted, Lent, filled, moved}
+use Rattle.repair.specs.Repairs.{Wanted, Lent, filled, moved, stepsFor, lastMoves, stageOf}
 
 pub moves-none : (t : Task) (K s : State) (w : List Fact) (plan : List ℕ) (a : ℕ) → blackMet (black t) s w ≡ true → a ≤ length plan → Put plan plan a (moved t K s w) (Upto a)
 unfolding moved
@@ -103,3 +103,14 @@ module _ (task : List ℕ) (L : Loaded task) (k from to i : ℕ) (ek : k ≡ i) 
 
   pub moves-pre : (K s : State) (plan plan′ : List ℕ) (a : ℕ) (r : Written) → Put plan plan′ a (moved t K s (factsOf part)) r → Put plan plan′ a (moved t K s (act t i .pre)) r
   moves-pre K s plan plan′ a r p = subst (λ (w : List Fact). Put plan plan′ a (moved t K s w) r) part-pre p
+
+-- the steps of a stage, where nothing is left of the relaxed plan; where something is
+pub stage-last : (t : Task) (K s : State) (l : List ℕ) → length l ≡ 0 → (plan plan′ : List ℕ) (a : ℕ) (r : Written) → Put plan plan′ a (lastMoves t K s) r → Put plan plan′ a (stageOf t K s l) r
+unfolding stageOf
+stage-last t K s [] e plan plan′ a r p = p
+stage-last t K s (i ∷ l) e plan plan′ a r p = absurd (omega (arith, e))
+
+pub stage-first : (t : Task) (K s : State) (l : List ℕ) → (length l ≡ 0 → ⊥) → (plan plan′ : List ℕ) (a : ℕ) (r : Written) → Put plan plan′ a (stepsFor t K s (getD l 0 0)) r → Put plan plan′ a (stageOf t K s l) r
+unfolding stageOf
+stage-first t K s [] e plan plan′ a r p = absurd (e refl)
+stage-first t K s (i ∷ l) e plan plan′ a r p = p

@@ -1,16 +1,14 @@
 -- Entries of the lists that passes build are actions; parts of a list that was written.
-use mathlib.Core.Path.{_≡_, refl, sym, ap, _∙_, subst}
 use mathlib.Core.Bool.{Bool, true, false, _&&_, _||_}
 use mathlib.Core.List.{List, [], _∷_, _++_}
 use mathlib.Core.Option.{Option, none, some}
-use Prim.Native.Nat.{ℕ, zero, suc, _+_, _-_, _<_, _≤_}
+use Prim.Native.Nat.{ℕ, zero, suc, _+_, _-_, _<_}
 use native.Mathlib.Omega.{arith}
 use lib.Dec.{T, eqb}
-use lib.ListN.{length, getD, take, drop}
-use lib.Seq.{take-add, take-at, drop-at, length-take-le}
+use lib.ListN.{length, getD}
 use Rattle.planning.specs.Basics.{first, reach}
 use Rattle.planning.specs.Record.{Fact, Action, Task}
-use Rattle.planning.specs.Runs.{State, Mode, look, variables, actions, count, act, black}
+use Rattle.planning.specs.Runs.{State, Mode, look, variables, actions, count, act, black, goals}
 use Rattle.planning.specs.Painting.{target}
 use Rattle.planning.specs.Repair.{usableArc, adjacent, pathIn, shortest, toward, after, pass, fill, ready, clientsFirst, order, value, blackMet}
 use Rattle.planning.proofs.Tests.{and-l}
@@ -18,14 +16,14 @@ use Rattle.planning.proofs.Below.{First?, first-is}
 use Rattle.planning.proofs.Steps.{All, all-append}
 use Rattle.passes.specs.Passes.{passOf, Entries}
 use Rattle.paths.specs.Paths.{pathsOf}
-use Rattle.repair.specs.Repairs.{fillFrom, filled, moved, stepsFor}
+use Rattle.repair.specs.Repairs.{fillFrom, filled, moved, stageOf}
 
 all-entries : (n : ℕ) (l : List ℕ) → All (λ i. i < n) l → (k : ℕ) → k < length l → getD l k 0 < n
 all-entries n [] a k h = absurd (omega arith)
 all-entries n (x ∷ l) a zero h = a .0
 all-entries n (x ∷ l) a (suc k) h = all-entries n l (a .1) k (omega arith)
 
-entries-all : (n : ℕ) (l : List ℕ) → ((k : ℕ) → k < length l → getD l k 0 < n) → All (λ i. i < n) l
+pub entries-all : (n : ℕ) (l : List ℕ) → ((k : ℕ) → k < length l → getD l k 0 < n) → All (λ i. i < n) l
 entries-all n [] e = tt
 entries-all n (x ∷ l) e = (e 0 (omega arith), entries-all n l (λ k h. e (suc k) (omega arith)))
 
@@ -94,14 +92,20 @@ unfolding fill
 fill-entries t K s [] l w e = e
 fill-entries t K s (v ∷ vs) l w e = fill-entries t K s vs (passOf t K v (value (count t) s v) l w) w (pass-entries t K v (value (count t) s v) l w e)
 
-pub steps-entries : (t : Task) (K s : State) (i : ℕ) → i < actions t → Entries t (stepsFor t K s i)
+moved-entries : (t : Task) (K s : State) (w : List Fact) → Entries t (moved t K s w)
 unfolding moved filled
-steps-entries t K s i b = append-entries t (moved t K s (act t i .pre)) (i ∷ []) (go (blackMet (black t) s (act t i .pre))) one
+moved-entries t K s w = go (blackMet (black t) s w)
   where
-    go : (m : Bool) → Entries t (elim m [ true ↦ [] | false ↦ filled t K s (act t i .pre) ])
+    go : (m : Bool) → Entries t (elim m [ true ↦ [] | false ↦ filled t K s w ])
     go true = λ k h. absurd (omega arith)
-    go false = fill-entries t K s (order t) [] (act t i .pre) (λ k h. absurd (omega arith))
+    go false = fill-entries t K s (order t) [] w (λ k h. absurd (omega arith))
 
+-- the steps of a stage
+pub stage-entries : (t : Task) (K s : State) (l : List ℕ) → Entries t l → Entries t (stageOf t K s l)
+unfolding stageOf
+stage-entries t K s [] e = moved-entries t K s (goals t)
+stage-entries t K s (i ∷ l) e = append-entries t (moved t K s (act t i .pre)) (i ∷ []) (moved-entries t K s (act t i .pre)) one
+  where
     one : Entries t (i ∷ [])
-    one zero h = b
+    one zero h = e 0 (omega arith)
     one (suc k) h = absurd (omega arith)

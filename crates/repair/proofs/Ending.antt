@@ -1,22 +1,18 @@
 -- The goals as a front part of a list of facts, and the answer from the front parts of both lists.
 use mathlib.Core.Path.{_≡_, refl, sym, ap, _∙_, subst}
-use mathlib.Core.List.{List, [], _++_, map}
+use mathlib.Core.List.{List, _++_, map}
 use Prim.Native.Nat.{ℕ, _<_, _≤_, min}
 use native.Mathlib.Omega.{arith}
-use lib.Dec.{leb, leb→le}
-use lib.ListN.{length, getD, take}
+use lib.ListN.{length, take}
 use lib.Seq.{take-length, getD-take, length-take-le, take-append-le}
-use Rattle.planning.specs.Basics.{answer}
+use Rattle.planning.specs.Basics.{answer, refused, done}
 use Rattle.planning.specs.Record.{Fact, Task}
-use Rattle.planning.specs.Runs.{State, variables, count, goals}
-use Rattle.planning.specs.Calls.{capacity, capacityOf, roomCheck}
-use Rattle.planning.proofs.Checks.{check-none}
+use Rattle.planning.specs.Runs.{State, holds, actions, variables, count, goals}
+use Rattle.planning.specs.Newest.{Values, alone}
+use Rattle.planning.specs.Repair.{repaired}
+use Rattle.planning.specs.Calls.{capacity, capacityOf, planned}
 use Rattle.planning.proofs.Facts.{look-some}
 use Rattle.planning.proofs.Formed.{Formed, sorted-has, goals-sorted}
-use Rattle.answers.specs.Answers.{valueOf}
-use Rattle.answers.specs.declared.Number.{Number}
-use Rattle.answers.specs.declared.Number.the-variants.{Value, Refused}
-use Rattle.answers.proofs.Stages.{answer-done}
 use Rattle.lists.proofs.Laying.{capacity-le, room-fits, room-short}
 use Rattle.task.specs.Task.{factOf, factsIn}
 use Rattle.state.specs.Sets.{GoalsOf}
@@ -24,10 +20,15 @@ use Rattle.state.specs.declared.Goals.{Goals}
 use Rattle.state.proofs.Listing.{between-inside}
 use Rattle.paths.specs.Paths.{Put}
 use Rattle.paths.specs.declared.Written.{Written}
-use Rattle.paths.specs.declared.Written.the-variants.{Upto, Long}
 use Rattle.passes.specs.Passes.{Fitting, factsOf}
-use Rattle.passes.proofs.Putting.{put-as}
-use Rattle.repair.specs.Repairs.{Wanted, Lent, moved, Held}
+use Rattle.repair.specs.declared.Repaired.{Repaired}
+use Rattle.repair.specs.Answers.{answerOf, Held}
+use Rattle.repair.specs.declared.Counts.{Counts}
+use Rattle.repair.specs.Counting.{judgedBy}
+use Rattle.repair.specs.Repairs.{Wanted, Lent, moved}
+use Rattle.repair.proofs.Below.{entries-all}
+use Rattle.repair.proofs.Counting.{Counted, counted-verdict}
+use Rattle.repair.proofs.Repairing.{Repairing, repairing-whole}
 
 -- the goals
 module _ (t : Task) (F : Formed t) (g : Goals) (G : GoalsOf t g) (few : g .count ≤ length (g .facts)) where
@@ -53,57 +54,41 @@ module _ (t : Task) (F : Formed t) (g : Goals) (G : GoalsOf t g) (few : g .count
 
 -- what the front parts of the two lists say of the whole
 module _ (plan work : List ℕ) (less room : ℕ) (ea : less ≡ min (length plan) (length work)) (eb : room ≡ capacity less) where
-  room-is : room ≡ capacityOf (length plan) (length work)
+  pub room-is : room ≡ capacityOf (length plan) (length work)
   unfolding capacityOf
   room-is = eb ∙ ap capacity ea
 
   pub room-bounds : (room ≤ length plan) × (room ≤ length work) × (room ≤ 32768)
   room-bounds = let c = capacity-le less in (omega (arith, c), omega (arith, c), omega (arith, c))
 
-  front-length : length (take room plan) ≡ room
+  pub front-length : length (take room plan) ≡ room
   front-length = length-take-le room plan (room-bounds .0)
 
   pub fronts-lent : Lent (take room plan) (take room work) 0
   fronts-lent = record { same = length-take-le room work (room-bounds .1) ∙ sym front-length; within = omega arith }
 
--- the repair of the front parts, and the answer
-pub record Ended (l plan work : List ℕ) (less room : ℕ) (ys : List ℕ) (r : Written) : Type 0 where
-  pub least : less ≡ min (length plan) (length work)
-  pub is-room : room ≡ capacity less
-  pub long : length ys ≡ length (take room plan)
-  pub put : Put (take room plan) ys 0 l r
-
-module _ {l plan work : List ℕ} {less room : ℕ} {ys : List ℕ} {r : Written} (E : Ended l plan work less room ys r) where
-  pub ends-long : r ≡ Long → (d : List ℕ) (p : ℕ) → p ≡ room → Held l d (capacityOf (length plan) (length work)) (Refused (record { number = 11; place = p }))
+-- the list l in the front of the plan list d: the answer, or 11
+module _ (t : Task) (l d : List ℕ) (room : ℕ) (r : Repaired) where
+  pub held-whole : answerOf r ≡ done (planned t l) → (n : ℕ) → n ≤ room → n ≤ length d → take n d ≡ l → Held t l d room r
   unfolding answer
-  ends-long z d p e =
-      let y = put-as (take room plan) ys 0 l r Long z (E .put) in
-      let f = front-length plan work less room (E .least) (E .is-room) in
-      rw (← room-is plan work less room (E .least) (E .is-room))
-      (record { says = rw (room-short (length l) room (omega (arith, y, f)), e) refl; fills = λ n w. let x : _≡_ {A = ℕ} 0 1 = cc in absurd (omega arith) })
+  held-whole e n h b q =
+      let m : length l ≡ n = ap length (sym q) ∙ length-take-le n d b in
+      record { says = e ∙ rw (room-fits (length l) room (omega (arith, m))) refl; fills = λ _. rw m q }
 
-  module _ (n : ℕ) (z : r ≡ Upto n) where
-    told : Put (take room plan) ys 0 l (Upto n)
-    told = put-as (take room plan) ys 0 l r (Upto n) z (E .put)
+  pub held-long : answerOf r ≡ refused 11 room → room < length l → Held t l d room r
+  unfolding answer
+  held-long e h = record { says = e ∙ rw (room-short (length l) room h) refl; fills = λ b. absurd (omega arith) }
 
-    within : n ≤ room
-    within = omega (arith, told .1, front-length plan work less room (E .least) (E .is-room))
+-- the same of the front part ys of the plan list
+pub held-front : (t : Task) (l ys rest : List ℕ) (n : ℕ) → n ≡ length ys → (room : ℕ) → n ≡ room → (r : Repaired) → Held t l ys n r → Held t l (ys ++ rest) room r
+held-front t l ys rest n en room e r H = rw (← e) (record { says = H .says; fills = λ b. take-append-le (length l) ys rest (omega (arith, en)) ∙ H .fills b })
 
-    pub ends-small : n ≤ 32768
-    ends-small = omega (arith, within, room-bounds plan work less room (E .least) (E .is-room))
-
-    pub ends-held : (rest : List ℕ) (m : ℕ) → m ≡ n → Held l (ys ++ rest) (capacityOf (length plan) (length work)) (Value m)
-    unfolding answer
-    ends-held rest m e =
-        let b : m ≡ length l = omega (arith, told .0) in
-        rw (← room-is plan work less room (E .least) (E .is-room)) (record {
-          says = rw (room-fits (length l) room (omega (arith, told .0, within)), b) refl;
-          fills = λ k w. let x : k ≡ n = cc in rw x (take-append-le n ys rest (omega (arith, told .1, E .long)) ∙ told .2);
-        })
-
--- what a caller reads off
-pub held-value : (l d : List ℕ) (room n : ℕ) (r : Number) → Held l d room r → r ≡ Value n → (n ≡ length l) × (n ≤ room) × (take n d ≡ l)
-unfolding roomCheck
-held-value l d room n r H e =
-    let p = answer-done (roomCheck (length l) room) (length l) n (sym (H .says) ∙ ap valueOf e) in
-    (sym (p .1), omega (arith, p .1, leb→le (length l) room (check-none (leb (length l) room) 11 room (p .0))), H .fills n e)
+-- the repair where every step is taken and every stage placed
+pub repairing-held : {t : Task} {l₀ plan₀ plan memo work sets ever : List ℕ} {f : Values} {c : Counts} {a j : ℕ}
+    → Repairing t l₀ plan₀ plan memo work sets ever f c a j → Formed t → c .steps ≡ a → length l₀ < j
+    → (r : Repaired) → answerOf r ≡ done (judgedBy (holds (alone f) (goals t)) c) → Held t (repaired t l₀) plan (length plan₀) r
+repairing-held {t = t} {l₀ = l₀} {plan₀ = plan₀} {plan = plan} {f = f} {c = c} {a = a} G F k h r e =
+    let whole = repairing-whole G k h in
+    let counts : Counted t (take a plan) f c = subst (λ (n : ℕ). Counted t (take n plan) f c) k (G .counts) in
+    let verdict = counted-verdict F counts (entries-all (actions t) (take a plan) (G .entries)) in
+    held-whole t (repaired t l₀) plan (length plan₀) r (e ∙ ap done (verdict ∙ ap (planned t) whole)) a (G .within) (omega (arith, G .within, G .long)) whole

@@ -2,5 +2,6 @@ pub mod Values
 pub mod Below
 pub mod Filling
 pub mod Arranging
+pub mod Counting
 pub mod Repairing
 pub mod Ending

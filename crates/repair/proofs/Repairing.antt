@@ -1,155 +1,263 @@
--- The repair in the middle. The facts held ever, which the code keeps, are those of R and B (`knows`): the definition's `ever` is
--- whatever it is, and the code needs only what is known of it.
+-- The repair in the middle. Of the steps placed, the first ones are taken: state, newest values and counts are those behind them, and
+-- what is left is the repair of the rest of the relaxed plan from the state behind the others. The facts held ever, which the code keeps,
+-- are those of R and B (`knows`): the definition's `ever` is whatever it is, and the code needs only what is known of it.
 use mathlib.Core.Path.{_≡_, refl, sym, ap, _∙_, subst, fun-ext}
-use mathlib.Core.Bool.{Bool, true, false}
-use mathlib.Core.List.{List, _++_, append-assoc}
-use Prim.Native.Nat.{ℕ, _+_, _<_, _≤_}
+use mathlib.Core.List.{List, [], _∷_, _++_, append-nil, append-assoc}
+use Prim.Native.Nat.{ℕ, zero, suc, _+_, _-_, _*_, _<_, _≤_}
 use native.Mathlib.Numerals.{add-one}
 use native.Mathlib.Omega.{arith}
-use lib.Dec.{T}
-use lib.ListN.{length, getD, take, drop, length-append}
-use lib.Seq.{slice, drop-cons, drop-length, drop-at, length-take-le}
+use lib.ListN.{length, getD, take, drop, length-append, length-drop}
+use lib.Seq.{slice, slice-cons, slice-empty, drop-cons, drop-length, drop-at, take-at, take-take, take-suc, take-all, getD-take, getD-drop, length-take-le}
 use Rattle.planning.specs.Record.{Fact, Task}
-use Rattle.planning.specs.Runs.{State, Mode, relaxed, run, initial, goals, actions, count, act, black}
-use Rattle.planning.specs.Repair.{known, everAfter, moves, order, repairFrom, repaired}
+use Rattle.planning.specs.Runs.{State, Mode, step, relaxed, run, runBy, initial, goals, actions, count, act, black}
+use Rattle.planning.specs.Newest.{Values, initialValues, newer}
+use Rattle.planning.specs.Repair.{known, everAfter, moves, order, stages, repaired}
 use Rattle.planning.proofs.Facts.{_⊆_}
 use Rattle.planning.proofs.Known.{_≈_, known-start, known-run, everAfter-now}
+use Rattle.planning.proofs.Repair.{repairFrom, repairFrom-nil, repairFrom-cons}
+use Rattle.planning.proofs.Formed.{Formed}
 use Rattle.state.specs.Sets.{setsOf}
 use Rattle.paths.specs.Paths.{Memo, Put}
 use Rattle.paths.specs.declared.Written.{Written}
 use Rattle.paths.specs.declared.Written.the-variants.{Upto, Long}
-use Rattle.repair.specs.Repairs.{Lent, filled, moved, stepsFor}
 use Rattle.paths.proofs.Needing.{bool-same}
 use Rattle.passes.specs.Passes.{Entries, Blank}
 use Rattle.passes.proofs.Putting.{put-as, blank-memo}
-use Rattle.repair.proofs.Below.{steps-entries}
+use Rattle.repair.specs.declared.Counts.{Counts}
+use Rattle.repair.specs.Counting.{Onward, Small, Few}
+use Rattle.repair.specs.Repairs.{Lent, filled, moved, stageOf}
+use Rattle.repair.proofs.Below.{stage-entries, append-entries}
+use Rattle.repair.proofs.Counting.{Counted, counted-none, counted-few, counted-behind}
 
 same-facts : (s t : State) → s ≈ t → s ≡ t
 same-facts s t h = fun-ext (λ v. fun-ext (λ d. bool-same (s v d) (t v d) (h .0 v d) (h .1 v d)))
 
--- the rest of the repair
-abbrev pub restOf : Task → List ℕ → State → State → List ℕ
+-- the repair of the rest l of the relaxed plan; what is behind its first stage; what is behind the first j stages
+abbrev restOf : Task → List ℕ → State → State → List ℕ
 restOf t l s ever = repairFrom (act t) (actions t) (black t) (count t) (order t) (goals t) l s ever
 
-pub moves-is : (t : Task) (K s ever : State) (w : List Fact) → known (black t) s ever ≡ K → moves (act t) (actions t) (black t) (count t) (order t) s ever w ≡ moved t K s w
+unfoldable pub behind : Task → List ℕ → State → State → List ℕ
+behind t [] s ever = []
+behind t (i ∷ l) s ever = restOf t l s ever
+
+unfoldable pub leftOf : Task → List ℕ → ℕ → State → State → List ℕ
+leftOf t l zero s ever = restOf t l s ever
+leftOf t l (suc j) s ever = behind t (drop j l) s ever
+
+moves-is : (t : Task) (K s ever : State) (w : List Fact) → known (black t) s ever ≡ K → moves (act t) (actions t) (black t) (count t) (order t) s ever w ≡ moved t K s w
 unfolding moves moved filled
 moves-is t K s ever w e = rw (← e) refl
 
-pub record Repairing (t : Task) (l₀ plan₀ plan memo work sets ever : List ℕ) (a j : ℕ) : Type 0 where
+rest-stage : (t : Task) (K s ever : State) → known (black t) s ever ≡ K → (l : List ℕ)
+    → let k : List ℕ = stageOf t K s l in restOf t l s ever ≡ k ++ behind t l (run (act t) (black t) k s) (everAfter (act t) (black t) k s ever)
+unfolding stageOf behind
+rest-stage t K s ever e [] =
+    repairFrom-nil (act t) (actions t) (black t) (count t) (order t) (goals t) s ever ∙ moves-is t K s ever (goals t) e ∙ sym (append-nil (moved t K s (goals t)))
+rest-stage t K s ever e (i ∷ l) =
+    repairFrom-cons (act t) (actions t) (black t) (count t) (order t) (goals t) i l s ever
+    ∙ ap (λ (j : List ℕ). let k : List ℕ = j ++ (i ∷ []) in k ++ restOf t l (run (act t) (black t) k s) (everAfter (act t) (black t) k s ever)) (moves-is t K s ever (act t i .pre) e)
+
+module _ (t : Task) (l : List ℕ) (j : ℕ) (s ever : State) where
+  left-here : j ≤ length l → leftOf t l j s ever ≡ restOf t (drop j l) s ever
+  unfolding leftOf behind
+  left-here h = go j h
+    where
+      go : (j : ℕ) → j ≤ length l → leftOf t l j s ever ≡ restOf t (drop j l) s ever
+      go zero h = refl
+      go (suc k) h = rw (drop-cons l k 0 (omega arith)) refl
+
+  left-next : leftOf t l (j + 1) s ever ≡ behind t (drop j l) s ever
+  unfolding leftOf
+  left-next = rw (add-one j) refl
+
+  left-none : length l < j → j ≤ length l + 1 → leftOf t l j s ever ≡ []
+  unfolding leftOf behind
+  left-none h b =
+      let e : j ≡ suc (length l) = omega arith in
+      rw (e, drop-length l) refl
+
+pub record Repairing (t : Task) (l₀ plan₀ plan memo work sets ever : List ℕ) (f : Values) (c : Counts) (a j : ℕ) : Type 0 where
   pub held : State
   pub within : a ≤ length plan₀
   pub long : length plan ≡ length plan₀
   pub rows : Memo t (setsOf ever) memo
   pub work-long : length work ≡ length plan₀
-  pub place : j ≤ length l₀
+  pub place : j ≤ length l₀ + 1
+  pub taken : c .steps ≤ a
+  pub entries : Entries t (take a plan)
   pub below : setsOf sets ⊆ held
   pub knows : known (black t) (setsOf sets) held ≡ setsOf ever
-  pub so-far : repaired t l₀ ≡ take a plan ++ restOf t (drop j l₀) (setsOf sets) held
+  pub counts : Counted t (take (c .steps) plan) f c
+  pub so-far :
+    repaired t l₀ ≡ take a plan ++ leftOf t l₀ j (run (act t) (black t) (slice (c .steps) a plan) (setsOf sets)) (everAfter (act t) (black t) (slice (c .steps) a plan) (setsOf sets) held)
 
-pub repairing-start : (t : Task) (l₀ plan memo work sets ever : List ℕ) → Blank memo → Lent plan work 0
-    → setsOf sets ≡ initial t → setsOf ever ≡ initial t → Repairing t l₀ plan plan memo work sets ever 0 0
-unfolding repaired
-repairing-start t l₀ plan memo work sets ever B L es ee = record {
+pub repairing-start : (t : Task) (l₀ plan memo work sets ever : List ℕ) (f : Values) → Blank memo → Lent plan work 0
+    → setsOf sets ≡ initial t → setsOf ever ≡ initial t → f ≡ initialValues t → Repairing t l₀ plan plan memo work sets ever f (record { steps = 0; runs = 0; cost = 0 }) 0 0
+unfolding repaired stages leftOf runBy everAfter
+repairing-start t l₀ plan memo work sets ever f B L es ee ef = record {
   held = initial t;
   within = omega arith;
   long = refl;
   rows = blank-memo t (setsOf ever) memo B;
   work-long = L .same;
   place = omega arith;
+  taken = omega arith;
+  entries = λ k h. absurd (omega arith);
   below = rw es (λ v d h. h);
   knows = rw (es, ee) (sym (same-facts (initial t) (known (black t) (initial t) (initial t)) (known-start (black t) (initial t))));
+  counts = counted-none t f ef;
   so-far = rw es refl;
 }
 
-module _ {t : Task} {l₀ plan₀ plan memo work sets ever : List ℕ} {a j : ℕ} (G : Repairing t l₀ plan₀ plan memo work sets ever a j) where
-  abbrev S : State
-  S = setsOf sets
-
-  abbrev K : State
-  K = setsOf ever
-
+module _ {t : Task} {l₀ plan₀ plan memo work sets ever : List ℕ} {f : Values} {c : Counts} {a j : ℕ} (G : Repairing t l₀ plan₀ plan memo work sets ever f c a j) where
   pub repairing-lent : Lent plan work a
   repairing-lent = record { same = omega (arith, G .work-long, G .long); within = omega (arith, G .within, G .long) }
+
+  pub repairing-few : Formed t → length plan₀ ≤ 32768 → Few c
+  repairing-few F h = counted-few F (G .counts) (omega (arith, length-take-le (c .steps) plan (omega (arith, G .taken, G .within, G .long)), G .taken, G .within))
 
   whole-length : (l : List ℕ) → repaired t l₀ ≡ take a plan ++ l → length (repaired t l₀) ≡ a + length l
   whole-length l e =
       let taken : length (take a plan) ≡ a = length-take-le a plan (omega (arith, G .within, G .long)) in
       ap length e ∙ length-append (take a plan) l ∙ ap (λ (x : ℕ). x + length l) taken
 
-  -- the moves for the goals were written
-  module _ (h : length l₀ ≤ j) where
-    rest-last : restOf t (drop j l₀) S (G .held) ≡ moved t K S (goals t)
-    unfolding repairFrom
-    rest-last =
-        let z : j ≡ length l₀ = omega (arith, G .place) in
-        rw (z, drop-length l₀, moves-is t K S (G .held) (goals t) (G .knows)) refl
+  -- every step placed is taken
+  module _ (k : c .steps ≡ a) where
+    so-far′ : repaired t l₀ ≡ take a plan ++ leftOf t l₀ j (setsOf sets) (G .held)
+    unfolding runBy everAfter
+    so-far′ = G .so-far ∙ rw (k, slice-empty a plan) refl
 
-    so-far″ : repaired t l₀ ≡ take a plan ++ moved t K S (goals t)
-    so-far″ = G .so-far ∙ rw rest-last refl
+    -- and every stage placed
+    pub repairing-whole : length l₀ < j → take a plan ≡ repaired t l₀
+    repairing-whole h = sym (so-far′ ∙ ap (λ (l : List ℕ). take a plan ++ l) (left-none t l₀ j (setsOf sets) (G .held) h (G .place)) ∙ append-nil (take a plan))
 
-    pub repairing-end : (plan′ : List ℕ) (r : Written) → Put plan plan′ a (moved t K S (goals t)) r → Put plan₀ plan′ 0 (repaired t l₀) r
-    repairing-end plan′ (Upto x) p = (omega (arith, p .0, whole-length (moved t K S (goals t)) so-far″), omega (arith, p .1, G .long), p .2 ∙ sym so-far″)
-    repairing-end plan′ Long p = omega (arith, p, G .long, whole-length (moved t K S (goals t)) so-far″)
+  -- a step is left: it is the action i
+  module _ (k : c .steps < a) (i : ℕ) (ei : i ≡ getD plan (c .steps) 0) where
+    bound : a ≤ length plan
+    bound = omega (arith, G .within, G .long)
 
--- the steps of the action at j were written
-pub record Arranged (t : Task) (l₀ plan₀ plan memo work sets ever : List ℕ) (a j : ℕ) (plan′ : List ℕ) (r : Written) : Type 0 where
-  pub start : Repairing t l₀ plan₀ plan memo work sets ever a j
-  pub here : j < length l₀
+    pub repairing-below : i < actions t
+    repairing-below = rw (ei, ← getD-take a plan (c .steps) 0 k) (G .entries (c .steps) (omega (arith, length-take-le a plan bound)))
+
+    pub repairing-small : Formed t → length plan₀ ≤ 32768 → Small c
+    repairing-small F h = record { few = repairing-few F h; more = omega (arith, k, G .within) }
+
+    pub repairing-step : Formed t → (memo′ sets′ ever′ : List ℕ) (f′ : Values) (c′ : Counts) (m : Mode) → m ≡ black t → Memo t (setsOf ever′) memo′
+        → setsOf sets′ ≡ step m (act t i) (setsOf sets) → setsOf ever′ ≡ step relaxed (act t i) (setsOf ever) → Onward (act t i) f c c′ → f′ ≡ newer (act t i) f
+        → Repairing t l₀ plan₀ plan memo′ work sets′ ever′ f′ c′ a j
+    unfolding runBy everAfter
+    repairing-step F memo′ sets′ ever′ f′ c′ m em rows′ es ee O ef =
+        let now : setsOf sets′ ≡ step (black t) (act t i) (setsOf sets) = es ∙ rw em refl in
+        let held′ = everAfter (act t) (black t) (i ∷ []) (setsOf sets) (G .held) in
+        let later = known-run (act t) (black t) (i ∷ []) (setsOf sets) (G .held) (G .below) in
+        let same = same-facts (run (act t) relaxed (i ∷ []) (known (black t) (setsOf sets) (G .held))) (known (black t) (run (act t) (black t) (i ∷ []) (setsOf sets)) held′) later in
+        let more : take (c .steps + 1) plan ≡ take (c .steps) plan ++ (i ∷ []) = rw (add-one (c .steps), ei) (take-suc plan (c .steps) 0 (omega arith)) in
+        let cut : slice (c .steps) a plan ≡ i ∷ slice (c .steps + 1) a plan = rw (add-one (c .steps), ei) (slice-cons (c .steps) a plan 0 k bound) in
+        record {
+          held = held′;
+          within = G .within;
+          long = G .long;
+          rows = rows′;
+          work-long = G .work-long;
+          place = G .place;
+          taken = omega (arith, O .steps, k);
+          entries = G .entries;
+          below = rw now (everAfter-now (act t) (black t) (i ∷ []) (setsOf sets) (G .held) (G .below));
+          knows = rw now (sym same ∙ rw (G .knows) (sym ee));
+          counts = subst (λ (l : List ℕ). Counted t l f′ c′) (sym (ap (λ (n : ℕ). take n plan) (O .steps) ∙ more)) (counted-behind F (G .counts) i c′ f′ O ef);
+          so-far = G .so-far ∙ rw (O .steps, cut, now) refl;
+        }
+
+-- the steps of stage j were written; of the relaxed plan the part `rest` was handed on
+pub record Arranged (t : Task) (l₀ plan₀ plan memo work sets ever : List ℕ) (f : Values) (c : Counts) (a j : ℕ) (rest plan′ : List ℕ) (r : Written) : Type 0 where
+  pub start : Repairing t l₀ plan₀ plan memo work sets ever f c a j
+  pub taken : c .steps ≡ a
+  pub here : j ≤ length l₀
+  pub part : rest ≡ drop j l₀
   pub long : length plan′ ≡ length plan
-  pub put : Put plan plan′ a (stepsFor t (setsOf ever) (setsOf sets) (getD l₀ j 0)) r
+  pub put : Put plan plan′ a (stageOf t (setsOf ever) (setsOf sets) rest) r
 
-module _ {t : Task} {l₀ plan₀ plan memo work sets ever : List ℕ} {a j : ℕ} {plan′ : List ℕ} {r : Written} (R : Arranged t l₀ plan₀ plan memo work sets ever a j plan′ r) where
-  abbrev G : Repairing t l₀ plan₀ plan memo work sets ever a j
+module _ {t : Task} {l₀ plan₀ plan memo work sets ever : List ℕ} {f : Values} {c : Counts} {a j : ℕ} {rest plan′ : List ℕ} {r : Written}
+    (R : Arranged t l₀ plan₀ plan memo work sets ever f c a j rest plan′ r) where
+  abbrev G : Repairing t l₀ plan₀ plan memo work sets ever f c a j
   G = R .start
 
   abbrev steps : List ℕ
-  steps = stepsFor t (setsOf ever) (setsOf sets) (getD l₀ j 0)
+  steps = stageOf t (setsOf ever) (setsOf sets) rest
 
   abbrev next : List ℕ
-  next = restOf t (drop (j + 1) l₀) (run (act t) (black t) steps (setsOf sets)) (everAfter (act t) (black t) steps (setsOf sets) (G .held))
+  next = behind t rest (run (act t) (black t) steps (setsOf sets)) (everAfter (act t) (black t) steps (setsOf sets) (G .held))
 
-  rest-next : restOf t (drop j l₀) (setsOf sets) (G .held) ≡ steps ++ next
-  unfolding repairFrom
-  rest-next = rw (drop-cons l₀ j 0 (R .here), add-one j, moves-is t (setsOf ever) (setsOf sets) (G .held) (act t (getD l₀ j 0) .pre) (G .knows)) refl
+  so-far″ : repaired t l₀ ≡ take a plan ++ (steps ++ next)
+  so-far″ = so-far′ G (R .taken) ∙ ap (λ (l : List ℕ). take a plan ++ l)
+      (left-here t l₀ j (setsOf sets) (G .held) (R .here) ∙ rw (← (R .part)) (rest-stage t (setsOf ever) (setsOf sets) (G .held) (G .knows) rest))
 
-  so-far′ : repaired t l₀ ≡ take a plan ++ (steps ++ next)
-  so-far′ = G .so-far ∙ rw rest-next refl
-
-  pub repairing-long : r ≡ Long → length plan₀ < 0 + length (repaired t l₀)
+  pub repairing-long : r ≡ Long → length plan₀ < length (repaired t l₀)
   repairing-long q =
       let z = put-as plan plan′ a steps r Long q (R .put) in
-      omega (arith, z, G .long, whole-length G (steps ++ next) so-far′, length-append steps next)
+      omega (arith, z, G .long, whole-length G (steps ++ next) so-far″, length-append steps next)
 
   module _ (x : ℕ) (q : r ≡ Upto x) where
     told : Put plan plan′ a steps (Upto x)
     told = put-as plan plan′ a steps r (Upto x) q (R .put)
 
-    pub repairing-bounds : (a ≤ x) × (x ≤ length plan′)
-    repairing-bounds = (omega (arith, told .0), omega (arith, told .1, R .long))
+    bounds : (a ≤ x) × (x ≤ length plan′)
+    bounds = (omega (arith, told .0), omega (arith, told .1, R .long))
+
+    front-long : length (take a plan) ≡ a
+    front-long = length-take-le a plan (omega (arith, G .within, G .long))
 
     part-is : slice a x plan′ ≡ steps
-    part-is = rw (told .2) (drop-at (take a plan) steps a (length-take-le a plan (omega (arith, G .within, G .long))))
+    part-is = rw (told .2) (drop-at (take a plan) steps a front-long)
 
-    pub repairing-entries : Entries t l₀ → Entries t (slice a x plan′)
-    repairing-entries en = rw part-is (steps-entries t (setsOf ever) (setsOf sets) (getD l₀ j 0) (en j (R .here)))
+    front-is : take a plan′ ≡ take a plan
+    front-is = sym (take-take a x plan′ (bounds .0)) ∙ ap (take a) (told .2) ∙ take-at (take a plan) steps a front-long
 
-    pub repairing-turn : (memo′ work′ sets′ ever′ : List ℕ) (m : Mode) → m ≡ black t → Memo t (setsOf ever′) memo′ → length work′ ≡ length work
-        → setsOf sets′ ≡ run (act t) m (slice a x plan′) (setsOf sets) → setsOf ever′ ≡ run (act t) relaxed (slice a x plan′) (setsOf ever)
-        → Repairing t l₀ plan₀ plan′ memo′ work′ sets′ ever′ x (j + 1)
-    repairing-turn memo′ work′ sets′ ever′ m em rows′ lw es ee =
-        let now : setsOf sets′ ≡ run (act t) (black t) steps (setsOf sets) = es ∙ rw (part-is, em) refl in
-        let all : setsOf ever′ ≡ run (act t) relaxed steps (setsOf ever) = ee ∙ rw part-is refl in
-        let held′ = everAfter (act t) (black t) steps (setsOf sets) (G .held) in
-        let later = known-run (act t) (black t) steps (setsOf sets) (G .held) (G .below) in
-        let same = same-facts (run (act t) relaxed steps (known (black t) (setsOf sets) (G .held))) (known (black t) (run (act t) (black t) steps (setsOf sets)) held′) later in
-        record {
-          held = held′;
-          within = omega (arith, told .1, G .long);
-          long = R .long ∙ G .long;
-          rows = rows′;
-          work-long = lw ∙ G .work-long;
-          place = omega (arith, R .here);
-          below = rw now (everAfter-now (act t) (black t) steps (setsOf sets) (G .held) (G .below));
-          knows = rw now (sym same ∙ rw (G .knows) (sym all));
-          so-far = so-far′ ∙ rw (told .2, now, append-assoc (take a plan) steps next) refl;
-        }
+    front-same : take (c .steps) plan ≡ take (c .steps) plan′
+    front-same = ap (λ (n : ℕ). take n plan) (R .taken) ∙ sym front-is ∙ ap (λ (n : ℕ). take n plan′) (sym (R .taken))
+
+    abbrev left : List ℕ → List ℕ
+    left k = leftOf t l₀ (j + 1) (run (act t) (black t) k (setsOf sets)) (everAfter (act t) (black t) k (setsOf sets) (G .held))
+
+    left-is : left (slice (c .steps) x plan′) ≡ next
+    left-is =
+        let s = run (act t) (black t) steps (setsOf sets) in
+        let e = everAfter (act t) (black t) steps (setsOf sets) (G .held) in
+        ap left (ap (λ (n : ℕ). slice n x plan′) (R .taken) ∙ part-is) ∙ left-next t l₀ j s e ∙ ap (λ (l : List ℕ). behind t l s e) (sym (R .part))
+
+    pub repairing-fits : x ≤ length plan₀
+    repairing-fits = omega (arith, told .1, G .long)
+
+    pub repairing-turn : Entries t rest → (memo′ work′ : List ℕ) → Memo t (setsOf ever) memo′ → length work′ ≡ length work
+        → Repairing t l₀ plan₀ plan′ memo′ work′ sets ever f c x (j + 1)
+    repairing-turn en memo′ work′ rows′ lw = record {
+      held = G .held;
+      within = repairing-fits;
+      long = R .long ∙ G .long;
+      rows = rows′;
+      work-long = lw ∙ G .work-long;
+      place = omega (arith, R .here);
+      taken = omega (arith, R .taken, bounds);
+      entries = rw (told .2) (append-entries t (take a plan) steps (G .entries) (stage-entries t (setsOf ever) (setsOf sets) rest en));
+      below = G .below;
+      knows = G .knows;
+      counts = subst (λ (l : List ℕ). Counted t l f c) front-same (G .counts);
+      so-far = so-far″ ∙ sym (append-assoc (take a plan) steps next) ∙ sym (ap (λ (l : List ℕ). l ++ left (slice (c .steps) x plan′)) (told .2) ∙ ap (λ (l : List ℕ). (take a plan ++ steps) ++ l) left-is);
+    }
+
+-- stages left, and steps of the last one: each turn takes one of them
+pub stages-fewer : (n j p x k d : ℕ) → j ≤ n → x ≤ p → (n + 1 - (j + 1)) * (p + 1) + (x - k) < (n + 1 - j) * (p + 1) + d
+stages-fewer n j p x k d h b =
+    let e : n + 1 - j ≡ suc (n + 1 - (j + 1)) = omega arith in
+    rw e (omega arith)
+
+pub steps-fewer : (q a k k′ : ℕ) → k < a → k′ ≡ k + 1 → q + (a - k′) < q + (a - k)
+steps-fewer q a k k′ h e = omega arith
+
+-- the part of the relaxed plan that is left
+module _ (l : List ℕ) (j : ℕ) (h : j ≤ length l) where
+  pub rest-is : take (length l - j) (drop j l) ≡ drop j l
+  rest-is = take-all (length l - j) (drop j l) (omega (arith, length-drop j l))
+
+  pub rest-entries : (t : Task) → Entries t l → Entries t (take (length l - j) (drop j l))
+  rest-entries t e = rw rest-is (λ k b. rw (getD-drop j l k 0) (e (j + k) (omega (arith, length-drop j l))))

@@ -1,32 +1,27 @@
--- The small loops of the repair: the present value, the test of black facts, a list run step by step.
-use mathlib.Core.Path.{_≡_, refl, sym, _∙_, subst, fun-ext}
+-- The present value, the test of black facts, a step that adds nothing.
+use mathlib.Core.Path.{_≡_, refl, sym, fun-ext}
 use mathlib.Core.Logic.{inl, inr}
-use mathlib.Core.Bool.{Bool, true, false, not, _&&_, _||_}
-use mathlib.Core.List.{List, _∷_}
+use mathlib.Core.Bool.{Bool, true}
+use mathlib.Core.List.{List}
 use mathlib.Core.Option.{Option, none, some}
-use Prim.Native.Nat.{ℕ, _+_, _-_, _/_, _%_, _<_, _≤_}
-use native.Mathlib.Numerals.{add-one}
+use Prim.Native.Nat.{ℕ, _-_, _<_, _≤_}
 use native.Mathlib.Omega.{arith}
 use native.Mathlib.Decide.{decLt}
 use lib.Dec.{T}
-use lib.ListN.{length, getD, take}
-use lib.Seq.{slice, slice-cons, slice-empty, length-slice, getD-take, getD-drop}
+use lib.ListN.{getD}
 use Rattle.planning.specs.Basics.{first}
-use Rattle.planning.specs.Record.{Action, Task}
-use Rattle.planning.specs.Runs.{State, Mode, relaxed, holds, step, run, actions, act, runBy}
+use Rattle.planning.specs.Record.{Action}
+use Rattle.planning.specs.Runs.{State, relaxed, holds, step}
 use Rattle.planning.specs.Painting.{orZero}
-use Rattle.planning.specs.Repair.{value, blackMet}
+use Rattle.planning.specs.Repair.{value}
 use Rattle.planning.proofs.Below.{First?, first-is}
 use Rattle.planning.proofs.Facts.{holds→sub}
 use Rattle.planning.proofs.Steps.{step-keep, step-cases}
 use Rattle.planning.proofs.Tests.{true→T}
-use Rattle.task.specs.Task.{factOf, factsIn}
 use Rattle.state.specs.Sets.{inSet, setsOf, modeOf}
 use Rattle.state.proofs.Members.{inSet-empty}
 use Rattle.paths.proofs.Needing.{bool-same}
-use Rattle.state.proofs.Effects.{factsIn-cons, factsIn-none}
 use Rattle.paths.specs.Paths.{Member}
-use Rattle.passes.specs.Passes.{Entries}
 
 -- the least member is the first value
 value-first : (n : ℕ) (p : ℕ → Bool) (r : ℕ) → r < n → T (p r) → ((x : ℕ) → x < r → T (p x) → ⊥) → orZero (first n p) ≡ r
@@ -58,36 +53,6 @@ module _ (sets : List ℕ) (v r : ℕ) (count : ℕ → ℕ) (few : count v ≤ 
   pub value-zero : count v ≤ r → 0 ≡ value count (setsOf sets) v
   unfolding value setsOf
   value-zero h = sym (value-none (count v) (inSet (getD sets v 0)) (λ x b. m .skipped x (omega arith) (omega arith)))
-
--- a part of a list that is run, entry by entry
-pub record Running (t : Task) (m : Mode) (l : List ℕ) (from to : ℕ) (sets₀ sets : List ℕ) (k : ℕ) : Type 0 where
-  pub from-here : from ≤ k
-  pub within : k ≤ to
-  pub so-far : run (act t) m (slice from to l) (setsOf sets₀) ≡ run (act t) m (slice k to l) (setsOf sets)
-
--- an entry of a part is one of the list
-pub slice-at : (l : List ℕ) (from to k : ℕ) → from ≤ k → k < to → getD (slice from to l) (k - from) 0 ≡ getD l k 0
-slice-at l from to k h b =
-    let e : from + (k - from) ≡ k = omega arith in
-    getD-drop from (take to l) (k - from) 0 ∙ rw e (getD-take to l k 0 b)
-
-module _ {t : Task} {m : Mode} {l : List ℕ} {from to : ℕ} {sets₀ sets : List ℕ} {k : ℕ} (R : Running t m l from to sets₀ sets k) (b : to ≤ length l) where
-  pub running-below : k < to → Entries t (slice from to l) → getD l k 0 < actions t
-  running-below h en = rw (← slice-at l from to k (R .from-here) h) (en (k - from) (omega (arith, length-slice from to l b, R .from-here)))
-
-  pub running-turn : k < to → (i : ℕ) → i ≡ getD l k 0 → (sets′ : List ℕ) → setsOf sets′ ≡ step m (act t i) (setsOf sets) → Running t m l from to sets₀ sets′ (k + 1)
-  unfolding runBy
-  running-turn h i ei sets′ e = record {
-    from-here = omega (arith, R .from-here);
-    within = omega arith;
-    so-far = R .so-far ∙ rw (slice-cons k to l 0 h b, ← add-one k, e, ei) refl;
-  }
-
-  pub running-end : to ≤ k → setsOf sets ≡ run (act t) m (slice from to l) (setsOf sets₀)
-  unfolding runBy
-  running-end h =
-      let z : k ≡ to = omega (arith, R .within) in
-      sym (R .so-far ∙ rw (z, slice-empty to l) refl)
 
 -- no variable acts as black
 pub mode-none : modeOf 0 ≡ relaxed

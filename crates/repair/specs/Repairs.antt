@@ -3,15 +3,10 @@ use mathlib.Core.Path.{_≡_}
 use mathlib.Core.Bool.{true, false}
 use mathlib.Core.List.{List, [], _∷_, _++_}
 use Prim.Native.Nat.{ℕ, _/_, _%_, _<_, _≤_}
-use lib.ListN.{length, getD, take}
-use Rattle.planning.specs.Basics.{answer}
+use lib.ListN.{length, getD}
 use Rattle.planning.specs.Record.{Fact, Task}
 use Rattle.planning.specs.Runs.{State, variables, count, act, black, goals}
 use Rattle.planning.specs.Repair.{order, fill, value, blackMet}
-use Rattle.planning.specs.Calls.{roomCheck}
-use Rattle.answers.specs.Answers.{valueOf}
-use Rattle.answers.specs.declared.Number.{Number}
-use Rattle.answers.specs.declared.Number.the-variants.{Value}
 use Rattle.paths.specs.Paths.{pathsOf}
 use Rattle.passes.specs.Passes.{factsOf, Fitting}
 
@@ -51,7 +46,7 @@ stepsFor t K s i = moved t K s (act t i .pre) ++ (i ∷ [])
 abbrev pub lastMoves : Task → State → State → List ℕ
 lastMoves t K s = moved t K s (goals t)
 
--- the number of entries of the list l, if there is room for them, or the refusal; then l fills the front of d
-pub record Held (l d : List ℕ) (room : ℕ) (r : Number) : Type 0 where
-  pub says : valueOf r ≡ answer (roomCheck (length l) room) (length l)
-  pub fills : (n : ℕ) → r ≡ Value n → take n d ≡ l
+-- the steps of the next stage, where the list l is left of the relaxed plan
+unfoldable pub stageOf : Task → State → State → List ℕ → List ℕ
+stageOf t K s [] = lastMoves t K s
+stageOf t K s (i ∷ l) = stepsFor t K s i

@@ -1,7 +1,6 @@
 // The repair of a relaxed plan. Steps so far stand in the front of the plan list, the moves under construction behind them;
 // a pass that rebuilds the moves does so in the work list. Passes only insert and applying only appends, so as soon as steps and moves do
 // not fit, the whole plan does not.
-use answers::Number;
 use answers::Refusal;
 use paths::Written;
 use state::Goals;
@@ -10,16 +9,30 @@ ghost use mathlib.Core.Path.{_≡_};
 ghost use mathlib.Core.Bool.{not, _&&_};
 ghost use Prim.Native.Nat.{_/_, _%_, _<_, _≤_};
 ghost use lib.ListN.{length};
-ghost use lib.Seq.{slice};
-ghost use Rattle.planning.specs.Runs.{relaxed, holds, run, variables, actions, act, black};
+ghost use Rattle.planning.specs.Basics.{done, refused};
+ghost use Rattle.planning.specs.Runs.{holds, variables, actions, act, black, goals};
+ghost use Rattle.planning.specs.Newest.{alone};
 ghost use Rattle.planning.specs.Repair.{blackMet, repaired};
 ghost use Rattle.planning.specs.Calls.{capacityOf};
 ghost use Rattle.task.specs.Task.{taskIn, Loaded};
 ghost use Rattle.task.specs.Links.{Prepared};
-ghost use Rattle.state.specs.Sets.{setsOf, modeOf};
-ghost use Rattle.paths.specs.Paths.{Memo, Covers, Put};
+ghost use Rattle.state.specs.Sets.{setsOf, valuesOf};
+ghost use Rattle.paths.specs.Paths.{Memo, Put};
 ghost use Rattle.passes.specs.Passes.{factsOf, Entries, Blank};
-ghost use Rattle.repair.specs.Repairs.{Present, Wanted, Lent, filled, moved, stepsFor, lastMoves, Held};
+ghost use Rattle.repair.specs.Answers.{answerOf, Held};
+ghost use Rattle.repair.specs.Counting.{further, Small, Few, Onward, judgedBy};
+ghost use Rattle.repair.specs.Repairs.{Present, Wanted, Lent, filled, moved, stepsFor, lastMoves, stageOf};
+
+// The repaired list: its steps, its cost, those that run for real, and whether it is a plan in a real run; or the refusal.
+pub enum Repaired {
+    Plan {
+        steps: u32,
+        cost: u32,
+        runs: u32,
+        real: bool,
+    },
+    Refused(Refusal),
+}
 
 // The present fact of v.
 fn present(task: &[u16], sets: &[u64; 64], v: usize) -> usize
@@ -61,53 +74,12 @@ fn black_met(task: &[u16], sets: &[u64; 64], facts: &[u16]) -> bool
     true
 }
 
-// The state after the entries of a list from place `from` up to `to`, one step at a time.
-fn run_list(task: &[u16], mut s: State, list: &[u16], from: usize, to: usize, mode: u64) -> State
-    requires { ⌜ Loaded (now task) × (from ≤ to) × (to ≤ length (now list)) × Entries (taskIn (now task)) (slice from to (now list)) ⌝ }
-    ensures { λ r. ⌜ setsOf (r .sets) ≡ run (act (taskIn (now (task .entry)))) (modeOf mode) (slice from to (now (list .entry))) (setsOf (s .sets)) ⌝ }
-{
-    let mut k = from;
-    while k < to {
-        s = s.step(task, lists::wide(list[k]), mode);
-        k += 1;
-    }
-    s
-}
-
 // Each effect of action i is held.
 fn has_effects(task: &[u16], sets: &[u64; 64], i: usize) -> bool
     requires { ⌜ Loaded (now task) × (i < actions (taskIn (now task))) ⌝ }
     ensures { λ r. ⌜ r ≡ holds (setsOf (now (sets .entry))) (act (taskIn (now (task .entry))) i .eff) ⌝ }
 {
     state::all_hold(sets, task, task::eff_start(task, i), task::eff_end(task, i))
-}
-
-// The facts held ever after the entries of a list from place `from` up to `to`. An action whose effects are held adds none.
-fn learn(
-    task: &[u16],
-    mut ever: State,
-    memo: &mut [u16],
-    list: &[u16],
-    from: usize,
-    to: usize,
-    needs: u64,
-) -> State
-    requires { ⌜ Loaded (now task) × (from ≤ to) × (to ≤ length (now list)) × Entries (taskIn (now task)) (slice from to (now list)) ⌝ }
-    requires { ⌜ Covers (taskIn (now task)) (actions (taskIn (now task))) needs × Memo (taskIn (now task)) (setsOf (ever .sets)) (now memo) ⌝ }
-    ensures { λ r. ⌜ setsOf (r .sets) ≡ run (act (taskIn (now (task .entry)))) relaxed (slice from to (now (list .entry))) (setsOf (ever .sets)) ⌝ }
-    ensures { λ r. ⌜ Memo (taskIn (now (task .entry))) (setsOf (r .sets)) (now (memo .exit)) ⌝ }
-{
-    let mut k = from;
-    while k < to {
-        let i = lists::wide(list[k]);
-        k += 1;
-        if has_effects(task, &ever.sets, i) {
-            continue;
-        }
-        passes::refresh(task, &ever.sets, memo, i, needs);
-        ever = ever.step(task, i, 0);
-    }
-    ever
 }
 
 // The passes of the black variables in their order: moves for the wanted facts, in the front of a list.
@@ -211,6 +183,7 @@ fn finish(
     requires { ⌜ Prepared (now task) × Lent (now plan) (now work) at ⌝ }
     requires { ⌜ Memo (taskIn (now task)) (setsOf (now ever)) (now memo) ⌝ }
     ensures { λ r. ⌜ Put (now (plan .entry)) (now (plan .exit)) at (lastMoves (taskIn (now (task .entry))) (setsOf (now (ever .entry))) (setsOf (now (sets .entry)))) r ⌝ }
+    ensures { λ _. ⌜ Memo (taskIn (now (task .entry))) (setsOf (now (ever .entry))) (now (memo .exit)) ⌝ }
 {
     let goals = Goals::load(task);
     let facts = goals.facts;
@@ -218,56 +191,161 @@ fn finish(
     moves(task, sets, ever, memo, &facts[..count], plan, at, work)
 }
 
-// The repair of the relaxed plan, from the initial state: the moves and the action for each entry, then the moves for the goals.
+// The steps of the next stage, where a part of the relaxed plan is left: those for its first entry, or the moves for the goals.
+fn stage(
+    task: &[u16],
+    sets: &[u64; 64],
+    ever: &[u64; 64],
+    memo: &mut [u16],
+    left: &[u16],
+    plan: &mut [u16],
+    at: usize,
+    work: &mut [u16],
+) -> Written
+    requires { ⌜ Prepared (now task) × Entries (taskIn (now task)) (now left) × Lent (now plan) (now work) at ⌝ }
+    requires { ⌜ Memo (taskIn (now task)) (setsOf (now ever)) (now memo) ⌝ }
+    ensures { λ r. ⌜ Put (now (plan .entry)) (now (plan .exit)) at (stageOf (taskIn (now (task .entry))) (setsOf (now (ever .entry))) (setsOf (now (sets .entry))) (now (left .entry))) r ⌝ }
+    ensures { λ _. ⌜ Memo (taskIn (now (task .entry))) (setsOf (now (ever .entry))) (now (memo .exit)) ⌝ }
+{
+    if left.len() == 0 {
+        return finish(task, sets, ever, memo, plan, at, work);
+    }
+    arrange(task, sets, ever, memo, left[0], plan, at, work)
+}
+
+// What is counted along a list: its steps, those that run for real, the cost.
+struct Counts {
+    steps: usize,
+    runs: usize,
+    cost: usize,
+}
+
+// The steps that run for real of a list with action i behind it, from its counts and newest values: one more if all before i do and i
+// applies.
+fn running(task: &[u16], newest: &[u8; 64], i: usize, c: Counts) -> usize
+    requires { ⌜ Loaded (now task) × (i < actions (taskIn (now task))) × Small c ⌝ }
+    ensures { λ r. ⌜ r ≡ further (holds (alone (valuesOf (now (newest .entry)))) (act (taskIn (now (task .entry))) i .pre)) (c .runs) (c .steps) ⌝ }
+{
+    if c.runs != c.steps {
+        return c.runs;
+    }
+    if state::applies_newest(newest, task, i) {
+        return c.runs + 1;
+    }
+    c.runs
+}
+
+// The counts of a list with action i behind it.
+fn counted(task: &[u16], newest: &[u8; 64], i: usize, c: Counts) -> Counts
+    requires { ⌜ Loaded (now task) × (i < actions (taskIn (now task))) × Small c ⌝ }
+    ensures { λ r. ⌜ Onward (act (taskIn (now (task .entry))) i) (valuesOf (now (newest .entry))) c r ⌝ }
+{
+    Counts {
+        steps: c.steps + 1,
+        runs: running(task, newest, i, c),
+        cost: c.cost + task::cost(task, i),
+    }
+}
+
+// Each goal is the newest value of its variable.
+fn at_goals(task: &[u16], newest: &[u8; 64]) -> bool
+    requires { ⌜ Loaded (now task) ⌝ }
+    ensures { λ r. ⌜ r ≡ holds (alone (valuesOf (now (newest .entry)))) (goals (taskIn (now (task .entry)))) ⌝ }
+{
+    let goals = Goals::load(task);
+    let facts = goals.facts;
+    let count = goals.count;
+    state::all_newest(newest, &facts, 0, count)
+}
+
+// The answer for a list with these counts and newest values.
+fn verdict(task: &[u16], newest: &[u8; 64], c: Counts) -> Repaired
+    requires { ⌜ Loaded (now task) × Few c ⌝ }
+    ensures { λ r. ⌜ answerOf r ≡ done (judgedBy (holds (alone (valuesOf (now (newest .entry)))) (goals (taskIn (now (task .entry))))) c) ⌝ }
+{
+    let met = at_goals(task, newest);
+    let all = c.runs == c.steps;
+    Repaired::Plan {
+        steps: c.steps as u32,
+        cost: c.cost as u32,
+        runs: c.runs as u32,
+        real: all && met,
+    }
+}
+
+// The list does not fit.
+fn too_long(room: usize) -> Repaired
+    requires { ⌜ room ≤ 32768 ⌝ }
+    ensures { λ r. ⌜ answerOf r ≡ refused 11 room ⌝ }
+{
+    Repaired::Refused(Refusal {
+        number: 11,
+        place: room as u32,
+    })
+}
+
+// The repair from the initial state in one pass: where every step placed is taken the next stage is placed behind them, else one
+// step is taken.
 fn repair_from(
     task: &[u16],
     memo: &mut [u16],
     relaxed: &[u16],
     plan: &mut [u16],
     work: &mut [u16],
-) -> Written
-    requires { ⌜ Prepared (now task) × Entries (taskIn (now task)) (now relaxed) × Blank (now memo) × Lent (now plan) (now work) 0 ⌝ }
-    ensures { λ r. ⌜ Put (now (plan .entry)) (now (plan .exit)) 0 (repaired (taskIn (now (task .entry))) (now (relaxed .entry))) r ⌝ }
+) -> Repaired
+    requires { ⌜ Prepared (now task) × Entries (taskIn (now task)) (now relaxed) × Blank (now memo) × Lent (now plan) (now work) 0 × (length (now plan) ≤ 32768) ⌝ }
+    ensures { λ r. ⌜ Held (taskIn (now (task .entry))) (repaired (taskIn (now (task .entry))) (now (relaxed .entry))) (now (plan .exit)) (length (now (plan .entry))) r ⌝ }
 {
     let paint = state::painted(task);
     let needs = paths::needs(task);
     let mut s = State::initial(task);
     let mut ever = s;
+    let mut c = Counts {
+        steps: 0,
+        runs: 0,
+        cost: 0,
+    };
     let mut at: usize = 0;
     let mut j: usize = 0;
-    while j < relaxed.len() {
-        let w = arrange(task, &s.sets, &ever.sets, memo, relaxed[j], plan, at, work);
-        let Written::Upto(x) = w else {
-            return Written::Long;
-        };
-        s = run_list(task, s, plan, at, x, paint);
-        ever = learn(task, ever, memo, plan, at, x, needs);
-        at = x;
-        j += 1;
+    loop {
+        let k = c.steps;
+        if k == at {
+            if j > relaxed.len() {
+                return verdict(task, &s.newest, c);
+            }
+            let w = stage(task, &s.sets, &ever.sets, memo, &relaxed[j..], plan, at, work);
+            let Written::Upto(x) = w else {
+                return too_long(plan.len());
+            };
+            at = x;
+            j += 1;
+            continue;
+        }
+        let i = lists::wide(plan[k]);
+        c = counted(task, &s.newest, i, c);
+        s = s.step(task, i, paint);
+        if has_effects(task, &ever.sets, i) {
+            continue;
+        }
+        passes::refresh(task, &ever.sets, memo, i, needs);
+        ever = ever.step(task, i, 0);
     }
-    finish(task, &s.sets, &ever.sets, memo, plan, at, work)
 }
 
-// The repair of a relaxed plan: its number of steps, in the front of the plan list; 11 if it is longer than the capacity.
-pub fn repair(task: &[u16], relaxed: &[u16], plan: &mut [u16], work: &mut [u16]) -> Number
+// The repair of a relaxed plan, in the front of the plan list: its steps, its cost, those that run for real, and whether it is a plan in a
+// real run; 11 if it is longer than the capacity.
+pub fn repair(task: &[u16], relaxed: &[u16], plan: &mut [u16], work: &mut [u16]) -> Repaired
     requires { ⌜ Prepared (now task) × Entries (taskIn (now task)) (now relaxed) ⌝ }
-    ensures { λ r. ⌜ Held (repaired (taskIn (now (task .entry))) (now (relaxed .entry))) (now (plan .exit)) (capacityOf (length (now (plan .entry))) (length (now (work .entry)))) r ⌝ }
+    ensures { λ r. ⌜ Held (taskIn (now (task .entry))) (repaired (taskIn (now (task .entry))) (now (relaxed .entry))) (now (plan .exit)) (capacityOf (length (now (plan .entry))) (length (now (work .entry)))) r ⌝ }
 {
     let room = lists::capacity(lists::lesser(plan.len(), work.len()));
     let mut memo = [0u16; 4160];
     passes::forget(&mut memo);
-    let w = repair_from(
+    repair_from(
         task,
         &mut memo,
         relaxed,
         &mut plan[..room],
         &mut work[..room],
-    );
-    let Written::Upto(n) = w else {
-        return Number::Refused(Refusal {
-            number: 11,
-            place: room as u32,
-        });
-    };
-    Number::Value(n as u32)
+    )
 }

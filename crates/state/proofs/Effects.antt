@@ -59,11 +59,13 @@ putAll-at m (f ∷ fs) ms low r n v d =
     new : List ℕ
     new = set ms (f .var) word
 
-    go : Dec (v ≡ f .var) → (has fs v d || (inSet (getD new v 0) d && not (m v && touches fs v))) ≡ (((eqb v (f .var) && eqb d (f .val)) || has fs v d) || (inSet (getD ms v 0) d && not (m v && (eqb v (f .var) || touches fs v))))
+    go : Dec (v ≡ f .var) → (has fs v d || (inSet (getD new v 0) d && not (m v && touches fs v))) ≡
+        (((eqb v (f .var) && eqb d (f .val)) || has fs v d) || (inSet (getD ms v 0) d && not (m v && (eqb v (f .var) || touches fs v))))
     go (yes e) =
         let a = touches-below fs (f .var + 1) (f .var) (r .2) (omega arith) in
         let c = has-below fs (f .var + 1) (f .var) d (r .2) (omega arith) in
-        rw (e, a, c, eq-eqb (f .var) (f .var) refl, getD-set-same ms (f .var) word 0 (omega (arith, r .1)), inSet-mixed (m (f .var)) (getD ms (f .var) 0) (f .val) d) (hit (eqb d (f .val)) (inSet (getD ms (f .var) 0) d) (m (f .var)))
+        rw (e, a, c, eq-eqb (f .var) (f .var) refl, getD-set-same ms (f .var) word 0 (omega (arith, r .1)), inSet-mixed (m (f .var)) (getD ms (f .var) 0)
+            (f .val) d) (hit (eqb d (f .val)) (inSet (getD ms (f .var) 0) d) (m (f .var)))
     go (no h) = rw (ne-eqb v (f .var) h, getD-set-other ms (f .var) v word 0 h) refl
 
 -- effects put in turn are the step
@@ -145,4 +147,5 @@ module _ (task : List ℕ) (i mode : ℕ) (ms₀ : List ℕ) (L : Listed task i)
     pub putting-end : end ≤ k → setsOf ms ≡ step (modeOf mode) (act (taskIn task) i) (setsOf ms₀)
     unfolding actionIn
     putting-end h =
-        ap setsOf (sym (p .so-far ∙ putAll-end (modeOf mode) ms task k (cell task (1361 + i) 3) (omega (arith, p .within, p .at-end)))) ∙ putAll-step (modeOf mode) (actionIn task i) ms₀ (L .rises) (p .long₀) ∙ ap (λ (a : Action). step (modeOf mode) a (setsOf ms₀)) (L .states)
+        ap setsOf (sym (p .so-far ∙ putAll-end (modeOf mode) ms task k (cell task (1361 + i) 3) (omega (arith, p .within, p .at-end)))) ∙ putAll-step
+            (modeOf mode) (actionIn task i) ms₀ (L .rises) (p .long₀) ∙ ap (λ (a : Action). step (modeOf mode) a (setsOf ms₀)) (L .states)

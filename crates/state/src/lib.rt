@@ -169,7 +169,8 @@ impl State {
     // Each set holds the initial value alone, and it is the newest.
     pub fn initial(task: &[u16]) -> State
         requires { ⌜ Loaded (now task) ⌝ }
-        ensures { λ r. ⌜ (setsOf (r .sets) ≡ initial (taskIn (now (task .entry)))) × (valuesOf (r .newest) ≡ initialValues (taskIn (now (task .entry)))) ⌝ }
+        ensures { λ r. ⌜ setsOf (r .sets) ≡ initial (taskIn (now (task .entry))) ⌝ }
+        ensures { λ r. ⌜ valuesOf (r .newest) ≡ initialValues (taskIn (now (task .entry))) ⌝ }
     {
         let n = task::variables(task);
         let mut s = State {
@@ -187,7 +188,8 @@ impl State {
     // The state after action i, whole. Variable v acts as black where bit v of `mode` is 1.
     pub fn step(mut self, task: &[u16], i: usize, mode: u64) -> State
         requires { ⌜ Loaded (now task) × (i < actions (taskIn (now task))) ⌝ }
-        ensures { λ r. ⌜ (setsOf (r .sets) ≡ step (modeOf mode) (act (taskIn (now (task .entry))) i) (setsOf (self .sets))) × (valuesOf (r .newest) ≡ newer (act (taskIn (now (task .entry))) i) (valuesOf (self .newest))) ⌝ }
+        ensures { λ r. ⌜ setsOf (r .sets) ≡ step (modeOf mode) (act (taskIn (now (task .entry))) i) (setsOf (self .sets)) ⌝ }
+        ensures { λ r. ⌜ valuesOf (r .newest) ≡ newer (act (taskIn (now (task .entry))) i) (valuesOf (self .newest)) ⌝ }
     {
         let end = task::eff_end(task, i);
         let mut k = task::eff_start(task, i);

@@ -100,7 +100,8 @@ action-loaded s at r to before row after c p n R W L ec ep en =
     }
 
 -- a variable's row
-pub variable-loaded : (s : List ℕ) (v : ℕ) (before after : List ℕ) (a b c d : ℕ) → RowWritten (1 + v) a b c d before after → a ≡ bitsAt s (22 + 20 * v) 6 + 1 → b ≡ bitsAt s (28 + 20 * v) 1 → c ≡ bitsAt s (29 + 20 * v) 6
+pub variable-loaded : (s : List ℕ) (v : ℕ) (before after : List ℕ) (a b c d : ℕ) → RowWritten (1 + v) a b c d before after → a ≡ bitsAt s (22 + 20 * v) 6 + 1 →
+    b ≡ bitsAt s (28 + 20 * v) 1 → c ≡ bitsAt s (29 + 20 * v) 6
     → d ≡ bitsAt s (35 + 20 * v) 7 → VariableLoaded s v before after
 variable-loaded s v before after a b c d W ea eb ec ed = record {
   long = W .long;
@@ -256,7 +257,8 @@ factsIn-read s task a p zero h f = rw (add-zero, slice-empty a task) refl
 factsIn-read s task a p (suc n) h f =
     let e : getD task a 0 ≡ bitsAt s p 12 = subst (λ x. getD task x 0 ≡ bitsAt s p 12) (omega arith) (f 0 (omega arith) ∙ ap (λ (x : ℕ). bitsAt s x 12) (omega arith)) in
     let m : a + suc n ≡ suc a + n = omega arith in
-    let r = factsIn-read s task (suc a) (p + 12) n (omega arith) (λ k b. subst (λ x. getD task x 0 ≡ bitsAt s (p + 12 + 12 * k) 12) (omega arith) (f (suc k) (omega arith) ∙ ap (λ (x : ℕ). bitsAt s x 12) (omega arith))) in
+    let r = factsIn-read s task (suc a) (p + 12) n (omega arith)
+        (λ k b. subst (λ x. getD task x 0 ≡ bitsAt s (p + 12 + 12 * k) 12) (omega arith) (f (suc k) (omega arith) ∙ ap (λ (x : ℕ). bitsAt s x 12) (omega arith))) in
     rw (slice-cons a (a + suc n) task 0 (omega arith) h, e, factOf-bits s p, m, r) refl
 
 -- a placed action is what its row states
@@ -322,5 +324,7 @@ module _ (s before task : List ℕ) (at i to : ℕ) (e : recordCheck s ≡ none)
       record {
         formed = rw loading-task (formed-of s e);
         head = omega arith;
-        rows = λ j b. let b′ : j < actionsIn s = omega (arith, taskIn-actions task, L .head .actions) in placed-row s task (1361 + j) (placeOf s j) (actionStart s j) (placed j b′) (fits j b′) (omega arith) (omega (arith, placeOf-rows s j));
+        rows =
+            λ j b. let b′ : j < actionsIn s = omega (arith, taskIn-actions task, L .head .actions) in placed-row s task (1361 + j) (placeOf s j)
+            (actionStart s j) (placed j b′) (fits j b′) (omega arith) (omega (arith, placeOf-rows s j));
       }

@@ -19,7 +19,8 @@ actions-requires c κs = search needs
 leading-requires : tie.Need-leading-requires
 leading-requires c κs = search needs
 
-ensured : (c : tie.After-leading) → c .leading .result ≡ leading (actions (taskIn (c .before .before .before .before .before .args .task .now))) (c .before .before .before .before .before .args .list .now)
+ensured : (c : tie.After-leading) → c .leading .result ≡ leading (actions (taskIn (c .before .before .before .before .before .args .task .now)))
+    (c .before .before .before .before .before .args .list .now)
 ensured c = c .leading .ensures .0 ∙ ap (λ (n : ℕ). leading n (c .before .before .before .before .before .args .list .now)) (c .before .actions .ensures)
 
 cast-t7 : tie.Need-cast-t7
@@ -32,7 +33,9 @@ cast-t9 : tie.Need-cast-t9
 cast-t9 c = search needs
 
 returns-3 : tie.Need-returns-3
-returns-3 c = let a = c .before .before .before .before .before .before .args in list-passed (taskIn (a .task .now)) (a .list .now) _ (omega arith) (ensured (c .before)) (omega arith) (c .before .leading .ensures .1)
+returns-3 c =
+    let a = c .before .before .before .before .before .before .args in list-passed (taskIn (a .task .now)) (a .list .now) _ (omega arith) (ensured (c .before))
+    (omega arith) (c .before .leading .ensures .1)
 
 pub check-list-spec : {M : Type 1} → statement M
 check-list-spec =

@@ -23,7 +23,8 @@ actions-requires c κs = search needs
 leading-requires : tie.Need-leading-requires
 leading-requires c κs = search needs
 
-ensured : (c : tie.After-leading) → c .leading .result ≡ leading (actions (taskIn (c .before .before .before .before .before .args .task .now))) (c .before .before .before .before .before .args .list .now)
+ensured : (c : tie.After-leading) → c .leading .result ≡ leading (actions (taskIn (c .before .before .before .before .before .args .task .now)))
+    (c .before .before .before .before .before .args .list .now)
 ensured c = c .leading .ensures .0 ∙ ap (λ (n : ℕ). leading n (c .before .before .before .before .before .args .list .now)) (c .before .actions .ensures)
 
 slice-aggregate-judge-relaxed : tie.Need-slice-aggregate-judge-relaxed
@@ -48,12 +49,14 @@ cast-t13 c = search needs
 returns-2 : tie.Need-returns-2
 returns-2 c =
     let a = c .before .before .before .before .before .before .before .before .before .args in
-    relaxed-passed (taskIn (a .task .now)) (a .list .now) (c .before .before .before .before .leading .result) (ensured (c .before .before .before .before)) (omega arith) (c .before .before .before .before .leading .ensures .1) _ (c .before .before .judge-relaxed .ensures) (c .before .if2 .taken) (c .if3 .taken)
+    relaxed-passed (taskIn (a .task .now)) (a .list .now) (c .before .before .before .before .leading .result) (ensured (c .before .before .before .before))
+        (omega arith) (c .before .before .before .before .leading .ensures .1) _ (c .before .before .judge-relaxed .ensures) (c .before .if2 .taken) (c .if3 .taken)
 
 returns-3 : tie.Need-returns-3
 returns-3 c =
     let a = c .before .before .before .before .before .before .before .before .args in
-    relaxed-refused (taskIn (a .task .now)) (a .list .now) (c .before .before .before .leading .result) (ensured (c .before .before .before)) (omega arith) (c .before .before .before .leading .ensures .1) _ (c .before .judge-relaxed .ensures) (elim (c .if2 .came) [ inl q ↦ inl (q .1 .left) | inr q ↦ inr (q .left) ])
+    relaxed-refused (taskIn (a .task .now)) (a .list .now) (c .before .before .before .leading .result) (ensured (c .before .before .before)) (omega arith)
+        (c .before .before .before .leading .ensures .1) _ (c .before .judge-relaxed .ensures) (elim (c .if2 .came) [ inl q ↦ inl (q .1 .left) | inr q ↦ inr (q .left) ])
 
 pub check-relaxed-spec : {M : Type 1} → statement M
 check-relaxed-spec =

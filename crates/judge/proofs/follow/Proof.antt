@@ -53,7 +53,8 @@ further-requires c κs =
     (R .loaded, below (c .before .before .before), omega (arith, R .short, tracing-few _ _ _ _ _ _ (c .before .before .before .before .loop .inv)))
 
 applies-requires : tie.Need-applies-requires Inv-loop μ-loop
-applies-requires c κs = (c .before .before .before .before .before .before .before .before .before .before .before .before .before .pre .loaded, below (c .before .before .before .before .before .before .before))
+applies-requires c κs =
+    (c .before .before .before .before .before .before .before .before .before .before .before .before .before .pre .loaded, below (c .before .before .before .before .before .before .before))
 
 step-requires : tie.Need-step-requires Inv-loop μ-loop
 step-requires c κs = (c .before .before .before .before .before .before .before .before .before .before .before .pre .loaded, below (c .before .before .before .before .before))
@@ -70,7 +71,9 @@ loop-again c =
     let I = c .before .before .before .before .before .before .before .loop .inv in
     let f = c .before .before .further .ensures in
     let painted = c .before .before .before .before .before .before .before .before .before .painted .ensures in
-    let goes : holds (setsOf (c .before .before .before .before .before .before .before .loop .s .sets)) (act (taskIn (c .before .before .before .before .before .before .before .before .before .before .before .before .args .task .now)) (entry (c .before .before .before .before .before .before)) .pre) ≡ true =
+    let goes : holds (setsOf (c .before .before .before .before .before .before .before .loop .s .sets))
+        (act (taskIn (c .before .before .before .before .before .before .before .before .before .before .before .before .args .task .now))
+        (entry (c .before .before .before .before .before .before)) .pre) ≡ true =
     ⊎-elim (λ w. sym (w .3 .ensures) ∙ not-false _ (w .4 .left)) (λ w. applied _ _ F _ _ _ _ I (omega arith) _ refl _ f (omega (arith, w .left))) (c .before .if1 .came) in
     tracing-turn _ _ F _ _ _ _ I (omega arith) _ refl _ _ _ f goes (step-as _ _ _ _ _ painted (c .step .ensures .0)) (c .step .ensures .1)
 
@@ -83,7 +86,9 @@ returns c =
 returns-2 : tie.Need-returns-2 Inv-loop μ-loop
 returns-2 c =
     let I = c .before .before .before .before .before .before .before .before .before .before .loop .inv in
-    let e = tracing-stop _ _ (c .before .before .before .before .before .before .before .before .before .before .before .before .before .before .before .pre .loaded .formed) _ _ _ _ I (omega arith) _ refl _ (c .before .before .before .before .before .further .ensures) (omega arith) (sym (c .before .applies .ensures) ∙ not-true _ (c .if2 .taken)) in
+    let e = tracing-stop _ _
+        (c .before .before .before .before .before .before .before .before .before .before .before .before .before .before .before .pre .loaded .formed) _ _ _ _
+        I (omega arith) _ refl _ (c .before .before .before .before .before .further .ensures) (omega arith) (sym (c .before .applies .ensures) ∙ not-true _ (c .if2 .taken)) in
     record { painted = e .0; run-real = e .1; sets = traced-sets _ _ _ _ _ _ I (e .0); newest = traced-newest _ _ _ _ _ _ I (e .0) }
 
 pub follow-spec : {M : Type 1} → statement M

@@ -22,7 +22,10 @@ judge-loaded-requires : tie.Need-judge-loaded-requires
 judge-loaded-requires c κs = search needs
 
 returns : tie.Need-returns
-returns c = c .judge-loaded .ensures ∙ judge-later (c .before .before .before .before .before .before .before .before .before .args .bytes .now) (c .before .before .before .before .before .before .before .before .before .args .list .now) (c .before .before .before .before .before .before .before .before .before .pre) _ (c .before .before .before .load .ensures .1)
+returns c =
+    c .judge-loaded .ensures ∙ judge-later (c .before .before .before .before .before .before .before .before .before .args .bytes .now)
+    (c .before .before .before .before .before .before .before .before .before .args .list .now)
+    (c .before .before .before .before .before .before .before .before .before .pre) _ (c .before .before .before .load .ensures .1)
 
 slice-aggregate-load-2 : tie.Need-slice-aggregate-load-2
 slice-aggregate-load-2 c = search needs
@@ -37,7 +40,10 @@ judge-loaded-requires-2 : tie.Need-judge-loaded-requires-2
 judge-loaded-requires-2 c κs = search needs
 
 returns-2 : tie.Need-returns-2
-returns-2 c = c .judge-loaded2 .ensures ∙ judge-later (c .before .before .before .before .before .before .before .before .before .args .bytes .now) (c .before .before .before .before .before .before .before .before .before .args .list .now) (c .before .before .before .before .before .before .before .before .before .pre) _ (c .before .before .before .load2 .ensures .1)
+returns-2 c =
+    c .judge-loaded2 .ensures ∙ judge-later (c .before .before .before .before .before .before .before .before .before .args .bytes .now)
+    (c .before .before .before .before .before .before .before .before .before .args .list .now)
+    (c .before .before .before .before .before .before .before .before .before .pre) _ (c .before .before .before .load2 .ensures .1)
 
 pub judge-accepted-spec : {M : Type 1} → statement M
 judge-accepted-spec =

@@ -17,7 +17,8 @@ returns : tie.Need-returns
 returns c = judgement-plan _ _ _ _ (c .before .before .before .before .judge-painted .ensures) (c .before .judge-real .ensures) (c .if1 .taken)
 
 judge-relaxed-requires : tie.Need-judge-relaxed-requires
-judge-relaxed-requires c κs = (c .before .before .before .before .before .before .before .before .before .before .pre, relaxed-known _ _ _ (c .before .before .before .before .before .before .before .follow .ensures .painted))
+judge-relaxed-requires c κs =
+    (c .before .before .before .before .before .before .before .before .before .before .pre, relaxed-known _ _ _ (c .before .before .before .before .before .before .before .follow .ensures .painted))
 
 returns-2 : tie.Need-returns-2
 returns-2 c = judgement-of _ _ _ _ _ (c .judge-relaxed .ensures) (c .before .before .before .before .before .judge-painted .ensures) (c .before .before .judge-real .ensures)

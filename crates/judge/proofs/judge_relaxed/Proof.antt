@@ -62,8 +62,11 @@ loop-less c = search needs
 
 loop-again : tie.Need-loop-again Inv-loop μ-loop
 loop-again c =
-    let applied : holds (setsOf (c .before .before .before .before .loop .s .sets)) (act (taskIn (c .before .before .before .before .before .before .before .before .args .task .now)) (entry (c .before .before .before)) .pre) ≡ true =
-    ⊎-elim (λ w. sym (w .3 .ensures) ∙ not-false _ (w .4 .left)) (λ w. going-known _ _ _ _ _ (c .before .before .before .before .loop .inv) (omega arith) _ refl (omega (arith, w .left, c .before .before .before .before .before .before .before .before .pre .1))) (c .before .if1 .came) in
+    let applied : holds (setsOf (c .before .before .before .before .loop .s .sets))
+        (act (taskIn (c .before .before .before .before .before .before .before .before .args .task .now)) (entry (c .before .before .before)) .pre) ≡ true =
+    ⊎-elim (λ w. sym (w .3 .ensures) ∙ not-false _ (w .4 .left))
+        (λ w. going-known _ _ _ _ _ (c .before .before .before .before .loop .inv) (omega arith) _ refl
+        (omega (arith, w .left, c .before .before .before .before .before .before .before .before .pre .1))) (c .before .if1 .came) in
     going-turn _ _ _ _ _ (c .before .before .before .before .loop .inv) _ _ _ (omega arith) refl refl applied (step-relaxed _ _ _ (c .step .ensures .0))
 
 load-requires : tie.Need-load-requires Inv-loop μ-loop
@@ -76,7 +79,10 @@ all-hold-requires : tie.Need-all-hold-requires Inv-loop μ-loop
 all-hold-requires c κs = let G = c .before .before .before .before .before .load .ensures in (omega arith, omega (arith, G .few), λ k a b. G .small k (omega arith))
 
 returns-2 : tie.Need-returns-2 Inv-loop μ-loop
-returns-2 c = going-end _ _ _ _ _ (c .before .before .before .before .before .before .before .before .loop .inv) (omega arith) (c .before .before .before .before .before .before .before .before .before .before .before .before .pre .0 .entries) _ (c .all-hold .ensures ∙ ap (holds _) (c .before .before .before .before .before .before .load .ensures .are))
+returns-2 c =
+    going-end _ _ _ _ _ (c .before .before .before .before .before .before .before .before .loop .inv) (omega arith)
+    (c .before .before .before .before .before .before .before .before .before .before .before .before .pre .0 .entries) _
+    (c .all-hold .ensures ∙ ap (holds _) (c .before .before .before .before .before .before .load .ensures .are))
 
 pub judge-relaxed-spec : {M : Type 1} → statement M
 judge-relaxed-spec =

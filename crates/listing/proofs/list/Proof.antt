@@ -26,10 +26,12 @@ returns : tie.Need-returns
 returns c = search needs
 
 slice-reshare-prefix-print : tie.Need-slice-reshare-prefix-print
-slice-reshare-prefix-print c = subst (λ i. Front i (c .before .before .before .before .before .read .last .0)) (c .before .input .given .1) (c .before .before .before .before .before .read .ensures) .0
+slice-reshare-prefix-print c =
+    subst (λ i. Front i (c .before .before .before .before .before .read .last .0)) (c .before .input .given .1) (c .before .before .before .before .before .read .ensures) .0
 
 slice-aggregate-print : tie.Need-slice-aggregate-print
-slice-aggregate-print c = subst (λ i. Front i (c .before .before .before .before .before .before .read .last .0)) (c .before .before .input .given .1) (c .before .before .before .before .before .before .read .ensures) .1
+slice-aggregate-print c =
+    subst (λ i. Front i (c .before .before .before .before .before .before .read .last .0)) (c .before .before .input .given .1) (c .before .before .before .before .before .before .read .ensures) .1
 
 print-requires : tie.Need-print-requires
 print-requires c κs = search needs

@@ -25,7 +25,9 @@ empty-requires : tie.Need-empty-requires
 empty-requires c κs = search needs
 
 returns-2 : tie.Need-returns-2
-returns-2 c = let e = c .before .before .c .given .1 in subst (Called _ _ _) (sym (c .empty .ensures)) (record-refused _ _ _ _ (refused-by _ _ _ _ e (sym (ap refusalIn e)) (c .before .before .before .before .check .ensures)))
+returns-2 c =
+    let e = c .before .before .c .given .1 in subst (Called _ _ _) (sym (c .empty .ensures))
+    (record-refused _ _ _ _ (refused-by _ _ _ _ e (sym (ap refusalIn e)) (c .before .before .before .before .check .ensures)))
 
 pub tell-spec : {M : Type 1} → statement M
 tell-spec =

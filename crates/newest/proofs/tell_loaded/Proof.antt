@@ -27,7 +27,9 @@ empty-requires : tie.Need-empty-requires
 empty-requires c κs = search needs
 
 returns : tie.Need-returns
-returns c = subst (Tells _ _ _) (sym (c .empty .ensures)) (list-refused _ _ _ _ (handed-on _ _ _ _ _ (c .before .before .enum-told2 .given .1) (c .before .refusal-of .ensures) (c .before .before .before .before .check-list .ensures)))
+returns c =
+    subst (Tells _ _ _) (sym (c .empty .ensures)) (list-refused _ _ _ _
+    (handed-on _ _ _ _ _ (c .before .before .enum-told2 .given .1) (c .before .refusal-of .ensures) (c .before .before .before .before .check-list .ensures)))
 
 variables-requires : tie.Need-variables-requires
 variables-requires c κs = search needs
@@ -39,7 +41,9 @@ empty-requires-2 : tie.Need-empty-requires-2
 empty-requires-2 c κs = search needs
 
 returns-2 : tie.Need-returns-2
-returns-2 c = subst (Tells _ _ _) (sym (c .empty2 .ensures)) (room-refused _ _ _ (passed _ _ _ _ (c .before .before .before .enum-told .given .1) (c .before .before .before .before .before .check-list .ensures) .0) _ (c .before .before .variables .ensures) (omega arith))
+returns-2 c =
+    subst (Tells _ _ _) (sym (c .empty2 .ensures)) (room-refused _ _ _
+    (passed _ _ _ _ (c .before .before .before .enum-told .given .1) (c .before .before .before .before .before .check-list .ensures) .0) _ (c .before .before .variables .ensures) (omega arith))
 
 follow-requires : tie.Need-follow-requires
 follow-requires c κs =
@@ -62,7 +66,10 @@ returns-3 : tie.Need-returns-3
 returns-3 c =
     let T = c .before .before .before .follow .ensures in
     let F = c .before .before .before .before .before .before .before .before .before .before .before .pre .formed in
-    values-told _ _ _ (passed _ _ _ _ (c .before .before .before .before .before .before .enum-told .given .1) (c .before .before .before .before .before .before .before .before .check-list .ensures) .0) _ _ _ refl (c .before .before .before .before .before .variables .ensures) (omega (arith, c .before .before .before .before .before .variables .ensures, F .variables-max)) (omega arith) (T .painted) (T .run-real) (T .newest)
+    values-told _ _ _ (passed _ _ _ _ (c .before .before .before .before .before .before .enum-told .given .1)
+        (c .before .before .before .before .before .before .before .before .check-list .ensures) .0) _ _ _ refl
+        (c .before .before .before .before .before .variables .ensures)
+        (omega (arith, c .before .before .before .before .before .variables .ensures, F .variables-max)) (omega arith) (T .painted) (T .run-real) (T .newest)
 
 pub tell-loaded-spec : {M : Type 1} → statement M
 tell-loaded-spec =

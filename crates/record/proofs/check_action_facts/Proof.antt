@@ -24,7 +24,8 @@ check-facts-requires-2 : tie.Need-check-facts-requires-2
 check-facts-requires-2 c κs = (omega (arith, (passed _ _ _ _ (c .before .p .given .1) (c .before .before .before .check-facts .ensures)) .1), search needs, search needs, search needs, search needs)
 
 returns-2 : tie.Need-returns-2
-returns-2 c = eff-answer _ _ _ (search needs) _ _ _ (search needs) (passed _ _ _ _ (c .before .before .p .given .1) (c .before .before .before .before .check-facts .ensures)) (c .check-facts2 .ensures)
+returns-2 c =
+    eff-answer _ _ _ (search needs) _ _ _ (search needs) (passed _ _ _ _ (c .before .before .p .given .1) (c .before .before .before .before .check-facts .ensures)) (c .check-facts2 .ensures)
 
 pub check-action-facts-spec : {M : Type 1} → statement M
 check-action-facts-spec =

@@ -41,7 +41,8 @@ returns-2 : tie.Need-returns-2
 unfolding actionChecks
 returns-2 c =
     let at-enum-told = c .before .before .before in
-    skip _ _ _ _ ((passed _ _ _ _ (at-enum-told .enum-told .given .1) (at-enum-told .before .before .take .ensures)) .0) (stops _ _ _ _ _ _ (c .enum-told3 .given .1) (c .before .before .take2 .ensures))
+    skip _ _ _ _ ((passed _ _ _ _ (at-enum-told .enum-told .given .1) (at-enum-told .before .before .take .ensures)) .0)
+        (stops _ _ _ _ _ _ (c .enum-told3 .given .1) (c .before .before .take2 .ensures))
 
 add-take-2 : tie.Need-add-take-2
 add-take-2 c = omega arith
@@ -60,7 +61,8 @@ unfolding actionChecks
 returns-3 c =
     let at-p = c .before .before .before .before in
     let at-enum-told = at-p .before .before .before in
-    skip _ _ _ _ ((passed _ _ _ _ (at-enum-told .enum-told .given .1) (at-enum-told .before .before .take .ensures)) .0) (skip _ _ _ _ ((passed _ _ _ _ (at-p .p .given .1) (at-p .before .before .take2 .ensures)) .0) (stops _ _ _ _ _ _ (c .enum-told4 .given .1) (c .before .before .take3 .ensures)))
+    skip _ _ _ _ ((passed _ _ _ _ (at-enum-told .enum-told .given .1) (at-enum-told .before .before .take .ensures)) .0)
+        (skip _ _ _ _ ((passed _ _ _ _ (at-p .p .given .1) (at-p .before .before .take2 .ensures)) .0) (stops _ _ _ _ _ _ (c .enum-told4 .given .1) (c .before .before .take3 .ensures)))
 
 check-action-facts-requires : tie.Need-check-action-facts-requires
 unfolding preconditionsIn effectsIn
@@ -73,9 +75,11 @@ check-action-facts-requires c κs =
       sym ((passed _ _ _ _ (c .before .e .given .1) (at-take3 .take3 .ensures)) .1),
       omega (arith, (passed _ _ _ _ (at-take3 .before .before .p .given .1) (at-take2 .take2 .ensures)) .1, bitsAt-lt (at-start .args .bytes .now) (at-start .args .at + 16) 4),
       omega (arith, (passed _ _ _ _ (c .before .e .given .1) (at-take3 .take3 .ensures)) .1, bitsAt-lt (at-start .args .bytes .now) (at-start .args .at + 20) 4),
-      search needs,
-      search needs,
-      search needs,
+      (
+        search needs,
+        search needs,
+        search needs,
+      ),
     )
 
 returns-4 : tie.Need-returns-4

@@ -40,7 +40,8 @@ loop-less : tie.Need-loop-less Inv-loop μ-loop
 loop-less c = omega arith
 
 loop-again : tie.Need-loop-again Inv-loop μ-loop
-loop-again c = actions-turn _ _ _ _ _ (c .before .before .before .before .before .loop .inv) _ (omega arith) (passed _ _ _ _ (c .before .a .given .1) (c .before .before .before .check-action .ensures))
+loop-again c =
+    actions-turn _ _ _ _ _ (c .before .before .before .before .before .loop .inv) _ (omega arith) (passed _ _ _ _ (c .before .a .given .1) (c .before .before .before .check-action .ensures))
 
 returns-2 : tie.Need-returns-2 Inv-loop μ-loop
 returns-2 c = actions-done _ _ _ _ _ (c .before .loop .inv) (omega arith)

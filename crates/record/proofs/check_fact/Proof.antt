@@ -28,14 +28,16 @@ returns-2 : tie.Need-returns-2
 unfolding factChecks
 returns-2 c =
     let at-take = c .before .before .before .before in
-    skip _ _ _ _ ((passed _ _ _ _ (c .before .before .a .given .1) (at-take .take .ensures)) .0) (hit _ _ _ _ _ (var-above _ _ _ _ _ (at-take .before .before .pre .1) ((passed _ _ _ _ (c .before .before .a .given .1) (at-take .take .ensures)) .1) (c .if1 .taken)))
+    skip _ _ _ _ ((passed _ _ _ _ (c .before .before .a .given .1) (at-take .take .ensures)) .0)
+        (hit _ _ _ _ _ (var-above _ _ _ _ _ (at-take .before .before .pre .1) ((passed _ _ _ _ (c .before .before .a .given .1) (at-take .take .ensures)) .1) (c .if1 .taken)))
 
 returns-3 : tie.Need-returns-3
 unfolding factChecks
 returns-3 c =
     let at-a = c .before .before .before in
     let at-start = a-to-start at-a in
-    skip _ _ _ _ ((passed _ _ _ _ (at-a .a .given .1) (at-a .before .before .take .ensures)) .0) (hit _ _ _ _ _ (var-low _ _ _ _ _ (at-start .pre .1) ((passed _ _ _ _ (at-a .a .given .1) (at-a .before .before .take .ensures)) .1) (c .before .if1 .left) (c .if2 .taken)))
+    skip _ _ _ _ ((passed _ _ _ _ (at-a .a .given .1) (at-a .before .before .take .ensures)) .0)
+        (hit _ _ _ _ _ (var-low _ _ _ _ _ (at-start .pre .1) ((passed _ _ _ _ (at-a .a .given .1) (at-a .before .before .take .ensures)) .1) (c .before .if1 .left) (c .if2 .taken)))
 
 add-take : tie.Need-add-take
 add-take c = search needs

@@ -43,7 +43,8 @@ add-low : tie.Need-add-low Inv-loop μ-loop
 add-low c =
     let at-check-fact = c .before .before .before in
     let at-start = at-check-fact .before .before .before .before in
-    record { fits = omega (arith, (passed _ _ _ _ (c .before .f .given .1) (at-check-fact .check-fact .ensures)) .1, bitsAt-lt (at-start .args .bytes .now) (at-start .args .from + 12 * at-check-fact .before .before .loop .i) 6) }
+    record { fits = omega (arith, (passed _ _ _ _ (c .before .f .given .1) (at-check-fact .check-fact .ensures)) .1, bitsAt-lt (at-start .args .bytes .now)
+        (at-start .args .from + 12 * at-check-fact .before .before .loop .i) 6) }
 
 add-i : tie.Need-add-i Inv-loop μ-loop
 add-i c = omega arith

@@ -25,7 +25,8 @@ returns-2 : tie.Need-returns-2
 unfolding fromActionCount actionsIn
 returns-2 c =
     let at-take = c .before .before .before .before in
-    skip _ _ _ _ ((passed _ _ _ _ (c .before .before .a .given .1) (at-take .take .ensures)) .0) (hit _ _ _ _ _ (count-above _ _ _ _ ((passed _ _ _ _ (c .before .before .a .given .1) (at-take .take .ensures)) .1) (c .if1 .taken)))
+    skip _ _ _ _ ((passed _ _ _ _ (c .before .before .a .given .1) (at-take .take .ensures)) .0)
+        (hit _ _ _ _ _ (count-above _ _ _ _ ((passed _ _ _ _ (c .before .before .a .given .1) (at-take .take .ensures)) .1) (c .if1 .taken)))
 
 check-from-variables-requires : tie.Need-check-from-variables-requires
 unfolding actionsIn
@@ -37,7 +38,8 @@ returns-3 : tie.Need-returns-3
 unfolding fromActionCount actionsIn
 returns-3 c =
     let at-a = c .before .before .before in
-    skip _ _ _ _ ((passed _ _ _ _ (at-a .a .given .1) (at-a .before .before .take .ensures)) .0) (skip _ _ _ _ (count-right _ _ _ _ ((passed _ _ _ _ (at-a .a .given .1) (at-a .before .before .take .ensures)) .1) (c .before .if1 .left)) (c .check-from-variables .ensures))
+    skip _ _ _ _ ((passed _ _ _ _ (at-a .a .given .1) (at-a .before .before .take .ensures)) .0)
+        (skip _ _ _ _ (count-right _ _ _ _ ((passed _ _ _ _ (at-a .a .given .1) (at-a .before .before .take .ensures)) .1) (c .before .if1 .left)) (c .check-from-variables .ensures))
 
 pub check-from-action-count-spec : {M : Type 1} → statement M
 check-from-action-count-spec =

@@ -18,10 +18,12 @@ returns : tie.Need-returns
 returns c = actions-refused _ _ _ (search needs) (search needs) _ _ _ _ (c .enum-told .given .1) (c .before .before .check-actions .ensures)
 
 check-end-requires : tie.Need-check-end-requires
-check-end-requires c κs = actions-end _ _ _ (search needs) (search needs) _ (search needs) (search needs) ((passed _ _ _ _ (c .before .a .given .1) (c .before .before .before .check-actions .ensures)) .1)
+check-end-requires c κs =
+    actions-end _ _ _ (search needs) (search needs) _ (search needs) (search needs) ((passed _ _ _ _ (c .before .a .given .1) (c .before .before .before .check-actions .ensures)) .1)
 
 returns-2 : tie.Need-returns-2
-returns-2 c = actions-passed _ _ _ (search needs) (search needs) _ _ ((passed _ _ _ _ (c .before .before .a .given .1) (c .before .before .before .before .check-actions .ensures)) .0) (c .check-end .ensures)
+returns-2 c =
+    actions-passed _ _ _ (search needs) (search needs) _ _ ((passed _ _ _ _ (c .before .before .a .given .1) (c .before .before .before .before .check-actions .ensures)) .0) (c .check-end .ensures)
 
 pub check-from-actions-spec : {M : Type 1} → statement M
 check-from-actions-spec =

@@ -24,13 +24,15 @@ returns-2 : tie.Need-returns-2
 unfolding fromVariableCount variablesIn
 returns-2 c =
     let at-take = c .before .before .before .before in
-    skip _ _ _ _ ((passed _ _ _ _ (c .before .before .v .given .1) (at-take .take .ensures)) .0) (hit _ _ _ _ _ (range-low _ _ _ _ ((passed _ _ _ _ (c .before .before .v .given .1) (at-take .take .ensures)) .1) (c .if1 .taken)))
+    skip _ _ _ _ ((passed _ _ _ _ (c .before .before .v .given .1) (at-take .take .ensures)) .0)
+        (hit _ _ _ _ _ (range-low _ _ _ _ ((passed _ _ _ _ (c .before .before .v .given .1) (at-take .take .ensures)) .1) (c .if1 .taken)))
 
 returns-3 : tie.Need-returns-3
 unfolding fromVariableCount variablesIn
 returns-3 c =
     let at-v = c .before .before .before in
-    skip _ _ _ _ ((passed _ _ _ _ (at-v .v .given .1) (at-v .before .before .take .ensures)) .0) (hit _ _ _ _ _ (range-high _ _ _ _ ((passed _ _ _ _ (at-v .v .given .1) (at-v .before .before .take .ensures)) .1) (c .before .if1 .left) (c .if2 .taken)))
+    skip _ _ _ _ ((passed _ _ _ _ (at-v .v .given .1) (at-v .before .before .take .ensures)) .0)
+        (hit _ _ _ _ _ (range-high _ _ _ _ ((passed _ _ _ _ (at-v .v .given .1) (at-v .before .before .take .ensures)) .1) (c .before .if1 .left) (c .if2 .taken)))
 
 check-from-action-count-requires : tie.Need-check-from-action-count-requires
 unfolding variablesIn

@@ -21,7 +21,8 @@ returns c = variables-refused _ _ (search needs) _ _ _ _ (c .enum-told2 .given .
 check-from-actions-requires : tie.Need-check-from-actions-requires
 check-from-actions-requires c κs =
     let at-check-variables = c .before .before .before in
-    (search needs, search needs, search needs, search needs, at-check-variables .check-variables .ensures .1 (answer-passes _ _ _ (at-check-variables .check-variables .ensures .0) ((passed _ _ _ _ (c .before .enum-told .given .1) (at-check-variables .check-variables .ensures .0)) .0)))
+    (search needs, search needs, search needs, search needs, at-check-variables .check-variables .ensures .1
+        (answer-passes _ _ _ (at-check-variables .check-variables .ensures .0) ((passed _ _ _ _ (c .before .enum-told .given .1) (at-check-variables .check-variables .ensures .0)) .0)))
 
 returns-2 : tie.Need-returns-2
 returns-2 c =

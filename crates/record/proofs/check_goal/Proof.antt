@@ -49,7 +49,8 @@ mul-if1 : tie.Need-mul-if1
 mul-if1 c =
     let at-p = c .before .before .before .before .before in
     let at-start = at-p .before .before .before .before in
-    record { fits = omega (arith, bit-times (at-start .args .last) (at-p .p .given .0 .0) (omega (arith, (passed _ _ _ _ (at-p .p .given .1) (at-p .before .before .take .ensures)) .1, bitsAt-lt (at-start .args .bytes .now) (at-start .args .at + 13) 1))) }
+    record { fits = omega (arith, bit-times (at-start .args .last) (at-p .p .given .0 .0)
+        (omega (arith, (passed _ _ _ _ (at-p .p .given .1) (at-p .before .before .take .ensures)) .1, bitsAt-lt (at-start .args .bytes .now) (at-start .args .at + 13) 1))) }
 
 add-t10 : tie.Need-add-t10
 add-t10 c = omega arith

@@ -28,7 +28,8 @@ returns-2 : tie.Need-returns-2
 unfolding initialChecks
 returns-2 c =
     let at-take = c .before .before .before .before in
-    skip _ _ _ _ ((passed _ _ _ _ (c .before .before .i .given .1) (at-take .take .ensures)) .0) (hit _ _ _ _ _ (value-above _ _ _ _ _ ((passed _ _ _ _ (c .before .before .i .given .1) (at-take .take .ensures)) .1) (c .if1 .taken)))
+    skip _ _ _ _ ((passed _ _ _ _ (c .before .before .i .given .1) (at-take .take .ensures)) .0)
+        (hit _ _ _ _ _ (value-above _ _ _ _ _ ((passed _ _ _ _ (c .before .before .i .given .1) (at-take .take .ensures)) .1) (c .if1 .taken)))
 
 check-goal-requires : tie.Need-check-goal-requires
 check-goal-requires c κs = omega arith
@@ -37,7 +38,8 @@ returns-3 : tie.Need-returns-3
 unfolding initialChecks
 returns-3 c =
     let at-i = c .before .before .before in
-    skip _ _ _ _ ((passed _ _ _ _ (at-i .i .given .1) (at-i .before .before .take .ensures)) .0) (skip _ _ _ _ (value-right _ _ _ _ _ ((passed _ _ _ _ (at-i .i .given .1) (at-i .before .before .take .ensures)) .1) (c .before .if1 .left)) (c .check-goal .ensures))
+    skip _ _ _ _ ((passed _ _ _ _ (at-i .i .given .1) (at-i .before .before .take .ensures)) .0)
+        (skip _ _ _ _ (value-right _ _ _ _ _ ((passed _ _ _ _ (at-i .i .given .1) (at-i .before .before .take .ensures)) .1) (c .before .if1 .left)) (c .check-goal .ensures))
 
 pub check-initial-spec : {M : Type 1} → statement M
 check-initial-spec =

@@ -31,10 +31,14 @@ enum-told : tie.Need-enum-told Inv-loop μ-loop
 enum-told c = omega arith
 
 returns : tie.Need-returns Inv-loop μ-loop
-returns c = (variable-stops _ _ _ _ (c .before .before .before .before .loop .inv) _ _ _ _ (omega arith) (c .enum-told .given .1) (c .before .before .check-variable .ensures), λ z. absurd (not-done _ _ _ (c .enum-told .given .1) z))
+returns c =
+    (variable-stops _ _ _ _ (c .before .before .before .before .loop .inv) _ _ _ _ (omega arith) (c .enum-told .given .1)
+    (c .before .before .check-variable .ensures), λ z. absurd (not-done _ _ _ (c .enum-told .given .1) z))
 
 add-counts : tie.Need-add-counts Inv-loop μ-loop
-add-counts c = record { fits = omega (arith, (passed _ _ _ _ (c .before .v .given .1) (c .before .before .before .check-variable .ensures)) .1, bitsAt-lt (c .before .before .before .before .before .before .before .args .bytes .now) (22 + 20 * c .before .before .before .before .before .loop .i) 6) }
+add-counts c =
+    record { fits = omega (arith, (passed _ _ _ _ (c .before .v .given .1) (c .before .before .before .check-variable .ensures)) .1, bitsAt-lt
+    (c .before .before .before .before .before .before .before .args .bytes .now) (22 + 20 * c .before .before .before .before .before .loop .i) 6) }
 
 cast-counts : tie.Need-cast-counts Inv-loop μ-loop
 cast-counts c = omega arith
@@ -52,7 +56,9 @@ loop-less : tie.Need-loop-less Inv-loop μ-loop
 loop-less c = omega arith
 
 loop-again : tie.Need-loop-again Inv-loop μ-loop
-loop-again c = variables-turn _ _ _ _ (c .before .before .before .before .before .loop .inv) _ (omega arith) (omega arith) (passed _ _ _ _ (c .before .v .given .1) (c .before .before .before .check-variable .ensures))
+loop-again c =
+    variables-turn _ _ _ _ (c .before .before .before .before .before .loop .inv) _ (omega arith) (omega arith)
+    (passed _ _ _ _ (c .before .v .given .1) (c .before .before .before .check-variable .ensures))
 
 returns-2 : tie.Need-returns-2 Inv-loop μ-loop
 returns-2 c = (variables-done _ _ _ _ (c .before .loop .inv) (omega arith) .0, λ _. variables-done _ _ _ _ (c .before .loop .inv) (omega arith) .1)

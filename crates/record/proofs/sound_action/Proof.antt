@@ -58,7 +58,9 @@ add-result-3 : tie.Need-add-result-3
 add-result-3 c = omega arith
 
 returns-5 : tie.Need-returns-5
-returns-5 c = λ _. action-sound _ _ _ (c .before .before .before .before .window-at .ensures 8 (omega arith) (omega arith)) (omega arith) (c .before .before .before .sound-facts .ensures (not-false _ (c .before .before .if3 .left))) (c .before .sound-facts2 .ensures (not-false _ (c .if4 .left)))
+returns-5 c =
+    λ _. action-sound _ _ _ (c .before .before .before .before .window-at .ensures 8 (omega arith) (omega arith)) (omega arith)
+    (c .before .before .before .sound-facts .ensures (not-false _ (c .before .before .if3 .left))) (c .before .sound-facts2 .ensures (not-false _ (c .if4 .left)))
 
 pub sound-action-spec : {M : Type 1} → statement M
 sound-action-spec =

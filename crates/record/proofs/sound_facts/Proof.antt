@@ -45,7 +45,9 @@ loop-less : tie.Need-loop-less Inv-loop μ-loop
 loop-less c = omega arith
 
 loop-again : tie.Need-loop-again Inv-loop μ-loop
-loop-again c = run-turn _ _ _ _ _ _ _ _ _ (c .before .before .before .before .loop .inv) (c .before .before .window-at .ensures) (omega arith) (c .before .before .before .before .before .before .before .pre .3) (omega arith) (c .before .sound-few .ensures (omega arith))
+loop-again c =
+    run-turn _ _ _ _ _ _ _ _ _ (c .before .before .before .before .loop .inv) (c .before .before .window-at .ensures) (omega arith)
+    (c .before .before .before .before .before .before .before .pre .3) (omega arith) (c .before .sound-few .ensures (omega arith))
 
 returns-3 : tie.Need-returns-3 Inv-loop μ-loop
 returns-3 c = λ _. run-none _ _ _ _ _ _ (c .before .before .loop .inv) (c .if3 .taken)
@@ -57,7 +59,9 @@ sound-few-requires-2 : tie.Need-sound-few-requires-2 Inv-loop μ-loop
 sound-few-requires-2 c κs = omega arith
 
 returns-4 : tie.Need-returns-4 Inv-loop μ-loop
-returns-4 c = λ e. run-last _ _ _ _ _ _ _ _ _ (c .before .before .before .before .loop .inv) (c .before .window-at2 .ensures) (omega arith) (c .before .before .before .before .before .before .before .pre .3) (c .sound-few2 .ensures (ltb-true _ _ e))
+returns-4 c =
+    λ e. run-last _ _ _ _ _ _ _ _ _ (c .before .before .before .before .loop .inv) (c .before .window-at2 .ensures) (omega arith)
+    (c .before .before .before .before .before .before .before .pre .3) (c .sound-few2 .ensures (ltb-true _ _ e))
 
 pub sound-facts-spec : {M : Type 1} → statement M
 sound-facts-spec =

@@ -2,12 +2,12 @@
 -- the whole, as passes only insert.
 use borrow.Author.Needs.{needs}
 use mathlib.Core.List.{List}
-use mathlib.Core.Path.{sym, _∙_, subst}
-use Prim.Native.Nat.{ℕ, _-_, _/_, _%_, _<_}
+use mathlib.Core.Path.{sym, _∙_}
+use Prim.Native.Nat.{ℕ, _-_, _<_}
 use native.Mathlib.Omega.{arith}
 use lib.Dec.{T}
 use lib.ListN.{length}
-use Rattle.planning.specs.Runs.{variables, count, black}
+use Rattle.planning.specs.Runs.{variables, black}
 use Rattle.task.specs.Task.{taskIn}
 use Rattle.task.specs.Links.{orderIn}
 use Rattle.task.proofs.Reading.{order-length}

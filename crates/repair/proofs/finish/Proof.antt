@@ -47,9 +47,11 @@ returns c =
     let m = c .before .before .before .before .before .before in
     let l = m .before .before .before .before .before .before in
     let s = start-of l in
-    let a = s .args in
-    goals-moves (taskIn (a .task .now)) (s .pre .0 .0 .loaded .formed) (l .load .result) (l .load .ensures) (few l)
-    (setsOf (a .ever .now)) (setsOf (a .sets .now)) (a .plan .now) _ (a .at) (m .moves .result) (m .moves .ensures .0)
+    let a = s .args in (
+      goals-moves (taskIn (a .task .now)) (s .pre .0 .0 .loaded .formed) (l .load .result) (l .load .ensures) (few l)
+          (setsOf (a .ever .now)) (setsOf (a .sets .now)) (a .plan .now) _ (a .at) (m .moves .result) (m .moves .ensures .0),
+      m .moves .ensures .1,
+    )
 
 pub finish-spec : {M : Type 1} → statement M
 finish-spec =

@@ -1,47 +1,70 @@
--- The steps in front, and the repair of the rest of the relaxed plan from the state behind them, are the whole repair. The facts held
--- ever are the relaxed run of the same steps.
+-- Where every step placed is taken, what is left begins with the steps of the next stage; else one more is taken, and state, facts held
+-- ever, newest values and counts are those behind it. In the end nothing is left, and the counts are those of the whole repair.
 use borrow.Author.Needs.{needs}
 use mathlib.Core.List.{List}
-use mathlib.Core.Path.{sym, _∙_}
-use Prim.Native.Nat.{ℕ, _-_}
+use mathlib.Core.Path.{_≡_, sym, ap, _∙_}
+use Prim.Native.Nat.{ℕ, _+_, _-_, _*_, _<_}
 use native.Mathlib.Omega.{arith}
-use lib.ListN.{length}
+use lib.ListN.{length, take, drop}
+use Rattle.planning.specs.Basics.{refused}
+use Rattle.planning.specs.Runs.{Mode, relaxed, step, actions, act}
 use Rattle.task.specs.Task.{taskIn}
-use Rattle.repair.proofs.Repairing.{Repairing, repairing-start, repairing-lent, Arranged, repairing-long, repairing-bounds, repairing-entries, repairing-turn, repairing-end}
+use Rattle.state.specs.Sets.{setsOf, valuesOf}
+use Rattle.repair.proofs.Values.{mode-none, step-held}
+use Rattle.repair.proofs.Repairing.{Repairing, repairing-start, repairing-lent, repairing-few, repairing-small, repairing-below, repairing-step, Arranged, repairing-long, repairing-fits, repairing-turn, stages-fewer, steps-fewer, rest-is, rest-entries}
+use Rattle.repair.proofs.Ending.{repairing-held, held-long}
 use Rattle.repair.proofs.repair_from.Statement.{statement}
 use Rattle.repair.proofs.repair_from.Tie as tie
 
 abbrev Inv-loop : tie.InvT-loop
-Inv-loop task memo₀ relaxed plan₀ work₀ paint needs s₀ ever₀ at₀ j₀ memo plan work s ever at j = Repairing (taskIn task) relaxed plan₀ plan memo work (s .sets) (ever .sets) at j
+Inv-loop task memo₀ relaxed plan₀ work₀ paint needs s₀ ever₀ c₀ at₀ j₀ memo plan work s ever c at j =
+    Repairing (taskIn task) relaxed plan₀ plan memo work (s .sets) (ever .sets) (valuesOf (s .newest)) c at j
 
 abbrev μ-loop : tie.MeasureT-loop
-μ-loop task memo₀ relaxed plan₀ work₀ paint needs s₀ ever₀ at₀ j₀ memo plan work s ever at j = length relaxed - j
+μ-loop task memo₀ relaxed plan₀ work₀ paint needs s₀ ever₀ c₀ at₀ j₀ memo plan work s ever c at j =
+    (length relaxed + 1 - j) * (length plan₀ + 1) + (at - c .steps)
 
 -- the points of a turn, from the last to the first
-abbrev plan-of : tie.After-known-told Inv-loop μ-loop → tie.After-plan Inv-loop μ-loop
-plan-of c = c .before .before .before .before .before .before
-
-abbrev arrange-of : tie.After-plan Inv-loop μ-loop → tie.After-arrange Inv-loop μ-loop
-arrange-of c = c .before .before .before
-
-abbrev test-of : tie.After-arrange Inv-loop μ-loop → tie.In-loop Inv-loop μ-loop
-test-of c = c .before .before .before .before .before .before .before .before .before
-
 abbrev start-of : tie.At-loop Inv-loop μ-loop → tie.Start Inv-loop μ-loop
 start-of h = h .before .before .before .before .before .before .before .before .before
 
-abbrev left-by : tie.After-arrange Inv-loop μ-loop → List ℕ
-left-by c = c .arrange .last .1 .1 .1 .1 .1 .0
+abbrev stage-of : tie.After-plan Inv-loop μ-loop → tie.After-stage Inv-loop μ-loop
+stage-of c = c .before .before .before
 
-abbrev end-of : tie.After-slice-known10 Inv-loop μ-loop → tie.At-loop Inv-loop μ-loop
-end-of c = c .before .before .before .before .before .before .before .before .before .before .before .before .before .before .before
+abbrev again-of : tie.After-stage Inv-loop μ-loop → tie.Else2 Inv-loop μ-loop
+again-of c = c .before .before .before .before .before .before .before .before .before
 
-arranged : (c : tie.After-plan Inv-loop μ-loop) → let d = arrange-of c in let h = test-of d .before in let a = start-of h .args in let l = h .loop in
-    Arranged (taskIn (a .task .now)) (a .relaxed .now) (a .plan .now) (l .plan) (l .memo) (l .work) (l .s .sets) (l .ever .sets) (l .at) (l .j) (left-by d) (d .arrange .result)
+abbrev left-by : tie.After-stage Inv-loop μ-loop → List ℕ
+left-by c = c .stage .last .1 .1 .1 .1 .1 .0
+
+abbrev wide-of : tie.After-counted Inv-loop μ-loop → tie.After-wide Inv-loop μ-loop
+wide-of c = c .before .before .before
+
+abbrev head-of : tie.After-wide Inv-loop μ-loop → tie.At-loop Inv-loop μ-loop
+head-of c = c .before .before .before
+
+arranged : (c : tie.After-plan Inv-loop μ-loop) → let d = stage-of c in let e = again-of d in let h = e .before .before in let a = start-of h .args in let l = h .loop in
+    Arranged (taskIn (a .task .now)) (a .relaxed .now) (a .plan .now) (l .plan) (l .memo) (l .work) (l .s .sets) (l .ever .sets) (valuesOf (l .s .newest)) (l .c) (l .at) (l .j)
+    (take (length (a .relaxed .now) - l .j) (drop (l .j) (a .relaxed .now))) (left-by d) (d .stage .result)
 arranged c =
-    let d = arrange-of c in
-    let t = test-of d in
-    record { start = t .before .loop .inv; here = t .loop-test .taken; long = c .plan .given; put = d .arrange .ensures .0 }
+    let d = stage-of c in
+    let e = again-of d in
+    let h = e .before .before in
+    record {
+      start = h .loop .inv;
+      taken = e .before .if1 .taken;
+      here = omega (arith, e .if2 .left);
+      part = rest-is (start-of h .args .relaxed .now) (h .loop .j) (omega (arith, e .if2 .left));
+      long = c .plan .given;
+      put = d .stage .ensures .0;
+    }
+
+-- a step is left
+less : (c : tie.After-wide Inv-loop μ-loop) → let l = head-of c .loop in l .c .steps < l .at
+less c = let h = head-of c in omega (arith, c .before .before .if1 .left, h .loop .inv .taken)
+
+below : (c : tie.After-wide Inv-loop μ-loop) → c .wide .result < actions (taskIn (start-of (head-of c) .args .task .now))
+below c = repairing-below (head-of c .loop .inv) (less c) _ (c .wide .ensures)
 
 painted-requires : tie.Need-painted-requires Inv-loop μ-loop
 painted-requires c κs = c .before .before .before .before .before .pre .0 .loaded
@@ -53,20 +76,56 @@ initial-requires : tie.Need-initial-requires Inv-loop μ-loop
 initial-requires c κs = c .before .before .before .before .before .before .before .pre .0 .loaded
 
 loop-holds : tie.Need-loop-holds Inv-loop μ-loop
-loop-holds c = let p = c .before .before .before .before .before .before .before .before .pre in repairing-start _ _ _ _ _ _ _ (p .2) (p .3) (c .initial .ensures) (c .initial .ensures)
+loop-holds c =
+    let p = c .before .before .before .before .before .before .before .before .pre in
+    let e = c .initial .ensures in
+    repairing-start _ _ _ _ _ _ _ _ (p .2) (p .3) (e .0) (e .0) (e .1)
 
-mul-arrange : tie.Need-mul-arrange Inv-loop μ-loop
-mul-arrange c = let t = c .before .before .before .before .before in omega (arith, t .loop-test .taken, start-of (t .before) .good)
-
-shared-slice-read-arrange : tie.Need-shared-slice-read-arrange Inv-loop μ-loop
-shared-slice-read-arrange c = c .before .before .before .before .before .before .loop-test .taken
-
-arrange-requires : tie.Need-arrange-requires Inv-loop μ-loop
-arrange-requires c κs =
-    let t = c .before .before .before .before .before .before .before .before in
-    let h = t .before in
+verdict-requires : tie.Need-verdict-requires Inv-loop μ-loop
+verdict-requires c κs =
+    let h = c .before .before .before .before in
     let p = start-of h .pre in
-    ((p .0, p .1 (h .loop .j) (t .loop-test .taken), repairing-lent (h .loop .inv)), h .loop .inv .rows)
+    (p .0 .loaded, repairing-few (h .loop .inv) (p .0 .loaded .formed) (p .4))
+
+same-length : tie.Need-same-length Inv-loop μ-loop
+same-length c =
+    let h = c .before .before .before .before .before in
+    h .loop .inv .rows .long ∙ sym (start-of h .pre .2 .long)
+
+same-length-2 : tie.Need-same-length-2 Inv-loop μ-loop
+same-length-2 c = c .before .before .before .before .before .loop .inv .long
+
+same-length-3 : tie.Need-same-length-3 Inv-loop μ-loop
+same-length-3 c =
+    let h = c .before .before .before .before .before in
+    h .loop .inv .work-long ∙ sym (start-of h .pre .3 .same)
+
+returns : tie.Need-returns Inv-loop μ-loop
+returns c =
+    let t = c .before .before .before in
+    let h = t .before .before in
+    repairing-held (h .loop .inv) (start-of h .pre .0 .loaded .formed) (t .before .if1 .taken) (t .if2 .taken) _ (c .verdict .ensures)
+
+mul-stage : tie.Need-mul-stage Inv-loop μ-loop
+mul-stage c =
+    let e = c .before .before .before .before .before in
+    omega (arith, e .if2 .left, start-of (e .before .before) .good)
+
+sub-stage : tie.Need-sub-stage Inv-loop μ-loop
+sub-stage c = omega (arith, c .before .before .before .before .before .if2 .left)
+
+part-stage-start : tie.Need-part-stage-start Inv-loop μ-loop
+part-stage-start c = omega (arith, c .before .before .before .before .before .if2 .left)
+
+part-stage-end : tie.Need-part-stage-end Inv-loop μ-loop
+part-stage-end c = omega (arith, c .before .before .before .before .before .if2 .left)
+
+stage-requires : tie.Need-stage-requires Inv-loop μ-loop
+stage-requires c κs =
+    let e = c .before .before .before .before .before .before .before .before in
+    let h = e .before .before in
+    let p = start-of h .pre in
+    ((p .0, rest-entries (start-of h .args .relaxed .now) (h .loop .j) (omega (arith, e .if2 .left)) (taskIn (start-of h .args .task .now)) (p .1), repairing-lent (h .loop .inv)), h .loop .inv .rows)
 
 enum-known-w : tie.Need-enum-known-w Inv-loop μ-loop
 enum-known-w c = search needs
@@ -74,78 +133,122 @@ enum-known-w c = search needs
 enum-told : tie.Need-enum-told Inv-loop μ-loop
 enum-told c = search needs
 
-same-length : tie.Need-same-length Inv-loop μ-loop
-same-length c =
-    let d = c .before .before .before .before .before .before .before .before in
-    d .arrange .ensures .1 .long ∙ sym (start-of (test-of d .before) .pre .2 .long)
-
-same-length-2 : tie.Need-same-length-2 Inv-loop μ-loop
-same-length-2 c =
+too-long-requires : tie.Need-too-long-requires Inv-loop μ-loop
+too-long-requires c κs =
     let p = c .before .before .before .before .before in
-    p .plan .given ∙ test-of (arrange-of p) .before .loop .inv .long
-
-same-length-3 : tie.Need-same-length-3 Inv-loop μ-loop
-same-length-3 c =
-    let h = test-of (c .before .before .before .before .before .before .before .before) .before in
-    c .before .before .before .work .given ∙ h .loop .inv .work-long ∙ sym (start-of h .pre .3 .same)
-
-returns : tie.Need-returns Inv-loop μ-loop
-returns c = repairing-long (arranged (c .before .before .before .before .before)) (c .enum-told .given .1)
-
-run-list-requires : tie.Need-run-list-requires Inv-loop μ-loop
-run-list-requires c κs =
-    let k = c .before in
-    let p = plan-of k in
-    let s = start-of (test-of (arrange-of p) .before) in
-    let b = repairing-bounds (arranged p) _ (k .before .w .given .1) in
-    (s .pre .0 .loaded, b .0, b .1, repairing-entries (arranged p) _ (k .before .w .given .1) (s .pre .1))
-
-learn-requires : tie.Need-learn-requires Inv-loop μ-loop
-learn-requires c κs =
-    let k = c .before .before .before .before in
-    let p = plan-of k in
-    let d = arrange-of p in
-    let h = test-of d .before in
-    let s = start-of h in
-    let b = repairing-bounds (arranged p) _ (k .before .w .given .1) in
-    ((s .pre .0 .loaded, b .0, b .1, repairing-entries (arranged p) _ (k .before .w .given .1) (s .pre .1)), (h .before .before .needs .ensures, d .arrange .ensures .1))
-
-add-j : tie.Need-add-j Inv-loop μ-loop
-add-j c = let t = test-of (arrange-of (plan-of (c .before .before .before .before .before .before .before))) in omega (arith, t .loop-test .taken, start-of (t .before) .good)
-
-loop-less : tie.Need-loop-less Inv-loop μ-loop
-loop-less c = let t = test-of (arrange-of (plan-of (c .before .before .before .before .before .before .before))) in omega (arith, t .loop-test .taken)
-
-loop-again : tie.Need-loop-again Inv-loop μ-loop
-loop-again c =
-    let k = c .before .before .before .before .before .before .before in
-    let p = plan-of k in
-    let h = test-of (arrange-of p) .before in
-    let l = c .before .before in
-    repairing-turn (arranged p) _ (k .before .w .given .1) _ _ _ _ _ (h .before .before .before .painted .ensures) (l .learn .ensures .1) (k .before .before .before .before .work .given)
-    (l .before .before .before .run-list .ensures) (l .learn .ensures .0)
-
-finish-requires : tie.Need-finish-requires Inv-loop μ-loop
-finish-requires c κs = let h = c .before .before .before .before .before .before .before .before in ((start-of h .pre .0, repairing-lent (h .loop .inv)), h .loop .inv .rows)
+    let h = again-of (stage-of p) .before .before in
+    omega (arith, p .plan .given, h .loop .inv .long, start-of h .pre .4)
 
 same-length-4 : tie.Need-same-length-4 Inv-loop μ-loop
 same-length-4 c =
-    let h = end-of c in
-    c .before .before .before .before .before .memo3 .given ∙ h .loop .inv .rows .long ∙ sym (start-of h .pre .2 .long)
+    let d = stage-of (c .before .before .before .before .before .before) in
+    d .stage .ensures .1 .long ∙ sym (start-of (again-of d .before .before) .pre .2 .long)
 
 same-length-5 : tie.Need-same-length-5 Inv-loop μ-loop
-same-length-5 c = let h = end-of c in c .before .before .before .plan2 .given ∙ h .loop .inv .long
+same-length-5 c =
+    let p = c .before .before .before .before .before .before in
+    p .plan .given ∙ again-of (stage-of p) .before .before .loop .inv .long
 
 same-length-6 : tie.Need-same-length-6 Inv-loop μ-loop
 same-length-6 c =
-    let h = end-of c in
-    c .before .work2 .given ∙ h .loop .inv .work-long ∙ sym (start-of h .pre .3 .same)
+    let h = again-of (stage-of (c .before .before .before .before .before .before)) .before .before in
+    c .before .before .before .before .work .given ∙ h .loop .inv .work-long ∙ sym (start-of h .pre .3 .same)
 
 returns-2 : tie.Need-returns-2 Inv-loop μ-loop
 returns-2 c =
-    let f = c .before .before .before .before .before .before in
-    let t = f .before .before .before .before .before .before .before .before in
-    repairing-end (t .before .loop .inv) (omega (arith, t .loop-test .left)) _ (f .finish .result) (f .finish .ensures)
+    let p = c .before .before .before .before .before .before in
+    let h = again-of (stage-of p) .before .before in
+    held-long _ _ _ _ _ (c .too-long .ensures ∙ ap (refused 11) (p .plan .given ∙ h .loop .inv .long)) (repairing-long (arranged p) (c .before .enum-told .given .1))
+
+add-j : tie.Need-add-j Inv-loop μ-loop
+add-j c =
+    let e = again-of (stage-of (c .before .before .before .before .before .before)) in
+    omega (arith, e .if2 .left, start-of (e .before .before) .good)
+
+loop-less : tie.Need-loop-less Inv-loop μ-loop
+loop-less c =
+    let p = c .before .before .before .before .before .before in
+    let e = again-of (stage-of p) in
+    stages-fewer _ _ _ _ _ _ (omega (arith, e .if2 .left)) (repairing-fits (arranged p) _ (c .before .w .given .1))
+
+loop-again : tie.Need-loop-again Inv-loop μ-loop
+loop-again c =
+    let p = c .before .before .before .before .before .before in
+    let d = stage-of p in
+    let e = again-of d in
+    let h = e .before .before in
+    let a = start-of h in
+    repairing-turn (arranged p) _ (c .before .w .given .1) (rest-entries (a .args .relaxed .now) (h .loop .j) (omega (arith, e .if2 .left)) (taskIn (a .args .task .now)) (a .pre .1)) _ _
+    (d .stage .ensures .1) (c .before .before .before .before .work .given)
+
+mul-wide : tie.Need-mul-wide Inv-loop μ-loop
+mul-wide c =
+    let h = c .before in
+    let i = h .loop .inv in
+    omega (arith, c .if1 .left, i .taken, i .within, start-of h .good)
+
+slice-read-wide : tie.Need-slice-read-wide Inv-loop μ-loop
+slice-read-wide c =
+    let e = c .before in
+    let i = e .before .loop .inv in
+    omega (arith, e .if1 .left, i .taken, i .within, i .long)
+
+wide-requires : tie.Need-wide-requires Inv-loop μ-loop
+wide-requires c κs = search needs
+
+counted-requires : tie.Need-counted-requires Inv-loop μ-loop
+counted-requires c κs =
+    let w = c .before .before in
+    let h = head-of w in
+    let p = start-of h .pre in
+    (p .0 .loaded, below w, repairing-small (h .loop .inv) (less w) _ (w .wide .ensures) (p .0 .loaded .formed) (p .4))
+
+step-requires : tie.Need-step-requires Inv-loop μ-loop
+step-requires c κs = let w = wide-of c in (start-of (head-of w) .pre .0 .loaded, below w)
+
+has-effects-requires : tie.Need-has-effects-requires Inv-loop μ-loop
+has-effects-requires c κs = let w = wide-of (c .before .before .before) in (start-of (head-of w) .pre .0 .loaded, below w)
+
+loop-less-2 : tie.Need-loop-less-2 Inv-loop μ-loop
+loop-less-2 c = let k = c .before .before .before .before .before in steps-fewer _ _ _ _ (less (wide-of k)) (k .counted .ensures .steps)
+
+loop-again-2 : tie.Need-loop-again-2 Inv-loop μ-loop
+loop-again-2 c =
+    let s = c .before .before .before .before in
+    let k = s .before in
+    let w = wide-of k in
+    let h = head-of w in
+    let a = start-of h in
+    let same = step-held (act (taskIn (a .args .task .now)) (w .wide .result)) (setsOf (h .loop .ever .sets)) (sym (c .before .has-effects .ensures) ∙ c .if3 .taken) in
+    repairing-step (h .loop .inv) (less w) _ (w .wide .ensures) (a .pre .0 .loaded .formed) _ _ _ _ _ _ (h .before .before .before .painted .ensures) (h .loop .inv .rows)
+    (s .step .ensures .0) same (k .counted .ensures) (s .step .ensures .1)
+
+refresh-requires : tie.Need-refresh-requires Inv-loop μ-loop
+refresh-requires c κs =
+    let w = wide-of (c .before .before .before .before .before .before .before .before) in
+    let h = head-of w in
+    ((start-of h .pre .0 .loaded, below w, h .before .before .needs .ensures), h .loop .inv .rows)
+
+step-requires-2 : tie.Need-step-requires-2 Inv-loop μ-loop
+step-requires-2 c κs = let w = wide-of (c .before .before .before .before .before .before .before .before .before .before .before) in (start-of (head-of w) .pre .0 .loaded, below w)
+
+loop-less-3 : tie.Need-loop-less-3 Inv-loop μ-loop
+loop-less-3 c =
+    let k = c .before .before .before .before .before .before .before .before .before .before .before .before in
+    steps-fewer _ _ _ _ (less (wide-of k)) (k .counted .ensures .steps)
+
+loop-again-3 : tie.Need-loop-again-3 Inv-loop μ-loop
+loop-again-3 c =
+    let s = c .before .before .before .before .before .before .before .before .before .before .before in
+    let k = s .before in
+    let w = wide-of k in
+    let h = head-of w in
+    let a = start-of h in
+    let i = act (taskIn (a .args .task .now)) (w .wide .result) in
+    let K = setsOf (h .loop .ever .sets) in
+    let e : setsOf (c .step2 .result .sets) ≡ step relaxed i K = c .step2 .ensures .0 ∙ ap (λ (m : Mode). step m i K) mode-none in
+    repairing-step (h .loop .inv) (less w) _ (w .wide .ensures) (a .pre .0 .loaded .formed) _ _ _ _ _ _ (h .before .before .before .painted .ensures)
+    (rw e (c .before .before .before .refresh .ensures)) (s .step .ensures .0) e (k .counted .ensures) (s .step .ensures .1)
 
 pub repair-from-spec : {M : Type 1} → statement M
 repair-from-spec =
@@ -157,22 +260,35 @@ repair-from-spec =
     needs-requires
     initial-requires
     loop-holds
-    mul-arrange
-    shared-slice-read-arrange
-    arrange-requires
-    enum-known-w
-    enum-told
+    verdict-requires
     same-length
     same-length-2
     same-length-3
     returns
-    run-list-requires
-    learn-requires
-    add-j
-    loop-less
-    loop-again
-    finish-requires
+    mul-stage
+    sub-stage
+    part-stage-start
+    part-stage-end
+    stage-requires
+    enum-known-w
+    enum-told
+    too-long-requires
     same-length-4
     same-length-5
     same-length-6
-    returns-2)
+    returns-2
+    add-j
+    loop-less
+    loop-again
+    mul-wide
+    slice-read-wide
+    wide-requires
+    counted-requires
+    step-requires
+    has-effects-requires
+    loop-less-2
+    loop-again-2
+    refresh-requires
+    step-requires-2
+    loop-less-3
+    loop-again-3)

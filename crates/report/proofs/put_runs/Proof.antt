@@ -50,7 +50,8 @@ returns c =
     let r = c .before .before .before .before .before .before .before .before in
     let P = c .before .before .before .before .before .before .before .before .before .before .before .before .put-line .ensures in
     let Q = c .before .before .put-relaxed .ensures in (
-      put-runs (to-start r .args .bytes .now) _ _ _ _ _ _ (same r) (to-reached r .reached .ensures) (r .relaxed .ensures .0) (r .relaxed .ensures .1) (c .before .before .before .front .ensures .0) (P .0) (Q .0),
+      put-runs (to-start r .args .bytes .now) _ _ _ _ _ _ (same r) (to-reached r .reached .ensures) (r .relaxed .ensures .0) (r .relaxed .ensures .1)
+          (c .before .before .before .front .ensures .0) (P .0) (Q .0),
       omega (arith, P .1, Q .1),
     )
 

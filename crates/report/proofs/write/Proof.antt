@@ -45,7 +45,9 @@ same-length : tie.Need-same-length
 same-length c = search needs
 
 returns : tie.Need-returns
-returns c = written-refusal _ _ _ (asked (c .before .before .before .before .before .before .before .before .before)) _ _ (c .before .before .before .before .before .enum-told .given .1) (c .before .before .before .refusal-of .ensures) (c .before .before .put-refusal .ensures)
+returns c =
+    written-refusal _ _ _ (asked (c .before .before .before .before .before .before .before .before .before)) _ _
+    (c .before .before .before .before .before .enum-told .given .1) (c .before .before .before .refusal-of .ensures) (c .before .before .put-refusal .ensures)
 
 slice-aggregate-put-runs : tie.Need-slice-aggregate-put-runs
 slice-aggregate-put-runs c = search needs
@@ -69,7 +71,8 @@ front-requires : tie.Need-front-requires
 front-requires c κs = search needs
 
 put-result-requires : tie.Need-put-result-requires
-put-result-requires c κs = (omega (arith, length-replicate {A = ℕ} 16384 0, c .front .ensures .2), omega (arith, c .before .before .before .before .before .before .before .before .put-runs .ensures .1))
+put-result-requires c κs =
+    (omega (arith, length-replicate {A = ℕ} 16384 0, c .front .ensures .2), omega (arith, c .before .before .before .before .before .before .before .before .put-runs .ensures .1))
 
 same-length-2 : tie.Need-same-length-2
 same-length-2 c = search needs
@@ -78,7 +81,8 @@ returns-2 : tie.Need-returns-2
 returns-2 c =
     let d = c .before .before .before .before .before .before .before .before .before .before .before .before .before .before .before in
     let p = to-plan d in
-    written _ _ _ (asked p) _ _ _ _ (d .answer .given .1) _ _ _ _ (c .before .before .before .before .before .before .before .before .before .before .before .put-runs .ensures .0) (c .before .before .put-result .ensures) (work-length p) refl
+    written _ _ _ (asked p) _ _ _ _ (d .answer .given .1) _ _ _ _
+        (c .before .before .before .before .before .before .before .before .before .before .before .put-runs .ensures .0) (c .before .before .put-result .ensures) (work-length p) refl
     (c .before .before .before .front .ensures .0) (c .before .before .before .before .before .before .running .ensures)
 
 pub write-spec : {M : Type 1} → statement M

@@ -35,7 +35,10 @@ holds-requires : tie.Need-holds-requires Inv-loop μ-loop
 holds-requires c κs = small c
 
 returns : tie.Need-returns Inv-loop μ-loop
-returns c = let a = c .before .before .before .before .before .before .before .args in sym (c .before .before .before .before .before .loop .inv .2 ∙ holds-fails (a .facts .now) (c .before .before .before .before .before .loop .k) (a .to) (omega arith) (omega arith) (setsOf (a .sets .now)) _ (c .before .before .wide .ensures) (sym (c .before .holds .ensures) ∙ not-true _ (c .if1 .taken)))
+returns c =
+    let a = c .before .before .before .before .before .before .before .args in sym
+    (c .before .before .before .before .before .loop .inv .2 ∙ holds-fails (a .facts .now) (c .before .before .before .before .before .loop .k) (a .to)
+    (omega arith) (omega arith) (setsOf (a .sets .now)) _ (c .before .before .wide .ensures) (sym (c .before .holds .ensures) ∙ not-true _ (c .if1 .taken)))
 
 add-k : tie.Need-add-k Inv-loop μ-loop
 add-k c = search needs
@@ -44,7 +47,11 @@ loop-less : tie.Need-loop-less Inv-loop μ-loop
 loop-less c = search needs
 
 loop-again : tie.Need-loop-again Inv-loop μ-loop
-loop-again c = let a = c .before .before .before .before .before .before .before .args in (search needs, search needs, c .before .before .before .before .before .loop .inv .2 ∙ holds-passes (a .facts .now) (c .before .before .before .before .before .loop .k) (a .to) (omega arith) (omega arith) (setsOf (a .sets .now)) _ (c .before .before .wide .ensures) (sym (c .before .holds .ensures) ∙ not-false _ (c .if1 .left)))
+loop-again c =
+    let a = c .before .before .before .before .before .before .before .args in
+    (search needs, search needs, c .before .before .before .before .before .loop .inv .2 ∙ holds-passes (a .facts .now)
+    (c .before .before .before .before .before .loop .k) (a .to) (omega arith) (omega arith) (setsOf (a .sets .now)) _ (c .before .before .wide .ensures)
+    (sym (c .before .holds .ensures) ∙ not-false _ (c .if1 .left)))
 
 returns-2 : tie.Need-returns-2 Inv-loop μ-loop
 returns-2 c = let a = c .before .before .before .args in sym (c .before .loop .inv .2 ∙ holds-end (setsOf (a .sets .now)) (a .facts .now) (c .before .loop .k) (a .to) (omega arith))

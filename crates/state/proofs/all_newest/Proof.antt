@@ -40,7 +40,10 @@ cast-if1 : tie.Need-cast-if1 Inv-loop μ-loop
 cast-if1 c = search needs
 
 returns : tie.Need-returns Inv-loop μ-loop
-returns c = let a = c .before .before .before .before .before .before .before .args in sym (c .before .before .before .before .before .loop .inv .2 ∙ holds-fails (a .facts .now) (c .before .before .before .before .before .loop .k) (a .to) (omega arith) (omega arith) (alone (valuesOf (a .newest .now))) _ (c .before .before .wide .ensures) (newest-not _ _ (λ e. omega arith)))
+returns c =
+    let a = c .before .before .before .before .before .before .before .args in sym
+    (c .before .before .before .before .before .loop .inv .2 ∙ holds-fails (a .facts .now) (c .before .before .before .before .before .loop .k) (a .to)
+    (omega arith) (omega arith) (alone (valuesOf (a .newest .now))) _ (c .before .before .wide .ensures) (newest-not _ _ (λ e. omega arith)))
 
 add-k : tie.Need-add-k Inv-loop μ-loop
 add-k c = search needs
@@ -49,7 +52,10 @@ loop-less : tie.Need-loop-less Inv-loop μ-loop
 loop-less c = search needs
 
 loop-again : tie.Need-loop-again Inv-loop μ-loop
-loop-again c = let a = c .before .before .before .before .before .before .before .args in (search needs, search needs, c .before .before .before .before .before .loop .inv .2 ∙ holds-passes (a .facts .now) (c .before .before .before .before .before .loop .k) (a .to) (omega arith) (omega arith) (alone (valuesOf (a .newest .now))) _ (c .before .before .wide .ensures) (newest-is _ _ (omega arith)))
+loop-again c =
+    let a = c .before .before .before .before .before .before .before .args in
+    (search needs, search needs, c .before .before .before .before .before .loop .inv .2 ∙ holds-passes (a .facts .now)
+    (c .before .before .before .before .before .loop .k) (a .to) (omega arith) (omega arith) (alone (valuesOf (a .newest .now))) _ (c .before .before .wide .ensures) (newest-is _ _ (omega arith)))
 
 returns-2 : tie.Need-returns-2 Inv-loop μ-loop
 returns-2 c = let a = c .before .before .before .args in sym (c .before .loop .inv .2 ∙ holds-end (alone (valuesOf (a .newest .now))) (a .facts .now) (c .before .loop .k) (a .to) (omega arith))

@@ -27,7 +27,9 @@ read-bits-requires : tie.Need-read-bits-requires Inv-loop μ-loop
 read-bits-requires c κs = search needs
 
 cast-task : tie.Need-cast-task Inv-loop μ-loop
-cast-task c = omega (arith, c .read-bits .ensures, bitsAt-below (c .before .before .before .before .before .args .bytes .now) (c .before .before .before .before .before .args .at + 12 * c .before .before .loop .k) 12)
+cast-task c =
+    omega (arith, c .read-bits .ensures, bitsAt-below (c .before .before .before .before .before .args .bytes .now)
+    (c .before .before .before .before .before .args .at + 12 * c .before .before .loop .k) 12)
 
 add-task : tie.Need-add-task Inv-loop μ-loop
 add-task c = search needs

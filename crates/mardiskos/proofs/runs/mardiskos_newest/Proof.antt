@@ -15,15 +15,15 @@ enum-known-a c = search needs
 enum-told : tie.Need-enum-told
 enum-told c = search needs
 
-traced-code-requires : tie.Need-traced-code-requires
-traced-code-requires c κs = search needs
+progress-code-requires : tie.Need-progress-code-requires
+progress-code-requires c κs = search needs
 
 same-length : tie.Need-same-length
 same-length c = search needs
 
 returns : tie.Need-returns
 unfolding code
-returns c = let z = c .before .before .before .before .before .newest .ensures in (rw (← z .0, c .traced-code .ensures, c .before .enum-told .given .1) refl, z .1)
+returns c = let z = c .before .before .before .before .before .newest .ensures in (rw (← z .0, c .progress-code .ensures, c .before .enum-told .given .1) refl, z .1)
 
 same-length-2 : tie.Need-same-length-2
 same-length-2 c = search needs
@@ -38,7 +38,7 @@ mardiskos-newest-spec =
     newest-requires
     enum-known-a
     enum-told
-    traced-code-requires
+    progress-code-requires
     same-length
     returns
     same-length-2

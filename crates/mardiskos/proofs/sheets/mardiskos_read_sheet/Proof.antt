@@ -30,7 +30,11 @@ unfolding readingAs headingIn
 returns c = let w = c .before .before .before .before .before .read .ensures in
     let t = sym (w .0) ∙ ap readingAs (c .before .enum-told .given .1) in
     let v = c .reading-code .ensures ∙ ap code (w .0) in
-    (v, (sym (ap (λ (a : Answer Read). headingIn a .steps) t), (sym (ap (λ (a : Answer Read). headingIn a .cost) t), (sym (ap (λ (a : Answer Read). headingIn a .real′) t), (w .1 .0, λ z. absurd (reading-zero (c .before .before .before .before .before .before .before .before .before .args .bytes .now) (length (c .before .before .before .before .before .before .before .before .before .args .list .now)) _ _ _ t v z))))))
+    (v, (sym (ap (λ (a : Answer Read). headingIn a .steps) t),
+        (sym (ap (λ (a : Answer Read). headingIn a .cost) t),
+        (sym (ap (λ (a : Answer Read). headingIn a .real′) t),
+        (w .1 .0, λ z. absurd (reading-zero (c .before .before .before .before .before .before .before .before .before .args .bytes .now)
+        (length (c .before .before .before .before .before .before .before .before .before .args .list .now)) _ _ _ t v z))))))
 
 same-length-2 : tie.Need-same-length-2
 same-length-2 c = search needs
@@ -39,7 +43,8 @@ returns-2 : tie.Need-returns-2
 unfolding readingAs headingIn code
 returns-2 c = let w = c .before .before .before .before .before .read .ensures in
     let t = sym (w .0) ∙ ap readingAs (c .before .a .given .1) in
-    (sym (ap code t), (sym (ap (λ (a : Answer Read). headingIn a .steps) t), (sym (ap (λ (a : Answer Read). headingIn a .cost) t), (sym (ap (λ (a : Answer Read). headingIn a .real′) t), (w .1 .0, λ _. w .1 .1 _ (ap readingAs (c .before .a .given .1)))))))
+    (sym (ap code t), (sym (ap (λ (a : Answer Read). headingIn a .steps) t),
+        (sym (ap (λ (a : Answer Read). headingIn a .cost) t), (sym (ap (λ (a : Answer Read). headingIn a .real′) t), (w .1 .0, λ _. w .1 .1 _ (ap readingAs (c .before .a .given .1)))))))
 
 pub mardiskos-read-sheet-spec : {M : Type 1} → statement M
 mardiskos-read-sheet-spec =

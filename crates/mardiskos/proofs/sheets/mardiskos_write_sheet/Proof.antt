@@ -30,7 +30,11 @@ unfolding sizeIn
 returns c = let w = c .before .before .before .before .before .write .ensures in
     let t = sym (w .0) ∙ ap valueOf (c .before .enum-told .given .1) in
     let v = c .number-code .ensures ∙ ap code (w .0) in
-    (v, (sym (ap sizeIn t), (w .1 .0, λ z. absurd (written-zero (sheet (c .before .before .before .before .before .before .before .before .before .args .list .now) (c .before .before .before .before .before .before .before .before .before .args .cost) (c .before .before .before .before .before .before .before .before .before .args .real)) (length (c .before .before .before .before .before .before .before .before .before .args .bytes .now)) _ _ _ t v z))))
+    (v, (sym (ap sizeIn t), (w .1 .0, λ z. absurd (written-zero
+        (sheet (c .before .before .before .before .before .before .before .before .before .args .list .now)
+        (c .before .before .before .before .before .before .before .before .before .args .cost)
+        (c .before .before .before .before .before .before .before .before .before .args .real))
+        (length (c .before .before .before .before .before .before .before .before .before .args .bytes .now)) _ _ _ t v z))))
 
 same-length-2 : tie.Need-same-length-2
 same-length-2 c = search needs

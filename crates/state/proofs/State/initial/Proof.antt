@@ -44,7 +44,9 @@ loop-less : tie.Need-loop-less Inv-loop μ-loop
 loop-less c = search needs
 
 loop-again : tie.Need-loop-again Inv-loop μ-loop
-loop-again c = let I = c .before .before .before .loop .inv in (starting-turn _ _ _ _ (I .0) (omega arith) _ _ (c .before .initial .ensures) (c .single .ensures), placing-turn _ _ _ _ (I .0 .over) (I .1) (omega arith) _ (c .before .initial .ensures))
+loop-again c =
+    let I = c .before .before .before .loop .inv in (starting-turn _ _ _ _ (I .0) (omega arith) _ _ (c .before .initial .ensures) (c .single .ensures),
+    placing-turn _ _ _ _ (I .0 .over) (I .1) (omega arith) _ (c .before .initial .ensures))
 
 returns : tie.Need-returns Inv-loop μ-loop
 returns c = let I = c .before .loop .inv in (starting-end _ _ _ _ (I .0) (omega arith), placing-end _ _ _ _ (I .0 .over) (I .1) (omega arith))

@@ -22,19 +22,26 @@ eff-start-requires : tie.Need-eff-start-requires Inv-loop μ-loop
 eff-start-requires c κs = search needs
 
 loop-holds : tie.Need-loop-holds Inv-loop μ-loop
-loop-holds c = (putting-start _ _ _ _ (loaded-listed _ (c .before .before .before .pre .0) _ (c .before .before .before .pre .1)) _ _ (c .before .eff-end .ensures) (c .eff-start .ensures) (search needs), renewing-start _ _ _ _ (c .eff-start .ensures) (search needs))
+loop-holds c =
+    (putting-start _ _ _ _ (loaded-listed _ (c .before .before .before .pre .0) _ (c .before .before .before .pre .1)) _ _ (c .before .eff-end .ensures)
+    (c .eff-start .ensures) (search needs), renewing-start _ _ _ _ (c .eff-start .ensures) (search needs))
 
 mul-wide : tie.Need-mul-wide Inv-loop μ-loop
 mul-wide c = omega (arith, (loaded-listed _ (c .before .before .before .before .before .pre .0) _ (c .before .before .before .before .before .pre .1)) .end-below, c .before .loop .inv .0 .at-end)
 
 shared-slice-read-wide : tie.Need-shared-slice-read-wide Inv-loop μ-loop
-shared-slice-read-wide c = omega (arith, (loaded-listed _ (c .before .before .before .before .before .before .pre .0) _ (c .before .before .before .before .before .before .pre .1)) .end-below, c .before .before .loop .inv .0 .at-end)
+shared-slice-read-wide c =
+    omega (arith, (loaded-listed _ (c .before .before .before .before .before .before .pre .0) _
+    (c .before .before .before .before .before .before .pre .1)) .end-below, c .before .before .loop .inv .0 .at-end)
 
 wide-requires : tie.Need-wide-requires Inv-loop μ-loop
 wide-requires c κs = search needs
 
 small : (c : tie.After-wide Inv-loop μ-loop) → c .wide .result < 4096
-small c = omega (arith, c .wide .ensures, putting-small _ _ _ _ (loaded-listed _ (c .before .before .before .before .before .before .before .pre .0) _ (c .before .before .before .before .before .before .before .pre .1)) _ _ _ (c .before .before .before .loop .inv .0) (omega arith))
+small c =
+    omega (arith, c .wide .ensures, putting-small _ _ _ _
+    (loaded-listed _ (c .before .before .before .before .before .before .before .pre .0) _ (c .before .before .before .before .before .before .before .pre .1))
+    _ _ _ (c .before .before .before .loop .inv .0) (omega arith))
 
 mul-changed : tie.Need-mul-changed Inv-loop μ-loop
 mul-changed c = search needs
@@ -69,8 +76,10 @@ loop-less c = search needs
 loop-again : tie.Need-loop-again Inv-loop μ-loop
 loop-again c =
     let I = c .before .before .before .before .before .before .loop .inv in
-    let L = loaded-listed _ (c .before .before .before .before .before .before .before .before .before .before .pre .0) _ (c .before .before .before .before .before .before .before .before .before .before .pre .1) in
-    (putting-turn _ _ _ _ L _ _ _ (I .0) (omega arith) _ _ _ _ (c .before .before .before .wide .ensures) refl refl (c .changed .ensures ∙ rw (c .before .member .ensures) refl), renewing-turn _ _ _ _ _ L _ _ _ _ (I .0) (I .1) (omega arith) _ _ _ (c .before .before .before .wide .ensures) refl refl)
+    let L = loaded-listed _ (c .before .before .before .before .before .before .before .before .before .before .pre .0) _
+        (c .before .before .before .before .before .before .before .before .before .before .pre .1) in
+    (putting-turn _ _ _ _ L _ _ _ (I .0) (omega arith) _ _ _ _ (c .before .before .before .wide .ensures) refl refl
+        (c .changed .ensures ∙ rw (c .before .member .ensures) refl), renewing-turn _ _ _ _ _ L _ _ _ _ (I .0) (I .1) (omega arith) _ _ _ (c .before .before .before .wide .ensures) refl refl)
 
 returns : tie.Need-returns Inv-loop μ-loop
 returns c =

@@ -1,8 +1,8 @@
 use mathlib.Core.Path.{refl}
 use Rattle.planning.specs.Basics.{code}
 use borrow.Author.Needs.{needs}
-use Rattle.mardiskos.proofs.runs.traced_code.Statement.{statement}
-use Rattle.mardiskos.proofs.runs.traced_code.Tie as tie
+use Rattle.mardiskos.proofs.runs.progress_code.Statement.{statement}
+use Rattle.mardiskos.proofs.runs.progress_code.Tie as tie
 
 enum-known-a : tie.Need-enum-known-a
 enum-known-a c = search needs
@@ -21,5 +21,5 @@ returns-2 : tie.Need-returns-2
 unfolding code
 returns-2 c = rw (c .before .before .a .given .1) (c .code-of .ensures)
 
-pub traced-code-spec : {M : Type 1} → statement M
-traced-code-spec = tie.close (tie.spec enum-known-a enum-told returns code-of-requires returns-2)
+pub progress-code-spec : {M : Type 1} → statement M
+progress-code-spec = tie.close (tie.spec enum-known-a enum-told returns code-of-requires returns-2)
