@@ -43,3 +43,14 @@ pub fn refusal_of(n: Number) -> Refusal
     };
     f
 }
+
+// A plan with its steps, its cost, the steps that run for real, and whether it is a plan in a real run; or the refusal.
+pub enum Planned {
+    Plan {
+        steps: u32,
+        cost: u32,
+        runs: u32,
+        real: bool,
+    },
+    Refused(Refusal),
+}

@@ -20,44 +20,19 @@ use Rattle.planning.proofs.Tests.{T→true, true→T}
 use Rattle.planning.proofs.Facts.{_⊆_, holds→sub, sub→holds}
 use Rattle.planning.proofs.Formed.{Formed, sorted-has, goals-sorted}
 use Rattle.planning.proofs.Steps.{run-mono}
-use Rattle.planning.proofs.Prefixes.{runBy-append, stepsBy-on, stepsBy-fails, stepsBy-stopped, stepsBy-le}
-use Rattle.planning.proofs.Newest.{track-sets, track-newest, real-applies, real-holds}
-use Rattle.judge.specs.Traces.{further, StopsAs, RunsAs}
+use Rattle.planning.proofs.Prefixes.{runBy-behind, stepsBy-on, stepsBy-fails, stepsBy-stopped, stepsBy-le}
+use Rattle.planning.proofs.Newest.{newestAfter, track-sets, track-newest, real-applies, real-holds}
+use Rattle.state.specs.Sets.{further}
+use Rattle.state.proofs.Running.{further-fails, further-stopped, further-steps}
+use Rattle.judge.specs.Traces.{StopsAs, RunsAs}
 use Rattle.judge.proofs.Modes.{redBlack-further, relaxed-further, judged-of}
-
--- a step counted, and one not counted
-further-yes : (k n : ℕ) → n ≡ k → further true k n ≡ suc n
-unfolding further
-further-yes k n e = rw (further, eq-eqb n k e) refl
-
-further-not : (b : Bool) (k n : ℕ) → n ≢ k → further b k n ≡ n
-unfolding further
-further-not true k n h = rw (further, ne-eqb n k h) refl
-further-not false k n h = refl
-
-further-false : (k n : ℕ) → further false k n ≡ n
-unfolding further
-further-false k n = refl
-
-pub further-pass : (b : Bool) (k n : ℕ) → n ≡ k → b ≡ true → n + 1 ≡ further b k n
-further-pass b k n e h = rw h (omega (arith, further-yes k n e))
-
-pub further-stay : (b : Bool) (k n : ℕ) → b ≡ false → n ≡ further b k n
-further-stay b k n h = rw h (sym (further-false k n))
-
-pub further-stopped : (b : Bool) (k n : ℕ) → n ≢ k → n ≡ further b k n
-further-stopped b k n h = sym (further-not b k n h)
-
--- the newest values after a list
-abbrev pub latest : Task → List ℕ → Values
-latest t l = runBy (λ i. newer (act t i)) l (initialValues t)
 
 module _ (t : Task) (l : List ℕ) where
   pub record Tracing (s : State) (f : Values) (k runs : ℕ) : Type 0 where
     pub within : k ≤ length l
     pub painted : stepsRun (act t) (black t) (take k l) (initial t) ≡ k
     pub sets : s ≡ run (act t) (black t) (take k l) (initial t)
-    pub newest : f ≡ latest t (take k l)
+    pub newest : f ≡ newestAfter t (take k l)
     pub run-real : runs ≡ stepsRun (act t) real (take k l) (initial t)
 
   pub tracing-start : (s : State) (f : Values) → s ≡ initial t → f ≡ initialValues t → Tracing s f 0 0
@@ -95,23 +70,8 @@ module _ (t : Task) (l : List ℕ) where
         let m = run-mono (act t) real (black t) (λ v x. tt) front (initial t) (initial t) (λ v d x. x) in
         ap (λ (u : State). holds u (act t i .pre)) (p .sets) ∙ T→true (holds (at (black t)) (act t i .pre)) (sub→holds (at (black t)) (act t i .pre) (λ v d x. m v d (w v d x)))
 
-    -- the count goes on with the step
-    counted : further (holds (alone f) (act t i .pre)) k runs ≡ stepsRun (act t) real (front ++ (i ∷ [])) (initial t)
-    unfolding stepsBy
-    counted = go (ℕ-discrete runs k) (holds (alone f) (act t i .pre)) refl
-      where
-        all : runs ≡ k → stepsRun (act t) real front (initial t) ≡ length front
-        all e = omega (arith, p .run-real, long)
-
-        go : Dec (runs ≡ k) → (b : Bool) → holds (alone f) (act t i .pre) ≡ b → further b k runs ≡ stepsRun (act t) real (front ++ (i ∷ [])) (initial t)
-        go (yes e) true q = omega (arith, further-yes k runs e, stepsBy-on (λ i s. holds s (act t i .pre)) (λ i. step real (act t i)) front i [] (initial t) (all e) (sym is-real ∙ q), long)
-        go (yes e) false q = omega (arith, further-false k runs, stepsBy-fails (λ i s. holds s (act t i .pre)) (λ i. step real (act t i)) front i [] (initial t) (all e) (sym is-real ∙ q), long)
-        go (no e) b q =
-            omega (arith, further-not b k runs e, p .run-real, stepsBy-stopped (λ i s. holds s (act t i .pre)) (λ i. step real (act t i)) front (i ∷ [])
-                (initial t) (omega (arith, p .run-real, long, stepsBy-le (λ i s. holds s (act t i .pre)) (λ i. step real (act t i)) front (initial t), e)))
-
     -- what is counted applies red-black
-    pub applied : (r : ℕ) → r ≡ further (holds (alone f) (act t i .pre)) k runs → k < r → holds s (act t i .pre) ≡ true
+    pub applied : (r : ℕ) → r ≡ further (holds (alone f) (act t i .pre)) runs k → k < r → holds s (act t i .pre) ≡ true
     applied r er q = go (ℕ-discrete runs k) (holds (alone f) (act t i .pre)) refl
       where
         small : runs ≤ k
@@ -119,10 +79,10 @@ module _ (t : Task) (l : List ℕ) where
 
         go : Dec (runs ≡ k) → (b : Bool) → holds (alone f) (act t i .pre) ≡ b → holds s (act t i .pre) ≡ true
         go (yes e) true w = real-painted (sym is-real ∙ w)
-        go (yes e) false w = absurd (omega (arith, small, er, ap (λ (b : Bool). further b k runs) w, further-false k runs))
-        go (no e) b w = absurd (omega (arith, small, er, ap (λ (b : Bool). further b k runs) w, further-not b k runs e))
+        go (yes e) false w = absurd (omega (arith, small, er, ap (λ (b : Bool). further b runs k) w, further-fails runs k false refl))
+        go (no e) b w = absurd (omega (arith, small, er, ap (λ (b : Bool). further b runs k) w, further-stopped runs k b e))
 
-    pub tracing-turn : (r : ℕ) (s′ : State) (f′ : Values) → r ≡ further (holds (alone f) (act t i .pre)) k runs → holds s (act t i .pre) ≡ true
+    pub tracing-turn : (r : ℕ) (s′ : State) (f′ : Values) → r ≡ further (holds (alone f) (act t i .pre)) runs k → holds s (act t i .pre) ≡ true
         → s′ ≡ step (black t) (act t i) s → f′ ≡ newer (act t i) f → Tracing s′ f′ (k + 1) r
     unfolding runBy stepsBy
     tracing-turn r s′ f′ er ha es ef = record {
@@ -131,13 +91,13 @@ module _ (t : Task) (l : List ℕ) where
           rw one-more
           (omega (arith, long, stepsBy-on (λ i s. holds s (act t i .pre)) (λ i. step (black t) (act t i)) front i [] (initial t) (p .painted ∙ sym long)
               (ap (λ (u : State). holds u (act t i .pre)) (sym (p .sets)) ∙ ha)));
-      sets = rw (one-more, runBy-append (λ i s. true) (λ i. step (black t) (act t i)) front (i ∷ []) (initial t), ← p .sets) es;
-      newest = rw (one-more, runBy-append (λ i s. true) (λ i. newer (act t i)) front (i ∷ []) (initialValues t), ← p .newest) ef;
-      run-real = rw one-more (er ∙ counted);
+      sets = rw (one-more, runBy-behind (λ i. step (black t) (act t i)) front i (initial t), ← p .sets) es;
+      newest = rw (one-more, runBy-behind (λ i. newer (act t i)) front i (initialValues t), ← p .newest) ef;
+      run-real = rw one-more (er ∙ further-steps t F front f runs k i (p .newest) (p .run-real) (sym long));
     }
 
     -- it stops before step k
-    pub tracing-stop : (r : ℕ) → r ≡ further (holds (alone f) (act t i .pre)) k runs → r ≤ k → holds s (act t i .pre) ≡ false
+    pub tracing-stop : (r : ℕ) → r ≡ further (holds (alone f) (act t i .pre)) runs k → r ≤ k → holds s (act t i .pre) ≡ false
         → (k ≡ redBlackSteps t l) × (r ≡ stepsRun (act t) real l (initial t))
     unfolding redBlackSteps
     tracing-stop r er q ha =
@@ -157,12 +117,12 @@ module _ (t : Task) (l : List ℕ) where
         go (yes e) =
             let c = stepsBy-fails (λ i s. holds s (act t i .pre)) (λ i. step real (act t i)) front i (drop (suc k) l) (initial t) (omega (arith, p .run-real, long)) no-real in
             let d : stepsRun (act t) real l (initial t) ≡ k = rw split at (c ∙ long) in
-            omega (arith, er, ap (λ (b : Bool). further b k runs) (is-real ∙ no-real), further-false k runs)
+            omega (arith, er, ap (λ (b : Bool). further b runs k) (is-real ∙ no-real), further-fails runs k false refl)
         go (no e) =
             let le = stepsBy-le (λ i s. holds s (act t i .pre)) (λ i. step real (act t i)) front (initial t) in
             let c = stepsBy-stopped (λ i s. holds s (act t i .pre)) (λ i. step real (act t i)) front (i ∷ drop (suc k) l) (initial t) (omega (arith, p .run-real, long, le, e)) in
             let d : stepsRun (act t) real l (initial t) ≡ stepsRun (act t) real front (initial t) = rw split at c in
-            omega (arith, er, further-not (holds (alone f) (act t i .pre)) k runs e, p .run-real)
+            omega (arith, er, further-stopped runs k (holds (alone f) (act t i .pre)) e, p .run-real)
 
   -- the pass went through the whole list
   module _ (s : State) (f : Values) (k r : ℕ) (p : Tracing s f k r) where
@@ -209,7 +169,7 @@ module _ (t : Task) (F : Formed t) (l : List ℕ) (below : (j : ℕ) → j < len
   unfolding redBlackSteps stopsIn tracked
   real-whole f n p h b eb =
       let e : take (redBlackSteps t l) l ≡ l = take-all (redBlackSteps t l) l (omega (arith, p .runs, redBlack-further t l)) in
-      let q : f ≡ latest t l = p .newest ∙ track-newest (act t) (black t) (take (redBlackSteps t l) l) (tracked t) ∙ rw e refl in
+      let q : f ≡ newestAfter t l = p .newest ∙ track-newest (act t) (black t) (take (redBlackSteps t l) l) (tracked t) ∙ rw e refl in
       let g : holds (alone f) (goals t) ≡ holds (run (act t) real l (initial t)) (goals t) = rw q
           (sym (real-holds t F l (goals t) (λ v d x. sorted-has (variables t) (count t) 0 (goals t) (goals-sorted t F) v d x .var-below))) in
       judged-of t real l below n (p .runs) b (λ x. eb ∙ g) (λ x. absurd (x (omega (arith, p .runs, stepsBy-le (λ i s. holds s (act t i .pre)) (λ i. step real (act t i)) l (initial t)))))

@@ -1,19 +1,12 @@
 -- One pass over a list: the red-black run up to where it stops, and the steps that run for real.
 use mathlib.Core.Path.{_≡_}
-use mathlib.Core.Bool.{Bool, true, false}
 use mathlib.Core.List.{List}
-use Prim.Native.Nat.{ℕ, suc}
-use lib.Dec.{eqb}
+use Prim.Native.Nat.{ℕ}
 use Rattle.planning.specs.Record.{Task}
 use Rattle.planning.specs.Runs.{State, real, act, initial, stepsRun}
 use Rattle.planning.specs.Newest.{Values, redBlackSteps, stopsIn}
 use Rattle.state.specs.Sets.{setsOf, valuesOf}
 use Rattle.judge.specs.declared.Trace.{Trace}
-
--- the steps that run for real, n of the first k, with step k, which applies for real or not
-unfoldable pub further : Bool → ℕ → ℕ → ℕ
-further true k n = elim (eqb n k) [ true ↦ suc n | false ↦ n ]
-further false k n = n
 
 -- 3.13: what a pass over the list l finds
 pub record Traces (t : Task) (l : List ℕ) (x : Trace) : Type 0 where

@@ -11,14 +11,13 @@ ghost use Prim.Native.Nat.{_<_, _≤_};
 ghost use lib.ListN.{length};
 ghost use Rattle.planning.specs.Basics.{answer};
 ghost use Rattle.planning.specs.Record.{recordCheck};
-ghost use Rattle.planning.specs.Runs.{actions, act, holds, relaxed, real, black, judged, judgement};
-ghost use Rattle.planning.specs.Newest.{alone};
+ghost use Rattle.planning.specs.Runs.{relaxed, real, black, judged, judgement};
 ghost use Rattle.planning.specs.Calls.{judgeCall};
 ghost use Rattle.answers.specs.Answers.{valueOf};
 ghost use Rattle.task.specs.Task.{taskIn, Loaded};
 ghost use Rattle.state.specs.Sets.{setsOf, valuesOf};
 ghost use Rattle.judge.specs.Answers.{judgedOf, judgementOf, answerOf, refusalOf, Ready, Runs, leading, listCheck, callerCheck, judgedList};
-ghost use Rattle.judge.specs.Traces.{further, Traces, StopsAs, RunsAs};
+ghost use Rattle.judge.specs.Traces.{Traces, StopsAs, RunsAs};
 
 // Under one semantics (3.11): how many steps run, and whether the list is a plan.
 pub struct Verdict {
@@ -66,17 +65,6 @@ pub struct Trace {
     pub runs: usize,
 }
 
-// The steps that run for real, with step k: it counts if all before it do and it applies to the newest values.
-fn further(newest: &[u8; 64], task: &[u16], i: usize, k: usize, runs: usize) -> usize
-    requires { ⌜ Loaded (now task) × (i < actions (taskIn (now task))) × (runs < 32768) ⌝ }
-    ensures { λ r. ⌜ r ≡ further (holds (alone (valuesOf (now (newest .entry)))) (act (taskIn (now (task .entry))) i .pre)) k runs ⌝ }
-{
-    if runs == k && state::applies_newest(newest, task, i) {
-        return runs + 1;
-    }
-    runs
-}
-
 // As long as every step ran for real the newest values are the real state, so that one pass tells both runs.
 pub fn follow(task: &[u16], list: &[u16]) -> Trace
     requires { ⌜ Ready (now task) (now list) ⌝ }
@@ -88,7 +76,7 @@ pub fn follow(task: &[u16], list: &[u16]) -> Trace
     let mut runs: usize = 0;
     while k < list.len() {
         let i = list[k] as usize;
-        runs = further(&s.newest, task, i, k, runs);
+        runs = state::further(&s.newest, task, i, runs, k);
         if runs <= k && !state::applies(&s.sets, task, i) {
             break;
         }

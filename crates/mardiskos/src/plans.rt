@@ -1,6 +1,6 @@
 // The planner as C calls it. The code is 0, or 32 times the place and the number; after a refusal the other fields are 0.
 use crate::code_of;
-use planner::Planned;
+use answers::Planned;
 ghost use mathlib.Core.Path.{_≡_};
 ghost use lib.ListN.{length};
 ghost use Rattle.planning.specs.Basics.{code};
@@ -8,7 +8,7 @@ ghost use Rattle.planning.specs.Record.{taskOf};
 ghost use Rattle.planning.specs.Relaxed.{relaxedPlan};
 ghost use Rattle.planning.specs.Calls.{planCall, planList, repairCall, repairList, workList, planIn};
 ghost use Rattle.planning.specs.Existence.{Demand3, Bounded};
-ghost use Rattle.planner.specs.Answers.{answerOf};
+ghost use Rattle.answers.specs.Plans.{answerOf};
 ghost use Rattle.mardiskos.specs.Plans.{planResultOf, answerIn};
 
 #[repr(C)]

@@ -21,12 +21,11 @@ use Rattle.planning.proofs.Checks.{check-none, andThen-last, andThen-none, andT
 use Rattle.answers.specs.declared.Refusal.{Refusal}
 use Rattle.answers.proofs.Stages.{answer-done}
 use Rattle.relax.specs.Keeping.{Unfound}
-use Rattle.repair.specs.Answers.{Held, answerOf as repairedOf}
-use Rattle.repair.specs.declared.Repaired.{Repaired}
+use Rattle.repair.specs.Answers.{Held}
 use Rattle.judge.specs.Answers.{Entries, callerCheck}
-use Rattle.planner.specs.declared.Planned.{Planned}
-use Rattle.planner.specs.declared.Planned.the-variants.{Plan, Refused}
-use Rattle.planner.specs.Answers.{answerOf}
+use Rattle.answers.specs.declared.Planned.{Planned}
+use Rattle.answers.specs.declared.Planned.the-variants.{Plan, Refused}
+use Rattle.answers.specs.Plans.{answerOf}
 use Rattle.planner.specs.Drafts.{source, sourceCheck, paintingCheck, InFront, Drafted, Sourced, Painted, Called}
 
 -- entries of a plan are actions
@@ -60,16 +59,16 @@ module _ (t : Task) (k : List ℕ) (room : ℕ) (plan : List ℕ) where
   one l = ap (λ (x : Check). answer x (planned t l)) (sym (andThen-last (roomCheck (length l) room)))
 
   -- the repair's own answer x, where no other check is left
-  pub drafted-repair : (x : Repaired) → Held t (repaired t k) plan room x → room ≤ length plan → (r : Planned) → answerOf r ≡ repairedOf x → Drafted t [] k room plan r
+  pub drafted-repair : room ≤ length plan → (r : Planned) → Held t (repaired t k) plan room r → Drafted t [] k room plan r
   unfolding inOrder roomCheck planned
-  drafted-repair x H h (Plan n c s v) e =
+  drafted-repair h (Plan n c s v) H =
       let l = repaired t k in
-      let told : done (record { steps = n; cost = c; real′ = v; runs = s }) ≡ answer (roomCheck (length l) room) (planned t l) = e ∙ H .says in
+      let told : done (record { steps = n; cost = c; real′ = v; runs = s }) ≡ answer (roomCheck (length l) room) (planned t l) = H .says in
       let p = answer-done (roomCheck (length l) room) (planned t l) (record { steps = n; cost = c; real′ = v; runs = s }) (sym told) in
       let fits = leb→le (length l) room (check-none (leb (length l) room) 11 room (p .0)) in
       let m : length l ≡ n = ap (λ (y : Result). y .steps) (p .1) in
       record { answer′ = told ∙ one l; front = (omega (arith, m, fits), subst (λ (y : ℕ). take y plan ≡ l) m (H .fills fits)) }
-  drafted-repair x H h (Refused f) e = record { answer′ = e ∙ H .says ∙ one (repaired t k); front = tt }
+  drafted-repair h (Refused f) H = record { answer′ = H .says ∙ one (repaired t k); front = tt }
 
 -- what is asked of the relaxed plan, and which it is
 module _ (t : Task) (l : List ℕ) where

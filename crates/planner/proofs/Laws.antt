@@ -6,9 +6,9 @@ use Prim.Native.Nat.{ℕ, _≤_}
 use lib.ListN.{length, take}
 use lib.Seq.{take-all}
 use Rattle.planning.specs.Calls.{runnable}
-use Rattle.planner.specs.declared.Planned.{Planned}
-use Rattle.planner.specs.declared.Planned.the-variants.{Plan}
-use Rattle.planner.specs.Answers.{answerOf}
+use Rattle.answers.specs.declared.Planned.{Planned}
+use Rattle.answers.specs.declared.Planned.the-variants.{Plan}
+use Rattle.answers.specs.Plans.{answerOf}
 
 -- the steps that run for real
 pub runnable-front : (x : Planned) (s c n : ℕ) (v : Bool) → x ≡ Plan s c n v → (l : List ℕ) → take n l ≡ runnable (answerOf x) l

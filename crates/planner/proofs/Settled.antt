@@ -13,9 +13,9 @@ use Rattle.planning.specs.Relaxed.{relaxedPlan}
 use Rattle.planning.specs.Repair.{repaired}
 use Rattle.planning.proofs.Calls.{planCall-bounded, repairCall-bounded}
 use Rattle.planning.proofs.Demand3.{demand3}
-use Rattle.planner.specs.declared.Planned.{Planned}
-use Rattle.planner.specs.declared.Planned.the-variants.{Plan, Refused}
-use Rattle.planner.specs.Answers.{answerOf, stepsOf}
+use Rattle.answers.specs.declared.Planned.{Planned}
+use Rattle.answers.specs.declared.Planned.the-variants.{Plan, Refused}
+use Rattle.answers.specs.Plans.{answerOf, stepsOf}
 use Rattle.planner.proofs.Drafts.{Ended}
 
 pub finished : (a : Planned) (n : ℕ) (l l′ : List ℕ) → n ≡ stepsOf a → l′ ≡ take n l ++ replicate (length l - n) 65535 → l′ ≡ lent (answerOf a) (length l) (planIn (answerOf a) l)

@@ -10,9 +10,9 @@ use Rattle.planning.specs.Relaxed.{relaxedPlan}
 use Rattle.planning.specs.Painting.{acyclicCheck, returnCheck}
 use Rattle.planning.specs.Repair.{repaired}
 use Rattle.planning.specs.Calls.{capacityOf, lengthCheck, relaxedCheck, goalsCheck, roomCheck, planned, Planned as Result}
-use Rattle.planner.specs.declared.Planned.{Planned}
-use Rattle.planner.specs.declared.Planned.the-variants.{Plan, Refused}
-use Rattle.planner.specs.Answers.{answerOf}
+use Rattle.answers.specs.declared.Planned.{Planned}
+use Rattle.answers.specs.declared.Planned.the-variants.{Plan, Refused}
+use Rattle.answers.specs.Plans.{answerOf}
 
 -- the relaxed plan to repair: the list l where it is given, else the task's own; and what is asked of it
 unfoldable pub source : Bool → Task → List ℕ → List ℕ

@@ -3,8 +3,7 @@
 // is behind it is blanked at the end.
 use answers::Checked;
 use answers::Number;
-use answers::Refusal;
-use repair::Repaired;
+use answers::Planned;
 ghost use mathlib.Core.Path.{_≡_};
 ghost use mathlib.Core.Bool.{true};
 ghost use mathlib.Core.List.{[]};
@@ -17,40 +16,15 @@ ghost use Rattle.planning.specs.Calls.{planCall, planList, repairCall, repairLi
 ghost use Rattle.planning.specs.Existence.{Demand3, Bounded};
 ghost use Rattle.task.specs.Task.{taskIn, Loaded};
 ghost use Rattle.task.specs.Links.{Prepared};
-ghost use Rattle.planner.specs.Answers.{answerOf, stepsOf};
+ghost use Rattle.answers.specs.Plans.{answerOf, stepsOf};
 ghost use Rattle.planner.specs.Drafts.{Drafted, Sourced, Painted, Called, roomIn};
-
-// A plan with its steps, its cost, the steps that run for real, and whether it is a plan in a real run; or the refusal.
-pub enum Planned {
-    Plan {
-        steps: u32,
-        cost: u32,
-        runs: u32,
-        real: bool,
-    },
-    Refused(Refusal),
-}
 
 // The repair of a relaxed plan in the front of the plan list; 11 if it is longer than the capacity.
 fn draft(task: &[u16], list: &[u16], plan: &mut [u16], work: &mut [u16]) -> Planned
     requires { ⌜ Prepared (now task) × (isPlan (taskIn (now task)) relaxed (now list) ≡ true) ⌝ }
     ensures { λ r. ⌜ Drafted (taskIn (now (task .entry))) [] (now (list .entry)) (roomIn (now (plan .entry)) (now (work .entry))) (now (plan .exit)) r ⌝ }
 {
-    let r = repair::repair(task, list, plan, work);
-    match r {
-        Repaired::Plan {
-            steps,
-            cost,
-            runs,
-            real,
-        } => Planned::Plan {
-            steps,
-            cost,
-            runs,
-            real,
-        },
-        Repaired::Refused(f) => Planned::Refused(f),
-    }
+    repair::repair(task, list, plan, work)
 }
 
 // The relaxed plan is the caller's list where it is given, checked by 13 and 9, else the task's own, or 10.

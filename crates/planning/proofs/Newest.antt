@@ -18,7 +18,7 @@ use Rattle.planning.proofs.Tests.{T→true, true→T, F→false, and-l,
 use Rattle.planning.proofs.Facts.{has-here, has-there, has→touches, touches→has, look-some, look-none, look-is, Func}
 use Rattle.planning.proofs.Steps.{step-eff, step-keep, step-cases}
 use Rattle.planning.proofs.Formed.{Formed, sorted-has, sorted-func}
-use Rattle.planning.proofs.Prefixes.{runBy-append, stepsBy-pass, stepsBy-stop}
+use Rattle.planning.proofs.Prefixes.{runBy-behind, stepsBy-pass, stepsBy-stop}
 
 -- an effect sets the newest value; other variables keep theirs
 module _ (a : Action) (f : Values) (v : ℕ) where
@@ -68,10 +68,6 @@ set-alone n m x X v d h b = go (x .sets v d) refl
     go true e = sym (T→true (eqb d (x .newest v)) (rw (X .only v d b (rw e tt)) (eqb-refl (x .newest v))))
     go false e = sym (F→false (eqb d (x .newest v)) (λ q. let y : T (x .sets v d) = rw (eqb→eq d (x .newest v) q) (X .held v h) in rw e at y))
 
-last : {S : Type 0} {i : ℕ} (next : ℕ → S → S) (x : S) → runBy next (i ∷ []) x ≡ next i x
-unfolding runBy
-last next x = refl
-
 -- sets and newest values are each those of a run of their own, the latter without a mode
 module _ (act : ℕ → Action) (m : Mode) where
   pub track-sets : (l : List ℕ) (x : Tracked) → runBy (λ i. track m (act i)) l x .sets ≡ run act m l (x .sets)
@@ -90,6 +86,14 @@ unfolding holds
 holds-same s u [] h = refl
 holds-same s u (f ∷ fs) h = rw (h (f .var) (f .val) (has-here f fs), holds-same s u fs (λ v d t. h v d (has-there f fs v d t))) refl
 
+-- the newest values after a list, whatever the painting
+abbrev pub newestAfter : Task → List ℕ → Values
+newestAfter t l = runBy (λ i. newer (act t i)) l (initialValues t)
+
+pub newest-any : (t : Task) (m : Mode) (l : List ℕ) → runBy (λ i. track m (act t i)) l (tracked t) .newest ≡ newestAfter t l
+unfolding tracked
+newest-any t m l = track-newest (act t) m l (tracked t)
+
 module _ (t : Task) (F : Formed t) where
   fresh-initial : (m : Mode) → Fresh (variables t) m (tracked t)
   unfolding tracked initial initialValues
@@ -102,32 +106,24 @@ module _ (t : Task) (F : Formed t) where
   pub fresh : (m : Mode) (l : List ℕ) → Fresh (variables t) m (runBy (λ i. track m (act t i)) l (tracked t))
   fresh m l = fresh-run (variables t) m (act t) (λ i. sorted-func (variables t) (count t) 0 (act t i .eff) (F .eff-sorted i)) l (tracked t) (fresh-initial m)
 
-  -- the newest values after a list, whatever the painting
-  abbrev pub newestAfter : List ℕ → Values
-  newestAfter l = runBy (λ i. newer (act t i)) l (initialValues t)
-
-  pub newest-any : (m : Mode) (l : List ℕ) → runBy (λ i. track m (act t i)) l (tracked t) .newest ≡ newestAfter l
-  unfolding tracked
-  newest-any m l = track-newest (act t) m l (tracked t)
-
   -- the real state: the newest values alone
-  pub real-state : (l : List ℕ) (v d : ℕ) → v < variables t → run (act t) real l (initial t) v d ≡ alone (newestAfter l) v d
+  pub real-state : (l : List ℕ) (v d : ℕ) → v < variables t → run (act t) real l (initial t) v d ≡ alone (newestAfter t l) v d
   unfolding tracked
   real-state l v d h =
       let e = set-alone (variables t) real (runBy (λ i. track real (act t i)) l (tracked t)) (fresh real l) v d h tt in
-      rw (track-sets (act t) real l (tracked t), newest-any real l) at e
+      rw (track-sets (act t) real l (tracked t), newest-any t real l) at e
 
   -- in a red-black run so for black variables
-  pub black-state : (l : List ℕ) (v d : ℕ) → v < variables t → T (black t v) → run (act t) (black t) l (initial t) v d ≡ alone (newestAfter l) v d
+  pub black-state : (l : List ℕ) (v d : ℕ) → v < variables t → T (black t v) → run (act t) (black t) l (initial t) v d ≡ alone (newestAfter t l) v d
   unfolding tracked
   black-state l v d h b =
       let e = set-alone (variables t) (black t) (runBy (λ i. track (black t) (act t i)) l (tracked t)) (fresh (black t) l) v d h b in
-      rw (track-sets (act t) (black t) l (tracked t), newest-any (black t) l) at e
+      rw (track-sets (act t) (black t) l (tracked t), newest-any t (black t) l) at e
 
-  pub real-holds : (l : List ℕ) (fs : List Fact) → ((v d : ℕ) → T (has fs v d) → v < variables t) → holds (run (act t) real l (initial t)) fs ≡ holds (alone (newestAfter l)) fs
-  real-holds l fs h = holds-same (run (act t) real l (initial t)) (alone (newestAfter l)) fs (λ v d x. real-state l v d (h v d x))
+  pub real-holds : (l : List ℕ) (fs : List Fact) → ((v d : ℕ) → T (has fs v d) → v < variables t) → holds (run (act t) real l (initial t)) fs ≡ holds (alone (newestAfter t l)) fs
+  real-holds l fs h = holds-same (run (act t) real l (initial t)) (alone (newestAfter t l)) fs (λ v d x. real-state l v d (h v d x))
 
-  pub real-applies : (l : List ℕ) (i : ℕ) → holds (run (act t) real l (initial t)) (act t i .pre) ≡ holds (alone (newestAfter l)) (act t i .pre)
+  pub real-applies : (l : List ℕ) (i : ℕ) → holds (run (act t) real l (initial t)) (act t i .pre) ≡ holds (alone (newestAfter t l)) (act t i .pre)
   real-applies l i = real-holds l (act t i .pre) (λ v d x. sorted-has (variables t) (count t) 0 (act t i .pre) (F .pre-sorted i) v d x .var-below)
 
   -- one run of any semantics tells the steps that run for real: those that apply to its newest values
@@ -144,17 +140,14 @@ module _ (t : Task) (F : Formed t) where
     real-steps-from (i ∷ l) p = go (holds (run (act t) real p (initial t)) (act t i .pre)) refl (real-steps-from l (p ++ (i ∷ [])))
       where
         here : holds (run (act t) real p (initial t)) (act t i .pre) ≡ holds (alone (seen p .newest)) (act t i .pre)
-        here = rw (newest-any m p) (real-applies p i)
-
-        one : {S : Type 0} (next : ℕ → S → S) (x : S) → runBy next (p ++ (i ∷ [])) x ≡ next i (runBy next p x)
-        one next x = runBy-append (λ _ _. true) next p (i ∷ []) x ∙ last next (runBy next p x)
+        here = rw (newest-any t m p) (real-applies p i)
 
         go : (b : Bool) → holds (run (act t) real p (initial t)) (act t i .pre) ≡ b
             → stepsRun (act t) real l (run (act t) real (p ++ (i ∷ [])) (initial t)) ≡ counts l (seen (p ++ (i ∷ [])))
             → stepsRun (act t) real (i ∷ l) (run (act t) real p (initial t)) ≡ counts (i ∷ l) (seen p)
         go true e more =
             stepsBy-pass (λ i s. holds s (act t i .pre)) (λ i. step real (act t i)) i l (run (act t) real p (initial t)) e
-            ∙ ap suc (rw (one (λ i. step real (act t i)) (initial t), one (λ i. track m (act t i)) (tracked t)) at more)
+            ∙ ap suc (rw (runBy-behind (λ i. step real (act t i)) p i (initial t), runBy-behind (λ i. track m (act t i)) p i (tracked t)) at more)
             ∙ sym (stepsBy-pass (λ i x. holds (alone (x .newest)) (act t i .pre)) (λ i. track m (act t i)) i l (seen p) (sym here ∙ e))
         go false e more =
             stepsBy-stop (λ i s. holds s (act t i .pre)) (λ i. step real (act t i)) i l (run (act t) real p (initial t)) e

@@ -8,12 +8,17 @@ use lib.ListN.{length}
 use native.Mathlib.Omega.{arith}
 use Rattle.planning.specs.Runs.{runBy, runsBy, stepsBy}
 
-module _ {S : Type 0} (applies : ℕ → S → Bool) (next : ℕ → S → S) where
+module _ {S : Type 0} (next : ℕ → S → S) where
   pub runBy-append : (l k : List ℕ) (s : S) → runBy next (l ++ k) s ≡ runBy next k (runBy next l s)
   unfolding runBy
   runBy-append [] k s = refl
   runBy-append (i ∷ l) k s = runBy-append l k (next i s)
 
+  pub runBy-behind : (l : List ℕ) (i : ℕ) (s : S) → runBy next (l ++ (i ∷ [])) s ≡ next i (runBy next l s)
+  unfolding runBy
+  runBy-behind l i s = runBy-append l (i ∷ []) s
+
+module _ {S : Type 0} (applies : ℕ → S → Bool) (next : ℕ → S → S) where
   pub stepsBy-pass : (i : ℕ) (l : List ℕ) (s : S) → applies i s ≡ true → stepsBy applies next (i ∷ l) s ≡ suc (stepsBy applies next l (next i s))
   unfolding stepsBy
   stepsBy-pass i l s e = rw (stepsBy, e) refl

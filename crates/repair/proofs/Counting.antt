@@ -17,24 +17,11 @@ use Rattle.planning.proofs.Tests.{T→true}
 use Rattle.planning.proofs.Steps.{All}
 use Rattle.planning.proofs.Plans.{allBelow-intro, runs-stepsRun}
 use Rattle.planning.proofs.Formed.{Formed, sorted-has, goals-sorted}
-use Rattle.planning.proofs.Prefixes.{runBy-append, stepsBy-le, stepsBy-on, stepsBy-fails, stepsBy-stopped}
-use Rattle.planning.proofs.Newest.{real-holds, real-applies}
+use Rattle.planning.proofs.Prefixes.{runBy-behind, stepsBy-le}
+use Rattle.planning.proofs.Newest.{newestAfter, real-holds}
+use Rattle.state.proofs.Running.{further-steps}
 use Rattle.repair.specs.declared.Counts.{Counts}
-use Rattle.repair.specs.Counting.{further, Onward, Few, judgedBy}
-
--- the steps that run
-module _ (b : Bool) (n k : ℕ) where
-  pub further-stopped : (n ≡ k → ⊥) → n ≡ further b n k
-  unfolding further
-  further-stopped h = rw (further, ne-eqb n k h) refl
-
-  pub further-on : n ≡ k → b ≡ true → n + 1 ≡ further b n k
-  unfolding further
-  further-on h e = rw (further, eq-eqb n k h, e) refl
-
-  pub further-fails : n ≡ k → b ≡ false → n ≡ further b n k
-  unfolding further
-  further-fails h e = rw (further, eq-eqb n k h, e) refl
+use Rattle.repair.specs.Counting.{Onward, Few, judgedBy}
 
 -- the answer: where all steps run for real the goals decide, else it is no plan
 module _ (c : Counts) (met : Bool) where
@@ -46,16 +33,12 @@ module _ (c : Counts) (met : Bool) where
       → done (record { steps = c .steps; cost = c .cost; real′ = eqb (c .runs) (c .steps); runs = c .runs }) ≡ done (judgedBy met c)
   judged-some h = rw h refl
 
--- the newest values after a list
-abbrev pub newestOf : Task → List ℕ → Values
-newestOf t l = runBy (λ i. newer (act t i)) l (initialValues t)
-
 -- the counts and newest values of the list l
 pub record Counted (t : Task) (l : List ℕ) (f : Values) (c : Counts) : Type 0 where
   pub steps : c .steps ≡ length l
   pub runs : c .runs ≡ stepsRun (act t) real l (initial t)
   pub cost : c .cost ≡ costOf t l
-  pub newest : f ≡ newestOf t l
+  pub newest : f ≡ newestAfter t l
 
 pub counted-none : (t : Task) (f : Values) → f ≡ initialValues t → Counted t [] f (record { steps = 0; runs = 0; cost = 0 })
 unfolding stepsBy costOf runBy
@@ -80,42 +63,14 @@ module _ {t : Task} (F : Formed t) {l : List ℕ} {f : Values} {c : Counts} (C :
     cost = omega (arith, C .steps, C .cost, costOf-small t F l);
   }
 
-  runs-behind : (i : ℕ) → further (holds (alone f) (act t i .pre)) (c .runs) (c .steps) ≡ stepsRun (act t) real (l ++ (i ∷ [])) (initial t)
-  unfolding stepsBy
-  runs-behind i = go (eqb (c .runs) (c .steps)) refl (holds (alone f) (act t i .pre)) refl
-    where
-      tests : ℕ → State → Bool
-      tests i s = holds s (act t i .pre)
-
-      next : ℕ → State → State
-      next i = step real (act t i)
-
-      same : tests i (run (act t) real l (initial t)) ≡ holds (alone f) (act t i .pre)
-      same = real-applies t F l i ∙ ap (λ (g : Values). holds (alone g) (act t i .pre)) (sym (C .newest))
-
-      go : (e : Bool) → eqb (c .runs) (c .steps) ≡ e → (b : Bool) → holds (alone f) (act t i .pre) ≡ b
-          → further (holds (alone f) (act t i .pre)) (c .runs) (c .steps) ≡ stepsRun (act t) real (l ++ (i ∷ [])) (initial t)
-      go true e true d =
-          let h = eqb-true (c .runs) (c .steps) e in
-          omega (arith, further-on (holds (alone f) (act t i .pre)) (c .runs) (c .steps) h d, C .steps, C .runs, h,
-          stepsBy-on tests next l i [] (initial t) (omega (arith, C .steps, C .runs, h)) (same ∙ d))
-      go true e false d =
-          let h = eqb-true (c .runs) (c .steps) e in
-          omega (arith, further-fails (holds (alone f) (act t i .pre)) (c .runs) (c .steps) h d, C .steps, C .runs, h,
-          stepsBy-fails tests next l i [] (initial t) (omega (arith, C .steps, C .runs, h)) (same ∙ d))
-      go false e b d =
-          let h = eqb-false (c .runs) (c .steps) e in
-          let less : stepsBy tests next l (initial t) < length l = omega (arith, h, C .steps, C .runs, stepsBy-le tests next l (initial t)) in
-          omega (arith, further-stopped (holds (alone f) (act t i .pre)) (c .runs) (c .steps) h, C .runs, stepsBy-stopped tests next l (i ∷ []) (initial t) less)
-
   -- one action more
   pub counted-behind : (i : ℕ) (r : Counts) (g : Values) → Onward (act t i) f c r → g ≡ newer (act t i) f → Counted t (l ++ (i ∷ [])) g r
   unfolding runBy
   counted-behind i r g O e = record {
     steps = omega (arith, O .steps, C .steps, length-append l (i ∷ []));
-    runs = O .runs ∙ runs-behind i;
+    runs = O .runs ∙ further-steps t F l f (c .runs) (c .steps) i (C .newest) (C .runs) (C .steps);
     cost = omega (arith, O .cost, C .cost, costOf-behind t l i);
-    newest = e ∙ ap (newer (act t i)) (C .newest) ∙ sym (runBy-append (λ _ _. true) (λ i. newer (act t i)) l (i ∷ []) (initialValues t));
+    newest = e ∙ ap (newer (act t i)) (C .newest) ∙ sym (runBy-behind (λ i. newer (act t i)) l i (initialValues t));
   }
 
   -- the verdict

@@ -21,8 +21,9 @@ use Rattle.state.proofs.Listing.{between-inside}
 use Rattle.paths.specs.Paths.{Put}
 use Rattle.paths.specs.declared.Written.{Written}
 use Rattle.passes.specs.Passes.{Fitting, factsOf}
-use Rattle.repair.specs.declared.Repaired.{Repaired}
-use Rattle.repair.specs.Answers.{answerOf, Held}
+use Rattle.answers.specs.declared.Planned.{Planned}
+use Rattle.answers.specs.Plans.{answerOf}
+use Rattle.repair.specs.Answers.{Held}
 use Rattle.repair.specs.declared.Counts.{Counts}
 use Rattle.repair.specs.Counting.{judgedBy}
 use Rattle.repair.specs.Repairs.{Wanted, Lent, moved}
@@ -68,7 +69,7 @@ module _ (plan work : List ℕ) (less room : ℕ) (ea : less ≡ min (length pla
   fronts-lent = record { same = length-take-le room work (room-bounds .1) ∙ sym front-length; within = omega arith }
 
 -- the list l in the front of the plan list d: the answer, or 11
-module _ (t : Task) (l d : List ℕ) (room : ℕ) (r : Repaired) where
+module _ (t : Task) (l d : List ℕ) (room : ℕ) (r : Planned) where
   pub held-whole : answerOf r ≡ done (planned t l) → (n : ℕ) → n ≤ room → n ≤ length d → take n d ≡ l → Held t l d room r
   unfolding answer
   held-whole e n h b q =
@@ -80,13 +81,13 @@ module _ (t : Task) (l d : List ℕ) (room : ℕ) (r : Repaired) where
   held-long e h = record { says = e ∙ rw (room-short (length l) room h) refl; fills = λ b. absurd (omega arith) }
 
 -- the same of the front part ys of the plan list
-pub held-front : (t : Task) (l ys rest : List ℕ) (n : ℕ) → n ≡ length ys → (room : ℕ) → n ≡ room → (r : Repaired) → Held t l ys n r → Held t l (ys ++ rest) room r
+pub held-front : (t : Task) (l ys rest : List ℕ) (n : ℕ) → n ≡ length ys → (room : ℕ) → n ≡ room → (r : Planned) → Held t l ys n r → Held t l (ys ++ rest) room r
 held-front t l ys rest n en room e r H = rw (← e) (record { says = H .says; fills = λ b. take-append-le (length l) ys rest (omega (arith, en)) ∙ H .fills b })
 
 -- the repair where every step is taken and every stage placed
 pub repairing-held : {t : Task} {l₀ plan₀ plan memo work sets ever : List ℕ} {f : Values} {c : Counts} {a j : ℕ}
     → Repairing t l₀ plan₀ plan memo work sets ever f c a j → Formed t → c .steps ≡ a → length l₀ < j
-    → (r : Repaired) → answerOf r ≡ done (judgedBy (holds (alone f) (goals t)) c) → Held t (repaired t l₀) plan (length plan₀) r
+    → (r : Planned) → answerOf r ≡ done (judgedBy (holds (alone f) (goals t)) c) → Held t (repaired t l₀) plan (length plan₀) r
 repairing-held {t = t} {l₀ = l₀} {plan₀ = plan₀} {plan = plan} {f = f} {c = c} {a = a} G F k h r e =
     let whole = repairing-whole G k h in
     let counts : Counted t (take a plan) f c = subst (λ (n : ℕ). Counted t (take n plan) f c) k (G .counts) in

@@ -1,17 +1,14 @@
 -- What is counted along a list, one action after the other.
 use mathlib.Core.Path.{_≡_}
-use mathlib.Core.Bool.{Bool, true, false, _&&_}
+use mathlib.Core.Bool.{Bool, _&&_}
 use Prim.Native.Nat.{ℕ, _+_, _*_, _<_, _≤_}
 use lib.Dec.{eqb}
 use Rattle.planning.specs.Record.{Action}
 use Rattle.planning.specs.Runs.{holds}
 use Rattle.planning.specs.Newest.{Values, alone}
 use Rattle.planning.specs.Calls.{Planned}
+use Rattle.state.specs.Sets.{further}
 use Rattle.repair.specs.declared.Counts.{Counts}
-
--- the steps that run, with one more behind that applies or not
-unfoldable pub further : Bool → ℕ → ℕ → ℕ
-further b runs steps = elim (eqb runs steps && b) [ true ↦ runs + 1 | false ↦ runs ]
 
 -- the counts r are those of c with the action a behind, where f are the newest values
 pub record Onward (a : Action) (f : Values) (c r : Counts) : Type 0 where

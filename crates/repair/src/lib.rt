@@ -1,6 +1,7 @@
 // The repair of a relaxed plan. Steps so far stand in the front of the plan list, the moves under construction behind them;
 // a pass that rebuilds the moves does so in the work list. Passes only insert and applying only appends, so as soon as steps and moves do
 // not fit, the whole plan does not.
+use answers::Planned;
 use answers::Refusal;
 use paths::Written;
 use state::Goals;
@@ -19,20 +20,10 @@ ghost use Rattle.task.specs.Links.{Prepared};
 ghost use Rattle.state.specs.Sets.{setsOf, valuesOf};
 ghost use Rattle.paths.specs.Paths.{Memo, Put};
 ghost use Rattle.passes.specs.Passes.{factsOf, Entries, Blank};
-ghost use Rattle.repair.specs.Answers.{answerOf, Held};
-ghost use Rattle.repair.specs.Counting.{further, Small, Few, Onward, judgedBy};
+ghost use Rattle.answers.specs.Plans.{answerOf};
+ghost use Rattle.repair.specs.Answers.{Held};
+ghost use Rattle.repair.specs.Counting.{Small, Few, Onward, judgedBy};
 ghost use Rattle.repair.specs.Repairs.{Present, Wanted, Lent, filled, moved, stepsFor, lastMoves, stageOf};
-
-// The repaired list: its steps, its cost, those that run for real, and whether it is a plan in a real run; or the refusal.
-pub enum Repaired {
-    Plan {
-        steps: u32,
-        cost: u32,
-        runs: u32,
-        real: bool,
-    },
-    Refused(Refusal),
-}
 
 // The present fact of v.
 fn present(task: &[u16], sets: &[u64; 64], v: usize) -> usize
@@ -220,21 +211,6 @@ struct Counts {
     cost: usize,
 }
 
-// The steps that run for real of a list with action i behind it, from its counts and newest values: one more if all before i do and i
-// applies.
-fn running(task: &[u16], newest: &[u8; 64], i: usize, c: Counts) -> usize
-    requires { ⌜ Loaded (now task) × (i < actions (taskIn (now task))) × Small c ⌝ }
-    ensures { λ r. ⌜ r ≡ further (holds (alone (valuesOf (now (newest .entry)))) (act (taskIn (now (task .entry))) i .pre)) (c .runs) (c .steps) ⌝ }
-{
-    if c.runs != c.steps {
-        return c.runs;
-    }
-    if state::applies_newest(newest, task, i) {
-        return c.runs + 1;
-    }
-    c.runs
-}
-
 // The counts of a list with action i behind it.
 fn counted(task: &[u16], newest: &[u8; 64], i: usize, c: Counts) -> Counts
     requires { ⌜ Loaded (now task) × (i < actions (taskIn (now task))) × Small c ⌝ }
@@ -242,7 +218,7 @@ fn counted(task: &[u16], newest: &[u8; 64], i: usize, c: Counts) -> Counts
 {
     Counts {
         steps: c.steps + 1,
-        runs: running(task, newest, i, c),
+        runs: state::further(newest, task, i, c.runs, c.steps),
         cost: c.cost + task::cost(task, i),
     }
 }
@@ -259,13 +235,13 @@ fn at_goals(task: &[u16], newest: &[u8; 64]) -> bool
 }
 
 // The answer for a list with these counts and newest values.
-fn verdict(task: &[u16], newest: &[u8; 64], c: Counts) -> Repaired
+fn verdict(task: &[u16], newest: &[u8; 64], c: Counts) -> Planned
     requires { ⌜ Loaded (now task) × Few c ⌝ }
     ensures { λ r. ⌜ answerOf r ≡ done (judgedBy (holds (alone (valuesOf (now (newest .entry)))) (goals (taskIn (now (task .entry))))) c) ⌝ }
 {
     let met = at_goals(task, newest);
     let all = c.runs == c.steps;
-    Repaired::Plan {
+    Planned::Plan {
         steps: c.steps as u32,
         cost: c.cost as u32,
         runs: c.runs as u32,
@@ -274,11 +250,11 @@ fn verdict(task: &[u16], newest: &[u8; 64], c: Counts) -> Repaired
 }
 
 // The list does not fit.
-fn too_long(room: usize) -> Repaired
+fn too_long(room: usize) -> Planned
     requires { ⌜ room ≤ 32768 ⌝ }
     ensures { λ r. ⌜ answerOf r ≡ refused 11 room ⌝ }
 {
-    Repaired::Refused(Refusal {
+    Planned::Refused(Refusal {
         number: 11,
         place: room as u32,
     })
@@ -292,7 +268,7 @@ fn repair_from(
     relaxed: &[u16],
     plan: &mut [u16],
     work: &mut [u16],
-) -> Repaired
+) -> Planned
     requires { ⌜ Prepared (now task) × Entries (taskIn (now task)) (now relaxed) × Blank (now memo) × Lent (now plan) (now work) 0 × (length (now plan) ≤ 32768) ⌝ }
     ensures { λ r. ⌜ Held (taskIn (now (task .entry))) (repaired (taskIn (now (task .entry))) (now (relaxed .entry))) (now (plan .exit)) (length (now (plan .entry))) r ⌝ }
 {
@@ -334,7 +310,7 @@ fn repair_from(
 
 // The repair of a relaxed plan, in the front of the plan list: its steps, its cost, those that run for real, and whether it is a plan in a
 // real run; 11 if it is longer than the capacity.
-pub fn repair(task: &[u16], relaxed: &[u16], plan: &mut [u16], work: &mut [u16]) -> Repaired
+pub fn repair(task: &[u16], relaxed: &[u16], plan: &mut [u16], work: &mut [u16]) -> Planned
     requires { ⌜ Prepared (now task) × Entries (taskIn (now task)) (now relaxed) ⌝ }
     ensures { λ r. ⌜ Held (taskIn (now (task .entry))) (repaired (taskIn (now (task .entry))) (now (relaxed .entry))) (now (plan .exit)) (capacityOf (length (now (plan .entry))) (length (now (work .entry)))) r ⌝ }
 {

@@ -13,9 +13,9 @@ use Rattle.planning.specs.Listing.{line, reachedWord, relaxedWord, planWord, re
 use Rattle.text.specs.Put.{Put}
 use Rattle.text.proofs.Texts.{put-then}
 use Rattle.answers.specs.declared.Refusal.{Refusal}
-use Rattle.planner.specs.declared.Planned.{Planned}
-use Rattle.planner.specs.declared.Planned.the-variants.{Plan, Refused}
-use Rattle.planner.specs.Answers.{answerOf}
+use Rattle.answers.specs.declared.Planned.{Planned}
+use Rattle.answers.specs.declared.Planned.the-variants.{Plan, Refused}
+use Rattle.answers.specs.Plans.{answerOf}
 use Rattle.report.specs.Answers.{factsIn, stepsIn, keptIn, runsText, refusalOf}
 use Rattle.planning.proofs.Listing.{relaxed-few, forward-done, relax-done, relaxed-front, plan-front, runs-front, listing-lines, listing-refused}
 

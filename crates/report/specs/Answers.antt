@@ -6,8 +6,8 @@ use Rattle.planning.specs.Basics.{Answer, refused, done}
 use Rattle.planning.specs.Calls.{Forward, forwardCall, relaxCall, relaxList}
 use Rattle.planning.specs.Listing.{line, reachedWord, relaxedWord}
 use Rattle.answers.specs.declared.Refusal.{Refusal}
-use Rattle.planner.specs.declared.Planned.{Planned}
-use Rattle.planner.specs.declared.Planned.the-variants.{Plan, Refused}
+use Rattle.answers.specs.declared.Planned.{Planned}
+use Rattle.answers.specs.declared.Planned.the-variants.{Plan, Refused}
 
 -- the refusal, zeros where there is none
 abbrev pub refusalOf : Planned → Refusal

@@ -1,9 +1,9 @@
 -- Sets of values as numbers, and the state that 64 of them, with 64 newest values, stand for.
 use mathlib.Core.Path.{_≡_}
-use mathlib.Core.Bool.{Bool, true, false}
+use mathlib.Core.Bool.{Bool, true, false, _&&_}
 use mathlib.Core.List.{List}
 use mathlib.Core.Option.{Option, none, some}
-use Prim.Native.Nat.{ℕ, _/_, _%_, _^_, _<_, _≤_}
+use Prim.Native.Nat.{ℕ, suc, _/_, _%_, _^_, _<_, _≤_}
 use lib.Bits.{bitOr}
 use lib.Dec.{eqb}
 use lib.ListN.{getD}
@@ -24,6 +24,10 @@ setsOf ms v x = inSet (getD ms v 0) x
 -- newest values, one a variable
 unfoldable pub valuesOf : List ℕ → Values
 valuesOf ns v = getD ns v 0
+
+-- the steps of a list that run, with one more behind that applies or not: of `steps` steps `runs` do
+unfoldable pub further : Bool → ℕ → ℕ → ℕ
+further b runs steps = elim (eqb runs steps && b) [ true ↦ suc runs | false ↦ runs ]
 
 -- a set of variables, those that act as black
 unfoldable pub modeOf : ℕ → Mode

@@ -7,7 +7,7 @@ ghost use lib.ListN.{length, getD};
 ghost use Rattle.planning.specs.Runs.{actions, act, holds, look, step, initial, black, size};
 ghost use Rattle.planning.specs.Newest.{initialValues, newer, alone};
 ghost use Rattle.task.specs.Task.{factsIn, taskIn, Loaded};
-ghost use Rattle.state.specs.Sets.{inSet, mixed, setsOf, valuesOf, modeOf, GoalsOf, Asked};
+ghost use Rattle.state.specs.Sets.{inSet, mixed, setsOf, valuesOf, modeOf, further, GoalsOf, Asked};
 
 // The set of value x alone.
 pub fn single(x: usize) -> u64
@@ -88,6 +88,18 @@ pub fn applies_newest(newest: &[u8; 64], task: &[u16], i: usize) -> bool
         task::pre_start(task, i),
         task::eff_start(task, i),
     )
+}
+
+// The steps of a list that run for real, with action i behind it: of `steps` steps `runs` do, and i counts if all do and it applies to the
+// newest values.
+pub fn further(newest: &[u8; 64], task: &[u16], i: usize, runs: usize, steps: usize) -> usize
+    requires { ⌜ Loaded (now task) × (i < actions (taskIn (now task))) × (runs ≤ 32768) ⌝ }
+    ensures { λ r. ⌜ r ≡ further (holds (alone (valuesOf (now (newest .entry)))) (act (taskIn (now (task .entry))) i .pre)) runs steps ⌝ }
+{
+    if runs == steps && applies_newest(newest, task, i) {
+        return runs + 1;
+    }
+    runs
 }
 
 // The value that the facts from place `from` up to `to` ask of variable v, 64 for none.

@@ -19,8 +19,8 @@ cost-is c = let s = start-of c in c .cost .ensures ∙ ap (λ (a : Action). a .c
 add-t5 : tie.Need-add-t5
 add-t5 c = search needs
 
-running-requires : tie.Need-running-requires
-running-requires c κs = search needs
+further-requires : tie.Need-further-requires
+further-requires c κs = search needs
 
 cost-requires : tie.Need-cost-requires
 cost-requires c κs = search needs
@@ -31,7 +31,7 @@ add-t8 c =
     omega (arith, cost-is (c .before), p .0 .formed .cost-below (start-of (c .before) .args .i), p .2 .few .cost, p .2 .more)
 
 returns : tie.Need-returns
-returns c = record { steps = refl; runs = c .before .before .running .ensures; cost = ap (λ x. start-of (c .before) .args .c .cost + x) (cost-is (c .before)) }
+returns c = record { steps = refl; runs = c .before .before .further .ensures; cost = ap (λ x. start-of (c .before) .args .c .cost + x) (cost-is (c .before)) }
 
 pub counted-spec : {M : Type 1} → statement M
-counted-spec = tie.close (tie.spec add-t5 running-requires cost-requires add-t8 returns)
+counted-spec = tie.close (tie.spec add-t5 further-requires cost-requires add-t8 returns)

@@ -1,6 +1,6 @@
 use mathlib.Core.Path.{ap}
 use lib.ListN.{length}
-use Rattle.planner.specs.Answers.{answerOf}
+use Rattle.answers.specs.Plans.{answerOf}
 use native.Mathlib.Omega.{arith}
 use Rattle.report.proofs.Answers.{runnable-few}
 use borrow.Author.Needs.{needs}

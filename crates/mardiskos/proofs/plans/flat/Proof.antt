@@ -1,6 +1,6 @@
 use mathlib.Core.Path.{refl, sym, ap}
 use Rattle.planning.specs.Basics.{code}
-use Rattle.planner.specs.Answers.{answerOf}
+use Rattle.answers.specs.Plans.{answerOf}
 use Rattle.mardiskos.specs.Plans.{planResultOf}
 use borrow.Author.Needs.{needs}
 use Rattle.mardiskos.proofs.plans.flat.Statement.{statement}

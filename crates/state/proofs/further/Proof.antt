@@ -3,9 +3,9 @@ use borrow.Author.Needs.{needs}
 use mathlib.Core.Path.{_≡_, sym, _∙_}
 use mathlib.Core.Logic.{⊎-elim}
 use native.Mathlib.Omega.{arith}
-use Rattle.judge.proofs.Tracing.{further-pass, further-stay, further-stopped}
-use Rattle.judge.proofs.further.Statement.{statement}
-use Rattle.judge.proofs.further.Tie as tie
+use Rattle.state.proofs.Running.{further-on, further-fails, further-stopped}
+use Rattle.state.proofs.further.Statement.{statement}
+use Rattle.state.proofs.further.Tie as tie
 
 applies-newest-requires : tie.Need-applies-newest-requires
 applies-newest-requires c κs = search needs
@@ -14,10 +14,10 @@ add-result : tie.Need-add-result
 add-result c = search needs
 
 returns : tie.Need-returns
-returns c = further-pass _ _ _ (search needs) (sym (c .before .applies-newest .ensures) ∙ (c .if2 .taken))
+returns c = further-on _ _ _ (search needs) (sym (c .before .applies-newest .ensures) ∙ (c .if2 .taken))
 
 returns-2 : tie.Need-returns-2
-returns-2 c = ⊎-elim (λ w. further-stay _ _ _ (sym (w .1 .ensures) ∙ w .2 .left)) (λ w. further-stopped _ _ _ (w .left)) (c .if1 .came)
+returns-2 c = ⊎-elim (λ w. further-fails _ _ _ (sym (w .1 .ensures) ∙ w .2 .left)) (λ w. further-stopped _ _ _ (w .left)) (c .if1 .came)
 
 pub further-spec : {M : Type 1} → statement M
 further-spec = tie.close (tie.spec applies-newest-requires add-result returns returns-2)

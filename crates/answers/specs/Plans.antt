@@ -2,8 +2,8 @@
 use Prim.Native.Nat.{ℕ}
 use Rattle.planning.specs.Basics.{Answer, refused, done}
 use Rattle.planning.specs.Calls.{Planned as Result}
-use Rattle.planner.specs.declared.Planned.{Planned}
-use Rattle.planner.specs.declared.Planned.the-variants.{Plan, Refused}
+use Rattle.answers.specs.declared.Planned.{Planned}
+use Rattle.answers.specs.declared.Planned.the-variants.{Plan, Refused}
 
 abbrev pub answerOf : Planned → Answer Result
 answerOf (Plan s c n v) = done (record { steps = s; cost = c; real′ = v; runs = n })
