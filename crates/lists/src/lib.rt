@@ -3,11 +3,12 @@ use answers::Checked;
 use answers::Refusal;
 ghost use mathlib.Core.Path.{_≡_};
 ghost use mathlib.Core.List.{_++_};
-ghost use Prim.Native.Nat.{_+_, _-_, _/_, _%_, _≤_, min};
-ghost use lib.ListN.{length, take, drop, set, replicate};
+ghost use Prim.Native.Nat.{_+_, _-_, _≤_, min};
+ghost use lib.ListN.{length, take, drop, replicate};
 ghost use Rattle.planning.specs.Calls.{capacity, roomCheck};
 ghost use Rattle.answers.specs.Answers.{checkOf};
 ghost use Rattle.lists.specs.Lent.{laid};
+ghost use Rattle.lists.specs.Four.{withFour};
 
 // A 16-bit number as an index.
 pub fn wide(x: u16) -> usize
@@ -20,7 +21,7 @@ pub fn wide(x: u16) -> usize
 // store of it.
 pub fn put_four(list: &mut [u16], i: usize, four: u64)
     requires { ⌜ i + 4 ≤ length (now list) ⌝ }
-    ensures { λ _. ⌜ now (list .exit) ≡ set (set (set (set (now (list .entry)) i (four % 65536)) (i + 1) (four / 65536 % 65536)) (i + 2) (four / 4294967296 % 65536)) (i + 3) (four / 281474976710656) ⌝ }
+    ensures { λ _. ⌜ now (list .exit) ≡ withFour (now (list .entry)) i four ⌝ }
 {
     list[i] = (four % 65536) as u16;
     list[i + 1] = ((four >> 16) % 65536) as u16;

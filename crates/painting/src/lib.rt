@@ -14,12 +14,12 @@ ghost use Rattle.planning.specs.Basics.{refuseAt};
 ghost use Rattle.planning.specs.Runs.{holds, actions, act};
 ghost use Rattle.planning.specs.Painting.{blackArc, unreturned};
 ghost use Rattle.answers.specs.Answers.{checkOf};
-ghost use Rattle.task.specs.Task.{taskIn, Loaded, preAt, effAt};
+ghost use Rattle.task.specs.Task.{taskIn, Loaded};
 ghost use Rattle.task.specs.Links.{Next, Chained};
 ghost use Rattle.state.specs.Sets.{modeOf, setsOf};
 ghost use Rattle.graph.specs.Graph.{foundOf};
 ghost use Rattle.painting.specs.Chains.{moveOf, linkedMove, Acyclic, Linked};
-ghost use Rattle.painting.specs.Returns.{place, markAll, marked, Unmarked, returnsBy, returned, unreturnedFrom, lacksBy, OnChain, InChain, Serves, Lacking};
+ghost use Rattle.painting.specs.Returns.{FirstUnmarked, place, markAll, marked, Unmarked, returnsBy, returned, unreturnedFrom, lacksBy, OnChain, InChain, Serves, Lacking};
 ghost use Rattle.painting.specs.Answers.{Readied};
 
 // The first black fact that action i sets; 65,535 if there is none.
@@ -93,7 +93,7 @@ fn mark(task: &[u16], i: usize, f: usize, marks: &mut [u16; 4096])
 // Where the first precondition of action j stands that is not marked i; where they end if each is.
 fn first_unmarked(task: &[u16], j: usize, marks: &[u16; 4096], i: u16) -> usize
     requires { ⌜ Loaded (now task) × (j < actions (taskIn (now task))) ⌝ }
-    ensures { λ r. ⌜ (preAt (now (task .entry)) j ≤ r) × (r ≤ effAt (now (task .entry)) j) × (holds (marked i (now (marks .entry))) (act (taskIn (now (task .entry))) j .pre) ≡ eqb r (effAt (now (task .entry)) j)) ⌝ }
+    ensures { λ r. ⌜ FirstUnmarked (now (task .entry)) j (marked i (now (marks .entry))) r ⌝ }
 {
     let end = task::eff_start(task, j);
     let mut k = task::pre_start(task, j);

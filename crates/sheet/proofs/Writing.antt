@@ -141,7 +141,14 @@ module _ (l : List ℕ) (head size : ℕ) (d₀ d : List ℕ) (word at i : ℕ) 
       let b : bitsOf 5 (word / 524288 % 32) ≡ bitsOf 5 (word / 524288) = low-bits 5 (word / 524288) in
       sym
       (word-written e (drop (at + 5) d) 0 q
-      ∙ rw (k, ← b, ← w (size - at - 5), p, front-after e (packed (size - at - 5) (bitsOf 40 v)) (drop (at + 5 + (size - at - 5)) e) (at + 5) (size - at - 5) size (length-packed (size - at - 5) (bitsOf 40 v)) (omega (arith, g .place, g .long, g .passed)) (omega (arith, g .place, g .passed))) refl)
+      ∙ rw (
+        k,
+        ← b,
+        ← w (size - at - 5),
+        p,
+        front-after e (packed (size - at - 5) (bitsOf 40 v)) (drop (at + 5 + (size - at - 5)) e) (at + 5) (size - at - 5) size
+            (length-packed (size - at - 5) (bitsOf 40 v)) (omega (arith, g .place, g .long, g .passed)) (omega (arith, g .place, g .passed)),
+      ) refl)
 
   -- what the calls ask
   pub writing-room : i + 4 ≤ length l → at + 8 ≤ length d
@@ -167,5 +174,6 @@ unfolding sheetBytes sheetBits sheetSize sheetEnd
 sheet-written x v size d d₁ d₂ e z q w =
     let k : size ≡ 1 + (size - 1) = omega arith in
     let b : sheetBits x ≡ bitsOf 53 v ++ stepBits (x .steps) = rw e (simp append-assoc) in
-    let p : packed 1 (bitsOf 53 v) ++ packed (size - 1) (bitsOf 45 v ++ stepBits (x .steps)) ≡ packed size (sheetBits x) = sym (ap (λ (n : ℕ). packed n (sheetBits x)) k ∙ rw b (packed-front 1 (size - 1) 53 45 v (stepBits (x .steps)) refl)) in
+    let p : packed 1 (bitsOf 53 v) ++ packed (size - 1) (bitsOf 45 v ++ stepBits (x .steps)) ≡ packed size (sheetBits x) =
+    sym (ap (λ (n : ℕ). packed n (sheetBits x)) k ∙ rw b (packed-front 1 (size - 1) 53 45 v (stepBits (x .steps)) refl)) in
     w ∙ rw (q, take-at (packed 1 (bitsOf 53 v)) (drop 1 d) 1 (length-packed 1 (bitsOf 53 v))) (p ∙ ap (λ (n : ℕ). packed n (sheetBits x)) z)

@@ -13,6 +13,7 @@ ghost use Rattle.planning.specs.Record.{endsAt};
 ghost use Rattle.planning.specs.Sheet.{bitsOf, packed, stepBits, sheetSize, sheetCheck, stepsAt, stepsIn};
 ghost use Rattle.planning.specs.Calls.{Read, notBelow, writeCall, writeBytes, readCall, readList};
 ghost use Rattle.answers.specs.Answers.{checkOf, valueOf};
+ghost use Rattle.lists.specs.Four.{Spread};
 ghost use Rattle.sheet.specs.Answers.{sheet, readingAs, declined, headingOf, endCheck};
 ghost use Rattle.sheet.specs.Again.{ReadsAs, WritesAs};
 
@@ -290,7 +291,7 @@ fn five_steps(bytes: &[u8], at: usize) -> u64
 
 // The first four of five steps, 16 bits each, the first one lowest, as they lie in a list.
 fn spread(word: u64) -> u64
-    ensures { λ r. ⌜ (r % 65536 ≡ word / 1099511627776 % 1024) × (r / 65536 % 65536 ≡ word / 1073741824 % 1024) × (r / 4294967296 % 65536 ≡ word / 1048576 % 1024) × (r / 281474976710656 ≡ word / 1024 % 1024) ⌝ }
+    ensures { λ r. ⌜ Spread (word / 1099511627776 % 1024) (word / 1073741824 % 1024) (word / 1048576 % 1024) (word / 1024 % 1024) r ⌝ }
 {
     (word >> 40) % 1024
         + (word >> 30) % 1024 * 65536

@@ -258,7 +258,7 @@ factsIn-read s task a p (suc n) h f =
     let e : getD task a 0 ≡ bitsAt s p 12 = subst (λ x. getD task x 0 ≡ bitsAt s p 12) (omega arith) (f 0 (omega arith) ∙ ap (λ (x : ℕ). bitsAt s x 12) (omega arith)) in
     let m : a + suc n ≡ suc a + n = omega arith in
     let r = factsIn-read s task (suc a) (p + 12) n (omega arith)
-        (λ k b. subst (λ x. getD task x 0 ≡ bitsAt s (p + 12 + 12 * k) 12) (omega arith) (f (suc k) (omega arith) ∙ ap (λ (x : ℕ). bitsAt s x 12) (omega arith))) in
+    (λ k b. subst (λ x. getD task x 0 ≡ bitsAt s (p + 12 + 12 * k) 12) (omega arith) (f (suc k) (omega arith) ∙ ap (λ (x : ℕ). bitsAt s x 12) (omega arith))) in
     rw (slice-cons a (a + suc n) task 0 (omega arith) h, e, factOf-bits s p, m, r) refl
 
 -- a placed action is what its row states

@@ -114,17 +114,29 @@ module _ (before after : List ℕ) (L : Loaded before) (R : Relinked before afte
   unfolding actionIn
   action-kept i h =
       let r = L .rows i h in
-      rw (cell-kept i 0, cell-kept i 1, cell-kept i 2, cell-kept i 3, facts-kept (preAt before i) (effAt before i) (r .behind) (r .pre-below)
-          (omega (arith, r .eff-below, r .end-below)), facts-kept (effAt before i) (endAt before i) (omega (arith, r .behind, r .pre-below)) (r .eff-below) (r .end-below)) refl
+      rw (
+        cell-kept i 0,
+        cell-kept i 1,
+        cell-kept i 2,
+        cell-kept i 3,
+        facts-kept (preAt before i) (effAt before i) (r .behind) (r .pre-below)
+            (omega (arith, r .eff-below, r .end-below)),
+        facts-kept (effAt before i) (endAt before i) (omega (arith, r .behind, r .pre-below)) (r .eff-below) (r .end-below),
+      ) refl
 
   pub relinked-task : taskIn after ≡ taskIn before
   unfolding taskIn
   relinked-task =
       let e₀ = head-kept 0 (omega arith) (λ q. omega arith) in
       let e₁ = head-kept 1 (omega arith) (λ q. omega arith) in
-      rw (e₀, e₁, each-same (variableIn after) (variableIn before) 0 (cell before 0 0)
-          (λ v x y. variable-kept v (omega (arith, L .formed .variables-max, taskIn-variables before))), each-same (actionIn after) (actionIn before) 0
-          (cell before 0 1) (λ i x y. action-kept i (omega (arith, taskIn-actions before)))) refl
+      rw (
+        e₀,
+        e₁,
+        each-same (variableIn after) (variableIn before) 0 (cell before 0 0)
+            (λ v x y. variable-kept v (omega (arith, L .formed .variables-max, taskIn-variables before))),
+        each-same (actionIn after) (actionIn before) 0
+            (cell before 0 1) (λ i x y. action-kept i (omega (arith, taskIn-actions before))),
+      ) refl
 
   pub relinked-loaded : Loaded after
   relinked-loaded = record {

@@ -5,6 +5,7 @@ ghost use Prim.Native.Nat.{_+_, _*_, _/_, _%_, _<_, _≤_};
 ghost use lib.ListN.{length, getD, set};
 ghost use Rattle.planning.specs.Record.{taskOf, recordCheck, variablesIn, actionsIn};
 ghost use Rattle.planning.specs.Runs.{variables, actions, variable, count, black};
+ghost use Rattle.lists.specs.Four.{Spread};
 ghost use Rattle.task.specs.Task.{taskIn, Loaded, costAt, preAt, effAt, endAt};
 ghost use Rattle.task.specs.Links.{headAt, nextAt, orderIn, linked, Unlinked, Prepared};
 ghost use Rattle.task.specs.Size.{taskSize, roomFor};
@@ -182,7 +183,7 @@ fn write_row(task: &mut [u16], r: usize, a: u16, b: u16, c: u16, d: u16)
 
 // Four facts of 12 bits, 16 bits each, the first one lowest.
 fn spread(word: u64) -> u64
-    ensures { λ r. ⌜ (r % 65536 ≡ word / 68719476736 % 4096) × (r / 65536 % 65536 ≡ word / 16777216 % 4096) × (r / 4294967296 % 65536 ≡ word / 4096 % 4096) × (r / 281474976710656 ≡ word % 4096) ⌝ }
+    ensures { λ r. ⌜ Spread (word / 68719476736 % 4096) (word / 16777216 % 4096) (word / 4096 % 4096) (word % 4096) r ⌝ }
 {
     (word >> 36) % 4096
         + (word >> 24) % 4096 * 65536

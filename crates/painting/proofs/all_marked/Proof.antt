@@ -1,6 +1,6 @@
 -- One precondition that is not marked is enough; else the walk tells.
 use mathlib.Core.Path.{_≡_, refl, sym, ap, _∙_}
-use Prim.Native.Nat.{_+_}
+use Prim.Native.Nat.{_+_, _<_}
 use native.Mathlib.Omega.{arith}
 use Rattle.planning.specs.Runs.{act, holds}
 use Rattle.task.specs.Task.{taskIn, factsIn}
@@ -18,6 +18,11 @@ front : (e : tie.After-eff-start) → Facts (e .before .before .before .args .ta
 front e =
     let p = e .before .before .before .pre in
     listed-preconditions _ _ (loaded-listed _ (p .0) _ (p .1)) _ _ (e .before .pre-start .ensures) (e .eff-start .ensures)
+
+seen-small : (c : tie.After-wide2) → c .wide2 .result < 4096
+seen-small c =
+    let e = c .before .before .before .before .before in
+    omega (arith, c .wide2 .ensures, front e .small (e .before .pre-start .result + c .before .before .before .wide .result) (omega arith) (omega arith))
 
 pre-start-requires : tie.Need-pre-start-requires
 pre-start-requires c κs = search needs
@@ -50,10 +55,10 @@ wide-requires-2 : tie.Need-wide-requires-2
 wide-requires-2 c κs = search needs
 
 mul-if2 : tie.Need-mul-if2
-mul-if2 c = let F = front (c .before .before .before .before .before) in omega (arith, c .wide2 .ensures, F .small (c .before .before .before .before .before .before .pre-start .result + c .before .before .before .wide .result) (omega arith) (omega arith))
+mul-if2 c = omega (arith, seen-small c)
 
 element-copy-out-if2 : tie.Need-element-copy-out-if2
-element-copy-out-if2 c = let F = front (c .before .before .before .before .before) in omega (arith, c .wide2 .ensures, F .small (c .before .before .before .before .before .before .pre-start .result + c .before .before .before .wide .result) (omega arith) (omega arith))
+element-copy-out-if2 c = omega (arith, seen-small c)
 
 returns : tie.Need-returns
 returns c =
@@ -62,7 +67,9 @@ returns c =
     let p = e .before .before .before .pre in
     let a = e .before .before .before .args in
     let L = loaded-listed _ (p .0) _ (p .1) in
-    let u = unmarked-at (a .task .now) (a .marks .now) (a .i) (w .before .before .before .wide .result) (e .before .pre-start .result) (e .eff-start .result) _ (front e) refl (omega arith) (rw (w .wide2 .ensures) at (c .if2 .taken)) in
+    let u = unmarked-at (a .task .now) (a .marks .now) (a .i) (w .before .before .before .wide .result)
+    (e .before .pre-start .result) (e .eff-start .result) _
+    (front e) refl (omega arith) (rw (w .wide2 .ensures) at (c .if2 .taken)) in
     sym (ap (holds (marked (a .i) (a .marks .now))) (sym (pre-facts _ _ L _ _ (e .before .pre-start .ensures) (e .eff-start .ensures))) ∙ u)
 
 first-unmarked-requires : tie.Need-first-unmarked-requires

@@ -52,8 +52,11 @@ returns c =
     let w = c .before .before in
     let l = w .before .before .before in
     let e = walking-hit _ _ _ _ _ _ (l .loop .inv .1) (omega arith) _ (w .wide .ensures) _ (marked-hit _ _ _ (c .if1 .taken)) in
-    let s = l .before in
-    (omega (arith, s .pre-start .ensures), omega (arith, s .before .eff-start .ensures), stops-before _ (l .loop .k) (s .before .eff-start .result) e (omega arith) ∙ rw (s .before .eff-start .ensures) refl)
+    let s = l .before in (
+      omega (arith, s .pre-start .ensures),
+      omega (arith, s .before .eff-start .ensures),
+      stops-before _ (l .loop .k) (s .before .eff-start .result) e (omega arith) ∙ rw (s .before .eff-start .ensures) refl,
+    )
 
 add-k : tie.Need-add-k Inv-loop μ-loop
 add-k c = search needs
@@ -71,8 +74,11 @@ returns-2 : tie.Need-returns-2 Inv-loop μ-loop
 returns-2 c =
     let e = walking-end _ _ _ _ _ _ (c .before .loop .inv .1) (omega arith) _ (marked-none _ _) in
     let s = c .before .before in
-    let r = c .before .loop .inv .1 .facts .rises in
-    (omega (arith, s .pre-start .ensures), omega (arith, r, s .before .eff-start .ensures), stops-at _ (c .before .loop .k) (s .before .eff-start .result) e (omega (arith, r)) ∙ rw (s .before .eff-start .ensures) refl)
+    let r = c .before .loop .inv .1 .facts .rises in (
+      omega (arith, s .pre-start .ensures),
+      omega (arith, r, s .before .eff-start .ensures),
+      stops-at _ (c .before .loop .k) (s .before .eff-start .result) e (omega (arith, r)) ∙ rw (s .before .eff-start .ensures) refl,
+    )
 
 pub first-unmarked-spec : {M : Type 1} → statement M
 first-unmarked-spec =

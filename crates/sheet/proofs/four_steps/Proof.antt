@@ -77,10 +77,15 @@ mul-result-5 : tie.Need-mul-result-5
 mul-result-5 c = search needs
 
 add-result-4 : tie.Need-add-result-4
-add-result-4 c = let o = c .before .before .before .before .before .before .before .before .before in omega (arith, o .pre .0, o .pre .2 (o .args .i), o .pre .2 (o .args .i + 1), o .pre .2 (o .args .i + 2), o .pre .2 (o .args .i + 3))
+add-result-4 c =
+    let o = c .before .before .before .before .before .before .before .before .before in
+    omega (arith, o .pre .0, o .pre .2 (o .args .i), o .pre .2 (o .args .i + 1), o .pre .2 (o .args .i + 2), o .pre .2 (o .args .i + 3))
 
 returns : tie.Need-returns
-returns c = let o = c .before .before .before .before .before .before .before .before .before in word-behind (o .args .list .now) (o .pre .2) (o .args .word) (o .args .i) _ _ _ _ (o .pre .0) (omega arith) (search needs) (search needs) (search needs) (search needs) _ refl
+returns c =
+    let o = c .before .before .before .before .before .before .before .before .before in
+    word-behind (o .args .list .now) (o .pre .2) (o .args .word) (o .args .i) _ _ _ _ (o .pre .0) (omega arith)
+    (search needs) (search needs) (search needs) (search needs) _ refl
 
 pub four-steps-spec : {M : Type 1} → statement M
 four-steps-spec =

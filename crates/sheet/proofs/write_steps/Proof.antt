@@ -44,7 +44,8 @@ loop-again : tie.Need-loop-again Inv-loop μ-loop
 loop-again c =
     let at-head = c .before .before .before .before .before .before in
     let at-start = at-head .before .before .before in
-    writing-turn _ _ _ _ _ _ _ _ (at-head .loop .inv) (at-start .pre .3) (at-start .pre .2) _ _ (omega arith) (c .four-steps .ensures .0) (c .four-steps .ensures .1) (search needs) (c .before .before .before .write-bits .ensures)
+    writing-turn _ _ _ _ _ _ _ _ (at-head .loop .inv) (at-start .pre .3) (at-start .pre .2)
+    _ _ (omega arith) (c .four-steps .ensures .0) (c .four-steps .ensures .1) (search needs) (c .before .before .before .write-bits .ensures)
 
 write-bits-requires-2 : tie.Need-write-bits-requires-2 Inv-loop μ-loop
 write-bits-requires-2 c κs =
@@ -85,7 +86,8 @@ returns c =
     let at-last-steps = c .before .before .before in
     let at-head = at-last-steps .before .before .before .before .before .before .before in
     let at-start = at-head .before .before .before in
-    writing-end _ _ _ _ _ _ _ _ (at-head .loop .inv) (at-start .pre .3) (at-start .pre .2) _ _ _ (omega arith) (at-last-steps .last-steps .ensures) (search needs) (at-last-steps .before .before .before .before .write-bits2 .ensures) (c .before .before .write-bits3 .ensures)
+    writing-end _ _ _ _ _ _ _ _ (at-head .loop .inv) (at-start .pre .3) (at-start .pre .2)
+    _ _ _ (omega arith) (at-last-steps .last-steps .ensures) (search needs) (at-last-steps .before .before .before .before .write-bits2 .ensures) (c .before .before .write-bits3 .ensures)
 
 pub write-steps-spec : {M : Type 1} → statement M
 write-steps-spec =

@@ -28,8 +28,12 @@ read-bits-requires c κs = search needs
 
 cast-task : tie.Need-cast-task Inv-loop μ-loop
 cast-task c =
-    omega (arith, c .read-bits .ensures, bitsAt-below (c .before .before .before .before .before .args .bytes .now)
-    (c .before .before .before .before .before .args .at + 12 * c .before .before .loop .k) 12)
+    omega (
+      arith,
+      c .read-bits .ensures,
+      bitsAt-below (c .before .before .before .before .before .args .bytes .now)
+          (c .before .before .before .before .before .args .at + 12 * c .before .before .loop .k) 12,
+    )
 
 add-task : tie.Need-add-task Inv-loop μ-loop
 add-task c = search needs
