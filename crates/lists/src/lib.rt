@@ -3,17 +3,30 @@ use answers::Checked;
 use answers::Refusal;
 ghost use mathlib.Core.Path.{_≡_};
 ghost use mathlib.Core.List.{_++_};
-ghost use Prim.Native.Nat.{_-_, _≤_, min};
+ghost use Prim.Native.Nat.{_+_, _-_, _≤_, min};
 ghost use lib.ListN.{length, take, drop, replicate};
 ghost use Rattle.planning.specs.Calls.{capacity, roomCheck};
 ghost use Rattle.answers.specs.Answers.{checkOf};
 ghost use Rattle.lists.specs.Lent.{laid};
+ghost use Rattle.lists.specs.Four.{withFour};
 
 // A 16-bit number as an index.
 pub fn wide(x: u16) -> usize
     ensures { λ r. ⌜ r ≡ x ⌝ }
 {
     x as usize
+}
+
+// Four entries out of one number, the first one lowest, as they lie in a list: a function of its own, so that the compiler makes one
+// store of it.
+pub fn put_four(list: &mut [u16], i: usize, four: u64)
+    requires { ⌜ i + 4 ≤ length (now list) ⌝ }
+    ensures { λ _. ⌜ now (list .exit) ≡ withFour (now (list .entry)) i four ⌝ }
+{
+    list[i] = (four % 65536) as u16;
+    list[i + 1] = ((four >> 16) % 65536) as u16;
+    list[i + 2] = ((four >> 32) % 65536) as u16;
+    list[i + 3] = (four >> 48) as u16;
 }
 
 // Every entry from k on becomes 65,535.

@@ -1,14 +1,15 @@
 -- Loops over the facts of an action: what is computed of all facts is what is computed of those still to come. One law for the
 -- move and the test of marks.
 use mathlib.Core.Path.{_≡_, refl, sym, ap, _∙_, subst}
-use mathlib.Core.Bool.{true, false}
+use mathlib.Core.Bool.{Bool, true, false, _&&_}
 use mathlib.Core.List.{List, [], _∷_, _++_}
-use Prim.Native.Nat.{ℕ, _+_, _-_, _*_, _/_, _%_, _<_, _≤_}
+use Prim.Native.Nat.{ℕ, zero, suc, _+_, _-_, _*_, _/_, _%_, _<_, _≤_}
 use native.Mathlib.Omega.{arith}
 use borrow.Author.Tests.{eq-eqb, ne-eqb}
+use lib.Dec.{eqb}
 use lib.ListN.{getD}
 use Rattle.planning.specs.Record.{Fact, Action}
-use Rattle.planning.specs.Runs.{Mode, holds, look, act}
+use Rattle.planning.specs.Runs.{State, Mode, holds, look, act}
 use Rattle.task.specs.Task.{factOf, factsIn, preAt, effAt, endAt, actionIn, taskIn}
 use Rattle.state.specs.Sets.{inSet, modeOf, Asked}
 use Rattle.state.proofs.Listed.{Listed}
@@ -97,3 +98,27 @@ module _ (marks : List ℕ) (i f : ℕ) where
 pub marked-none : (i : ℕ) (marks : List ℕ) → holds (marked i marks) [] ≡ true
 unfolding holds
 marked-none i marks = refl
+
+-- where a walk over preconditions stops, and whether it passed all of them
+pub stops-before : (b : Bool) (k end : ℕ) → false ≡ b → k < end → b ≡ eqb k end
+stops-before b k end e h = sym e ∙ sym (ne-eqb k end (λ q. omega arith))
+
+pub stops-at : (b : Bool) (k end : ℕ) → true ≡ b → k ≡ end → b ≡ eqb k end
+stops-at b k end e h = sym e ∙ sym (eq-eqb k end h)
+
+-- one precondition that is not marked is enough
+and-false : (x : Bool) → (x && false) ≡ false
+and-false true = refl
+and-false false = refl
+
+holds-rest : (s : State) (f : Fact) (fs : List Fact) → holds s fs ≡ false → holds s (f ∷ fs) ≡ false
+unfolding holds
+holds-rest s f fs e = rw e (and-false (s (f .var) (f .val)))
+
+pub unmarked-at : (task marks : List ℕ) (i n a b k : ℕ) → Facts task a b → k ≡ a + n → k < b → (getD marks (getD task k 0) 0 ≡ i → ⊥) → holds (marked i marks) (factsIn task a b) ≡ false
+unmarked-at task marks i zero a b k F e h t =
+    let z : a ≡ k = omega arith in
+    rw (factsIn-cons task a b (omega arith) (F .within), z) (marked-hit marks i (getD task k 0) t (factsIn task (k + 1) b))
+unmarked-at task marks i (suc n) a b k F e h t =
+    let r = unmarked-at task marks i n (a + 1) b k (facts-rest task a b F (omega arith)) (omega arith) h t in
+    rw (factsIn-cons task a b (omega arith) (F .within)) (holds-rest (marked i marks) (factOf (getD task a 0)) (factsIn task (a + 1) b) r)

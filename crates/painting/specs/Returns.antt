@@ -4,14 +4,14 @@ use mathlib.Core.Logic.{_⊎_}
 use mathlib.Core.Bool.{Bool, true, false, not, _&&_}
 use mathlib.Core.List.{List, [], _∷_}
 use mathlib.Core.Option.{Option, none, some}
-use Prim.Native.Nat.{ℕ, _+_, _*_, _/_, _<_}
+use Prim.Native.Nat.{ℕ, _+_, _*_, _/_, _<_, _≤_}
 use lib.Dec.{T, eqb}
 use lib.ListN.{length, getD, set}
 use Rattle.planning.specs.Basics.{someBelow}
 use Rattle.planning.specs.Record.{Fact, Task}
 use Rattle.planning.specs.Runs.{State, has, look, holds, variables, actions, act, black, count}
 use Rattle.planning.specs.Painting.{lacksReturn}
-use Rattle.task.specs.Task.{taskIn, Loaded}
+use Rattle.task.specs.Task.{taskIn, Loaded, preAt, effAt}
 use Rattle.task.specs.Links.{Sets, Chained}
 
 abbrev pub pickPlace : Bool → ℕ → ℕ → ℕ
@@ -35,6 +35,10 @@ marked i marks u x = eqb (getD marks (64 * u + x) 0) i
 pub record Unmarked (i : ℕ) (marks : List ℕ) : Type 0 where
   pub long : length marks ≡ 4096
   pub before : (g : ℕ) → g < 4096 → (getD marks g 0 < i) ⊎ (getD marks g 0 ≡ 65535)
+
+-- r is where the first precondition of action j stands that is not in m, or where they end
+abbrev pub FirstUnmarked : List ℕ → ℕ → State → ℕ → Type 0
+FirstUnmarked task j m r = (preAt task j ≤ r) × (r ≤ effAt task j) × (holds m (act (taskIn task) j .pre) ≡ eqb r (effAt task j))
 
 -- action j sets v = d and needs marked facts only
 abbrev pub returnsBy : Task → State → ℕ → ℕ → ℕ → Bool

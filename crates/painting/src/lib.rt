@@ -19,7 +19,7 @@ ghost use Rattle.task.specs.Links.{Next, Chained};
 ghost use Rattle.state.specs.Sets.{modeOf, setsOf};
 ghost use Rattle.graph.specs.Graph.{foundOf};
 ghost use Rattle.painting.specs.Chains.{moveOf, linkedMove, Acyclic, Linked};
-ghost use Rattle.painting.specs.Returns.{place, markAll, marked, Unmarked, returnsBy, returned, unreturnedFrom, lacksBy, OnChain, InChain, Serves, Lacking};
+ghost use Rattle.painting.specs.Returns.{FirstUnmarked, place, markAll, marked, Unmarked, returnsBy, returned, unreturnedFrom, lacksBy, OnChain, InChain, Serves, Lacking};
 ghost use Rattle.painting.specs.Answers.{Readied};
 
 // The first black fact that action i sets; 65,535 if there is none.
@@ -65,6 +65,10 @@ fn link_all(task: &mut [u16], paint: u64)
     }
 }
 
+// What served last: the action for each fact, by the fact's number modulo 1,024; and behind them the place of the precondition that was not
+// marked. Any numbers will do.
+const LAST: usize = 1025;
+
 // Where an action that sets f marks its fact g.
 fn place_of(f: usize, g: usize) -> usize
     ensures { λ r. ⌜ r ≡ place f g ⌝ }
@@ -86,31 +90,60 @@ fn mark(task: &[u16], i: usize, f: usize, marks: &mut [u16; 4096])
     }
 }
 
-// Each precondition of action j is marked i.
-fn all_marked(task: &[u16], j: usize, marks: &[u16; 4096], i: u16) -> bool
+// Where the first precondition of action j stands that is not marked i; where they end if each is.
+fn first_unmarked(task: &[u16], j: usize, marks: &[u16; 4096], i: u16) -> usize
     requires { ⌜ Loaded (now task) × (j < actions (taskIn (now task))) ⌝ }
-    ensures { λ r. ⌜ r ≡ holds (marked i (now (marks .entry))) (act (taskIn (now (task .entry))) j .pre) ⌝ }
+    ensures { λ r. ⌜ FirstUnmarked (now (task .entry)) j (marked i (now (marks .entry))) r ⌝ }
 {
     let end = task::eff_start(task, j);
     let mut k = task::pre_start(task, j);
     while k < end {
         if marks[lists::wide(task[k])] != i {
-            return false;
+            return k;
         }
         k += 1;
     }
-    true
+    k
+}
+
+// Each precondition of action j is marked i. The one that was not the last time, at the place among them that `last` has behind its
+// actions, is looked at first.
+fn all_marked(task: &[u16], j: usize, marks: &[u16; 4096], i: u16, last: &mut [u16; LAST]) -> bool
+    requires { ⌜ Loaded (now task) × (j < actions (taskIn (now task))) ⌝ }
+    ensures { λ r. ⌜ r ≡ holds (marked i (now (marks .entry))) (act (taskIn (now (task .entry))) j .pre) ⌝ }
+{
+    let start = task::pre_start(task, j);
+    let end = task::eff_start(task, j);
+    let seen = start + lists::wide(last[LAST - 1] % 16);
+    if seen < end {
+        if marks[lists::wide(task[seen])] != i {
+            return false;
+        }
+    }
+    let k = first_unmarked(task, j, marks, i);
+    if k == end {
+        return true;
+    }
+    last[LAST - 1] = ((k - start) % 16) as u16;
+    false
 }
 
 // The first action from j on that sets the black fact f and needs facts that are marked i alone; 65,535 if there is none. The walk goes
 // along the chain of f, in which j stands.
-fn first_return(task: &[u16], marks: &[u16; 4096], i: u16, f: usize, j: usize) -> usize
+fn first_return(
+    task: &[u16],
+    marks: &[u16; 4096],
+    i: u16,
+    f: usize,
+    j: usize,
+    last: &mut [u16; LAST],
+) -> usize
     requires { ⌜ OnChain (now task) f × InChain (taskIn (now task)) (f / 64) (f % 64) j ⌝ }
     ensures { λ r. ⌜ Next (actions (taskIn (now (task .entry)))) (λ k. T (returnsBy (taskIn (now (task .entry))) (marked i (now (marks .entry))) (f / 64) (f % 64) k)) j r ⌝ }
 {
     let mut k = j;
     while k != 65535 {
-        if all_marked(task, k, marks, i) {
+        if all_marked(task, k, marks, i, last) {
             return k;
         }
         k = task::next_setter(task, k);
@@ -119,7 +152,14 @@ fn first_return(task: &[u16], marks: &[u16; 4096], i: u16, f: usize, j: usize) -
 }
 
 // The same from h on, which may be any number; 65,535 also if h does not set f.
-fn later_return(task: &[u16], marks: &[u16; 4096], i: u16, f: usize, h: usize) -> usize
+fn later_return(
+    task: &[u16],
+    marks: &[u16; 4096],
+    i: u16,
+    f: usize,
+    h: usize,
+    last: &mut [u16; LAST],
+) -> usize
     requires { ⌜ OnChain (now task) f ⌝ }
     ensures { λ r. ⌜ Serves (taskIn (now (task .entry))) (marked i (now (marks .entry))) (f / 64) (f % 64) r ⌝ }
 {
@@ -135,20 +175,21 @@ fn later_return(task: &[u16], marks: &[u16; 4096], i: u16, f: usize, h: usize) -
     if d != f % 64 {
         return 65535;
     }
-    first_return(task, marks, i, f, h)
+    first_return(task, marks, i, f, h, last)
 }
 
-// Some action sets the black fact f and needs facts that are marked i alone. The walk starts at the one that was found last for f, and
-// then at the first.
-fn is_returned(task: &[u16], marks: &[u16; 4096], i: u16, f: usize, last: &mut [u16; 4096]) -> bool
+// Some action sets the black fact f and needs facts that are marked i alone. The walk starts at the one that was found last, for f or for
+// a fact that shares its place, and then at the first.
+fn is_returned(task: &[u16], marks: &[u16; 4096], i: u16, f: usize, last: &mut [u16; LAST]) -> bool
     requires { ⌜ OnChain (now task) f ⌝ }
     ensures { λ r. ⌜ r ≡ returned (taskIn (now (task .entry))) (marked i (now (marks .entry))) (f / 64) (f % 64) ⌝ }
 {
-    let mut j = later_return(task, marks, i, f, lists::wide(last[f]));
+    let h = lists::wide(last[f % 1024]);
+    let mut j = later_return(task, marks, i, f, h, last);
     if j == 65535 {
-        j = first_return(task, marks, i, f, task::first_setter(task, f));
+        j = first_return(task, marks, i, f, task::first_setter(task, f), last);
     }
-    last[f] = j as u16;
+    last[f % 1024] = j as u16;
     j != 65535
 }
 
@@ -159,7 +200,7 @@ fn arc_returned(
     i: u16,
     f: usize,
     d: usize,
-    last: &mut [u16; 4096],
+    last: &mut [u16; LAST],
 ) -> bool
     requires { ⌜ OnChain (now task) f × (d < 64) ⌝ }
     ensures { λ r. ⌜ r ≡ (eqb d (f % 64) || returned (taskIn (now (task .entry))) (marked i (now (marks .entry))) (f / 64) d) ⌝ }
@@ -178,7 +219,7 @@ fn lacks_between(
     f: usize,
     from: usize,
     to: usize,
-    last: &mut [u16; 4096],
+    last: &mut [u16; LAST],
 ) -> bool
     requires { ⌜ OnChain (now task) f × (from ≤ to) × (to ≤ 64) ⌝ }
     ensures { λ r. ⌜ r ≡ unreturnedFrom (taskIn (now (task .entry))) (marked i (now (marks .entry))) (f / 64) (f % 64) from (to - from) ⌝ }
@@ -199,7 +240,7 @@ fn lacks_marked(
     marks: &[u16; 4096],
     i: usize,
     f: usize,
-    last: &mut [u16; 4096],
+    last: &mut [u16; LAST],
 ) -> bool
     requires { ⌜ OnChain (now task) f × (i < actions (taskIn (now task))) ⌝ }
     ensures { λ r. ⌜ r ≡ lacksBy (taskIn (now (task .entry))) (marked i (now (marks .entry))) i (f / 64) (f % 64) ⌝ }
@@ -223,7 +264,7 @@ fn is_lacking(
     paint: u64,
     i: usize,
     marks: &mut [u16; 4096],
-    last: &mut [u16; 4096],
+    last: &mut [u16; LAST],
 ) -> bool
     requires { ⌜ Acyclic (now task) paint × Chained (taskIn (now task)) (now task) × (i < actions (taskIn (now task))) × Unmarked i (now marks) ⌝ }
     ensures { λ r. ⌜ Lacking (taskIn (now (task .entry))) i (now (marks .exit)) r ⌝ }
@@ -243,7 +284,7 @@ fn lowest_lacking(task: &[u16], paint: u64) -> Found
 {
     let n = task::actions(task);
     let mut marks = [65535u16; 4096];
-    let mut last = [65535u16; 4096];
+    let mut last = [65535u16; LAST];
     let mut i: usize = 0;
     while i < n {
         if is_lacking(task, paint, i, &mut marks, &mut last) {

@@ -51,7 +51,8 @@ three-passed false o d n z k e = let u : _≡_ {A = ℕ} 0 1 = cc in absurd (ome
 pub fitting : (x : Sheet) (n k : ℕ) → writeCall x n ≡ done k → Fitting x n k
 unfolding writeCall lengthCheck inOrder roomCheck
 fitting x n k e =
-    let g : (leb (length (x .steps)) 32768 ≡ true) × (notBelow 1024 0 (x .steps) ≡ none) × (leb (sheetSize (length (x .steps))) n ≡ true) × (k ≡ sheetSize (length (x .steps))) = three-passed (leb (length (x .steps)) 32768) (notBelow 1024 0 (x .steps)) (leb (sheetSize (length (x .steps))) n) n (sheetSize (length (x .steps))) k e in
+    let g : (leb (length (x .steps)) 32768 ≡ true) × (notBelow 1024 0 (x .steps) ≡ none) × (leb (sheetSize (length (x .steps))) n ≡ true) ×
+    (k ≡ sheetSize (length (x .steps))) = three-passed (leb (length (x .steps)) 32768) (notBelow 1024 0 (x .steps)) (leb (sheetSize (length (x .steps))) n) n (sheetSize (length (x .steps))) k e in
     record { short = leb-true _ _ (g .0); below = g .1; room = leb-true _ _ (g .2); size = g .3 }
 
 -- Reading: "12 in bit order, then 11". The fields before the steps:
@@ -80,12 +81,28 @@ module _ (s : List ℕ) where
         pub cut-before-cost : stepsIn s ≤ 32768 → length s < 7 → sheetCheck s ≡ refuse 12 21
         unfolding sheetCheck sheetChecks inOrder andThen sheetField holdsField check
         cut-before-cost h l =
-            rw (le-leb 4 (8 * length s) (omega arith), eq-eqb (bitsAt s 0 4) 1 edition, le-leb 5 (8 * length s) (omega arith), le-leb 21 (8 * length s) (omega arith), le-leb (stepsIn s) 32768 h, lt-leb 53 (8 * length s) (omega arith)) refl
+            rw (
+              le-leb 4 (8 * length s) (omega arith),
+              eq-eqb (bitsAt s 0 4) 1 edition,
+              le-leb 5 (8 * length s) (omega arith),
+              le-leb 21 (8 * length s)
+                  (omega arith),
+              le-leb (stepsIn s) 32768 h,
+              lt-leb 53 (8 * length s) (omega arith),
+            ) refl
 
         pub front-passed : stepsIn s ≤ 32768 → 7 ≤ length s → sheetCheck s ≡ endCheck s
         unfolding sheetCheck sheetChecks inOrder andThen sheetField holdsField check endCheck
         front-passed h l =
-            rw (le-leb 4 (8 * length s) (omega arith), eq-eqb (bitsAt s 0 4) 1 edition, le-leb 5 (8 * length s) (omega arith), le-leb 21 (8 * length s) (omega arith), le-leb (stepsIn s) 32768 h, le-leb 53 (8 * length s) (omega arith)) refl
+            rw (
+              le-leb 4 (8 * length s) (omega arith),
+              eq-eqb (bitsAt s 0 4) 1 edition,
+              le-leb 5 (8 * length s) (omega arith),
+              le-leb 21 (8 * length s)
+                  (omega arith),
+              le-leb (stepsIn s) 32768 h,
+              le-leb 53 (8 * length s) (omega arith),
+            ) refl
 
 -- The fields of the steps: all are there, or the first that is cut short refuses.
 pub steps-held : (s : List ℕ) (p n : ℕ) (cs : List Check) → p + 10 * n ≤ 8 * length s → inOrder (stepsChecks s p n ++ cs) ≡ inOrder cs
@@ -174,7 +191,8 @@ accepted s e =
     let c4 = tail-none _ _ (tail-none _ _ c2) in
     let c6 = tail-none _ _ (tail-none _ _ c4) in
     let c7 = rest-none (stepsChecks s 53 (stepsIn s)) _ c6 in
-    let g : (eqb (length s) ((53 + 10 * stepsIn s + 7) / 8) ≡ true) × (eqb (bitsAt s (53 + 10 * stepsIn s) (8 * length s - (53 + 10 * stepsIn s))) 0 ≡ true) = both _ _ (check-true _ _ _ (head-none _ [] c7)) in
+    let g : (eqb (length s) ((53 + 10 * stepsIn s + 7) / 8) ≡ true) × (eqb (bitsAt s (53 + 10 * stepsIn s) (8 * length s - (53 + 10 * stepsIn s))) 0 ≡ true) =
+    both _ _ (check-true _ _ _ (head-none _ [] c7)) in
     record {
       edition = eqb-true _ _ (check-true _ _ _ (head-none _ _ c1));
       few = leb-true _ _ (check-true _ _ _ (head-none _ _ c4));

@@ -72,7 +72,7 @@ module _ (s : List ℕ) (n : ℕ) (whole d₀ d : List ℕ) (i : ℕ) (g : Copyi
       sym (g .so-far ∙ rw (e, k, append-nil) refl)
 
 -- five fields of 50 bits, stored one behind the other
-pub five-stored : (s d : List ℕ) (p i w : ℕ) → w ≡ bitsAt s p 50 → i + 5 ≤ length d
+five-stored : (s d : List ℕ) (p i w : ℕ) → w ≡ bitsAt s p 50 → i + 5 ≤ length d
     → set (set (set (set (set d i (w / 2 ^ 40 % 1024)) (i + 1) (w / 2 ^ 30 % 1024)) (i + 2) (w / 2 ^ 20 % 1024)) (i + 3) (w / 2 ^ 10 % 1024)) (i + 4) (w % 1024)
     ≡ take i d ++ stepsAt s p 5 ++ drop (i + 5) d
 unfolding stepsAt
@@ -89,6 +89,12 @@ five-stored s d p i w e h =
     let i4 : i + 4 ≡ suc (suc (suc (suc i))) = omega arith in
     rw (p2, p3, p4, ← f0, ← bitsAt-cut s p 10 10 30, ← bitsAt-cut s p 20 10 20, ← bitsAt-cut s p 30 10 10, ← f4, ← e, i1, i2, i3, i4)
     (sets-eq (w / 2 ^ 40 % 1024 ∷ w / 2 ^ 30 % 1024 ∷ w / 2 ^ 20 % 1024 ∷ w / 2 ^ 10 % 1024 ∷ w % 1024 ∷ []) d i h)
+
+-- the same, the first four by other names
+pub four-and-one : (s d : List ℕ) (p i w x y z u : ℕ) → w ≡ bitsAt s p 50 → i + 5 ≤ length d
+    → x ≡ w / 1099511627776 % 1024 → y ≡ w / 1073741824 % 1024 → z ≡ w / 1048576 % 1024 → u ≡ w / 1024 % 1024
+    → set (set (set (set (set d i x) (i + 1) y) (i + 2) z) (i + 3) u) (i + 4) (w % 1024) ≡ take i d ++ stepsAt s p 5 ++ drop (i + 5) d
+four-and-one s d p i w x y z u e h ex ey ez eu = rw (ex, ey, ez, eu) (five-stored s d p i w e h)
 
 -- bits behind the first j bytes
 bitAt-drop : (s : List ℕ) (j p : ℕ) → bitAt (drop j s) p ≡ bitAt s (j * 8 + p)

@@ -126,7 +126,12 @@ steps-back : (n p : ℕ) (bs l : List ℕ) → Bits bs → drop p bs ≡ stepBit
 unfolding stepsAt stepBits
 steps-back n p bs [] h e f small = refl
 steps-back n p bs (i ∷ l) h e f small =
-    rw (bitsAt-packed n p 10 bs h (omega arith), field-number bs p 10 i (stepBits l) e (small 0), steps-back n (p + 10) bs l h (field-behind bs p 10 i (stepBits l) e) (omega arith) (λ k. small (suc k))) refl
+    rw (
+      bitsAt-packed n p 10 bs h (omega arith),
+      field-number bs p 10 i (stepBits l) e (small 0),
+      steps-back n (p + 10) bs l h
+          (field-behind bs p 10 i (stepBits l) e) (omega arith) (λ k. small (suc k)),
+    ) refl
 
 -- what can be written
 pub record Writable (x : Sheet) : Type 0 where
@@ -203,13 +208,19 @@ module _ (x : Sheet) (g : Writable x) where
   padding-back : (w : ℕ) → 53 + 10 * length (x .steps) + w ≤ 8 * length (sheetBytes x) → bitsAt (sheetBytes x) (53 + 10 * length (x .steps)) w ≡ 0
   unfolding sheetBytes sheetSize sheetEnd
   padding-back w h =
-      let e : drop (53 + 10 * length (x .steps)) (sheetBits x) ≡ [] = sym (drop-drop (10 * length (x .steps)) 53 (sheetBits x)) ∙ rw behind-53 (drop-of-length-le (stepBits (x .steps)) {i = 10 * length (x .steps)} (rw length-stepBits (omega arith))) in
+      let e : drop (53 + 10 * length (x .steps)) (sheetBits x) ≡ [] = sym (drop-drop (10 * length (x .steps)) 53 (sheetBits x)) ∙ rw behind-53
+      (drop-of-length-le (stepBits (x .steps)) {i = 10 * length (x .steps)} (rw length-stepBits (omega arith))) in
       bitsAt-packed (sheetSize (length (x .steps))) (53 + 10 * length (x .steps)) w (sheetBits x) bits (omega (arith, bytes-count)) ∙ rw (e, numberIn-nil) refl
 
   ends-back : endsAt (sheetBytes x) (53 + 10 * stepsIn (sheetBytes x)) ≡ true
   unfolding endsAt
   ends-back =
-      rw (count-back, eq-eqb (length (sheetBytes x)) ((53 + 10 * length (x .steps) + 7) / 8) bytes-count, padding-back (8 * length (sheetBytes x) - (53 + 10 * length (x .steps))) (omega (arith, bytes-count))) refl
+      rw (
+        count-back,
+        eq-eqb (length (sheetBytes x)) ((53 + 10 * length (x .steps) + 7) / 8) bytes-count,
+        padding-back
+            (8 * length (sheetBytes x) - (53 + 10 * length (x .steps))) (omega (arith, bytes-count)),
+      ) refl
 
   pub check-back : sheetCheck (sheetBytes x) ≡ none
   check-back =
@@ -223,7 +234,8 @@ module _ (x : Sheet) (g : Writable x) where
   pub reads-back : ReadsAs (sheetBytes x) x
   unfolding readList lent
   reads-back =
-      let a : (n : ℕ) → length (x .steps) ≤ n → readCall (sheetBytes x) n ≡ done (heading (length (x .steps)) (x .cost) (x .real)) = λ n h. reads (sheetBytes x) n check-back (omega (arith, count-back, g .short)) (omega (arith, count-back)) ∙ ap done heading-back in
+      let a : (n : ℕ) → length (x .steps) ≤ n → readCall (sheetBytes x) n ≡ done (heading (length (x .steps)) (x .cost) (x .real)) = λ n h. reads (sheetBytes x)
+      n check-back (omega (arith, count-back, g .short)) (omega (arith, count-back)) ∙ ap done heading-back in
       record { answer = a; list = λ n h. rw (a n h, sheet-back) refl }
 
 -- The w bits of a byte list from position p on.

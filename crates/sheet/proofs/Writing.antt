@@ -1,13 +1,14 @@
--- Writing the steps: four behind five bits fill five bytes and leave five bits; the last three at most are padded.
+-- Writing the steps: a word of five bits and four steps fills five bytes and leaves five bits; the last three steps at most are padded.
 use mathlib.Core.List.{List, [], _∷_, _++_, append-assoc, append-nil}
 use mathlib.Core.Path.{_≡_, refl, sym, ap, _∙_}
 use Prim.Native.Nat.{ℕ, suc, _+_, _-_, _*_, _/_, _%_, _^_, _<_, _≤_}
+use native.Mathlib.Nat.{div-add-mod'}
 use native.Mathlib.Omega.{arith}
 use lib.ListN.{length, getD, take, drop, length-append, length-drop}
 use lib.Seq.{drop-cons, length-take-le, take-at, getD-drop}
 use Rattle.planning.specs.Basics.{oneIf}
 use Rattle.planning.specs.Sheet.{Sheet, bitsOf, stepBits, sheetBits, packed, sheetSize, sheetEnd, sheetBytes}
-use Rattle.bits.proofs.Pack.{bitsOf-add, bitsOf-low, packed-front, length-packed, packed-same, Same, same-prefix, same-zeros}
+use Rattle.bits.proofs.Pack.{bitsOf-add, bitsOf-low, bitsOf-split, packed-front, length-packed, packed-same, Same, same-prefix, same-zeros}
 
 -- a step behind the bits of a number
 put : (w v i : ℕ) (r : List ℕ) → i < 1024 → bitsOf (w + 10) (v * 1024 + i) ++ r ≡ bitsOf w v ++ (bitsOf 10 i ++ r)
@@ -62,52 +63,99 @@ module _ (l : List ℕ) (small : (k : ℕ) → getD l k 0 < 1024) (v i a b c : �
       rw (forty (((v * 1024 + a) * 1024 + b) * 1024 + c), put-three v a b c (bitsOf 5 0 ++ []) (rw ea (small i)) (rw eb (small (i + 1))) (rw ec (small (i + 2))))
       (packed-same n _ _ (same-prefix (bitsOf 5 v) _ (stepBits (drop i l)) p))
 
--- The area while the steps are written: what is packed of the whole is what stands in front and what is packed of the rest.
-pub record Writing (l : List ℕ) (five size : ℕ) (d₀ d : List ℕ) (rest at i : ℕ) : Type 0 where
-  pub low : rest < 32
-  pub passed : i ≤ length l
-  pub place : 4 * at ≡ 24 + 5 * i
-  pub long : length d ≡ length d₀
-  pub so-far : take 6 d₀ ++ packed (size - 6) (bitsOf 5 five ++ stepBits l) ≡ take at d ++ packed (size - at) (bitsOf 5 rest ++ stepBits (drop i l))
+-- the next word, out of the five bits left of the one before and four steps, left aligned
+next-word : (word a b c d r : ℕ) → word % 524288 ≡ 0 → a < 1024 → b < 1024 → c < 1024 → d < 1024
+    → r ≡ word % 16777216 * 1099511627776 + a * 562949953421312 + b * 549755813888 + c * 536870912 + d * 524288
+    → (r % 524288 ≡ 0) × (r / 524288 ≡ (((word / 524288 % 32 * 1024 + a) * 1024 + b) * 1024 + c) * 1024 + d)
+next-word word a b c d r z ha hb hc hd e = (omega arith, omega arith)
 
-pub writing-start : (l : List ℕ) (five size : ℕ) (d : List ℕ) → five < 32 → Writing l five size d d five 6 0
-writing-start l five size d h = record { low = h; passed = omega arith; place = omega arith; long = refl; so-far = refl }
+-- the low bits of a number are those of its remainder
+low-bits : (m v : ℕ) → bitsOf m (v % 2 ^ m) ≡ bitsOf m v
+low-bits m v = sym (ap (bitsOf m) (sym (div-add-mod' v (2 ^ m))) ∙ bitsOf-low m (v / 2 ^ m) (v % 2 ^ m))
+
+pub word-behind : (l : List ℕ) (small : (k : ℕ) → getD l k 0 < 1024) (word i a b c d : ℕ) → word % 524288 ≡ 0 → i + 4 ≤ length l
+    → a ≡ getD l i 0 → b ≡ getD l (i + 1) 0 → c ≡ getD l (i + 2) 0 → d ≡ getD l (i + 3) 0
+    → (r : ℕ) → r ≡ word % 16777216 * 1099511627776 + a * 562949953421312 + b * 549755813888 + c * 536870912 + d * 524288
+    → (r % 524288 ≡ 0) × (bitsOf 45 (r / 524288) ++ stepBits (drop (i + 4) l) ≡ bitsOf 5 (word / 524288) ++ stepBits (drop i l))
+word-behind l small word i a b c d z h ea eb ec ed r e =
+    let n = next-word word a b c d r z (rw ea (small i)) (rw eb (small (i + 1))) (rw ec (small (i + 2))) (rw ed (small (i + 3))) e in
+    (n .0, rw (n .1) (four-behind l small (word / 524288 % 32) i a b c ea eb ec d ed h ∙ rw (low-bits 5 (word / 524288)) refl))
+
+-- the first five bytes of a word
+word-bytes : (m w : ℕ) → packed (5 + m) (bitsOf 64 w) ≡ packed 5 (bitsOf 45 (w / 524288)) ++ packed m (bitsOf 5 (w / 524288) ++ bitsOf 19 w)
+word-bytes m w = rw (bitsOf-split 45 19 w) (packed-front 5 m 45 5 (w / 524288) (bitsOf 19 w) refl)
+
+-- The area while the steps are written: what is packed of the whole is what stands in front and what is packed of the word and the rest.
+pub record Writing (l : List ℕ) (head size : ℕ) (d₀ d : List ℕ) (word at i : ℕ) : Type 0 where
+  pub low : word % 524288 ≡ 0
+  pub passed : i ≤ length l
+  pub place : 4 * at ≡ 4 + 5 * i
+  pub long : length d ≡ length d₀
+  pub so-far : take 1 d₀ ++ packed (size - 1) (bitsOf 45 head ++ stepBits l) ≡ take at d ++ packed (size - at) (bitsOf 45 (word / 524288) ++ stepBits (drop i l))
+
+pub writing-start : (l : List ℕ) (head size : ℕ) (d : List ℕ) → Writing l head size d d (head % 35184372088832 * 524288) 1 0
+writing-start l head size d =
+    let e : head % 35184372088832 * 524288 / 524288 ≡ head % 2 ^ 45 = omega arith in
+    record { low = omega arith; passed = omega arith; place = omega arith; long = refl; so-far = rw (e, low-bits 45 head) refl }
 
 -- the bytes in front after a write from a place on
 front-after : (d p e : List ℕ) (at n k : ℕ) → length p ≡ n → at ≤ length d → k ≡ at + n → take k (take at d ++ p ++ e) ≡ take at d ++ p
 front-after d p e at n k q h z = take-at (take at d ++ p) e k (rw (length-append, length-take-le at d h, q) (sym z))
 
-low-five : (v : ℕ) → bitsOf 5 (v % 32) ≡ bitsOf 5 v
-low-five v = let e : v ≡ v / 32 * 2 ^ 5 + v % 32 = omega arith in sym (ap (bitsOf 5) e ∙ bitsOf-low 5 (v / 32) (v % 32))
+-- a word written by five bytes or more
+word-after : (d e r : List ℕ) (at m w : ℕ) → at ≤ length d → e ≡ take at d ++ packed (5 + m) (bitsOf 64 w) ++ r → take (at + 5) e ≡ take at d ++ packed 5 (bitsOf 45 (w / 524288))
+word-after d e r at m w h q =
+    let p = packed 5 (bitsOf 45 (w / 524288)) in
+    let t = packed m (bitsOf 5 (w / 524288) ++ bitsOf 19 w) in
+    let g : e ≡ take at d ++ p ++ (t ++ r) = q ∙ rw (word-bytes m w) (simp append-assoc) in
+    rw g (front-after d p (t ++ r) at 5 (at + 5) (length-packed 5 (bitsOf 45 (w / 524288))) h refl)
 
-module _ (l : List ℕ) (five size : ℕ) (d₀ d : List ℕ) (rest at i : ℕ) (g : Writing l five size d₀ d rest at i) (room : size ≤ length d₀) (es : size ≡ sheetSize (length l)) where
-  pub writing-turn : (e : List ℕ) (v : ℕ) → i + 4 ≤ length l → bitsOf 45 v ++ stepBits (drop (i + 4) l) ≡ bitsOf 5 rest ++ stepBits (drop i l)
-      → length e ≡ length d → e ≡ take at d ++ packed 5 (bitsOf 45 v) ++ drop (at + 5) d → Writing l five size d₀ e (v % 32) (at + 5) (i + 4)
+module _ (l : List ℕ) (head size : ℕ) (d₀ d : List ℕ) (word at i : ℕ) (g : Writing l head size d₀ d word at i) (room : size ≤ length d₀) (es : size ≡ sheetSize (length l)) where
+  -- a word written: its five bits and the steps from i on are left
+  word-written : (e r : List ℕ) (m : ℕ) → e ≡ take at d ++ packed (5 + m) (bitsOf 64 word) ++ r
+      → take 1 d₀ ++ packed (size - 1) (bitsOf 45 head ++ stepBits l) ≡ take (at + 5) e ++ packed (size - (at + 5)) (bitsOf 5 (word / 524288) ++ stepBits (drop i l))
   unfolding sheetSize sheetEnd
-  writing-turn e v h w n q =
-      let k : size - at ≡ 5 + (size - (at + 5)) = omega (arith, g .place) in
+  word-written e r m q =
+      let k : size - at ≡ 5 + (size - (at + 5)) = omega (arith, g .place, g .passed) in
+      g .so-far
+      ∙ rw (k, packed-front 5 (size - (at + 5)) 45 5 (word / 524288) (stepBits (drop i l)) refl, ← append-assoc, word-after d e r at m word (omega (arith, g .place, g .passed)) q) refl
+
+  pub writing-turn : (e : List ℕ) (v : ℕ) → i + 4 ≤ length l → v % 524288 ≡ 0
+      → bitsOf 45 (v / 524288) ++ stepBits (drop (i + 4) l) ≡ bitsOf 5 (word / 524288) ++ stepBits (drop i l)
+      → length e ≡ length d → e ≡ take at d ++ packed 8 (bitsOf 64 word) ++ drop (at + 8) d → Writing l head size d₀ e v (at + 5) (i + 4)
+  writing-turn e v h z w n q =
       record {
-        low = omega arith;
+        low = z;
         passed = h;
         place = omega (arith, g .place);
         long = n ∙ g .long;
-        so-far = g .so-far ∙ rw (k, ← w, packed-front 5 (size - (at + 5)) 45 5 v (stepBits (drop (i + 4) l)) refl, ← append-assoc, q, front-after d (packed 5 (bitsOf 45 v)) (drop (at + 5) d) at 5 (at + 5) (length-packed 5 (bitsOf 45 v)) (omega arith) refl, low-five v) refl;
+        so-far = word-written e (drop (at + 8) d) 3 q ∙ rw w refl;
       }
 
-  pub writing-end : (e : List ℕ) (v : ℕ) → length l < i + 4 → ((n : ℕ) → packed n (bitsOf 40 v) ≡ packed n (bitsOf 5 rest ++ stepBits (drop i l)))
-      → e ≡ take at d ++ packed (size - at) (bitsOf 40 v) ++ drop (at + (size - at)) d → take size e ≡ take 6 d₀ ++ packed (size - 6) (bitsOf 5 five ++ stepBits l)
+  pub writing-end : (e f : List ℕ) (v : ℕ) → length l < i + 4 → ((n : ℕ) → packed n (bitsOf 40 v) ≡ packed n (bitsOf 5 (word / 524288 % 32) ++ stepBits (drop i l)))
+      → length e ≡ length d → e ≡ take at d ++ packed 5 (bitsOf 64 word) ++ drop (at + 5) d
+      → f ≡ take (at + 5) e ++ packed (size - at - 5) (bitsOf 40 v) ++ drop (at + 5 + (size - at - 5)) e → take size f ≡ take 1 d₀ ++ packed (size - 1) (bitsOf 45 head ++ stepBits l)
   unfolding sheetSize sheetEnd
-  writing-end e v h w q =
+  writing-end e f v h w n q p =
+      let k : size - (at + 5) ≡ size - at - 5 = omega arith in
+      let b : bitsOf 5 (word / 524288 % 32) ≡ bitsOf 5 (word / 524288) = low-bits 5 (word / 524288) in
       sym
-      (g .so-far
-      ∙ rw (← w (size - at), q, front-after d (packed (size - at) (bitsOf 40 v)) (drop (at + (size - at)) d) at (size - at) size (length-packed (size - at) (bitsOf 40 v)) (omega (arith, g .place)) (omega (arith, g .place))) refl)
+      (word-written e (drop (at + 5) d) 0 q
+      ∙ rw (
+        k,
+        ← b,
+        ← w (size - at - 5),
+        p,
+        front-after e (packed (size - at - 5) (bitsOf 40 v)) (drop (at + 5 + (size - at - 5)) e) (at + 5) (size - at - 5) size
+            (length-packed (size - at - 5) (bitsOf 40 v)) (omega (arith, g .place, g .long, g .passed)) (omega (arith, g .place, g .passed)),
+      ) refl)
 
   -- what the calls ask
-  pub writing-room : i + 4 ≤ length l → at + 5 ≤ length d
+  pub writing-room : i + 4 ≤ length l → at + 8 ≤ length d
   unfolding sheetSize sheetEnd
   writing-room h = omega (arith, g .place)
 
-  pub writing-last : length l < i + 4 → (at ≤ size) × (size ≤ length d) × (8 * (size - at) ≤ 40)
+  pub writing-last : length l < i + 4 → (at + 5 ≤ size) × (size ≤ length d) × (8 * (size - at - 5) ≤ 40)
   unfolding sheetSize sheetEnd
   writing-last h = (omega (arith, g .place), omega arith, omega (arith, g .place))
 
@@ -120,11 +168,12 @@ front-bits r n c hr hn hc =
 -- the bytes in front, once the front and the steps are written
 pub sheet-written : (x : Sheet) (v size : ℕ) (d d₁ d₂ : List ℕ)
     → bitsOf 53 v ≡ bitsOf 4 1 ++ (bitsOf 1 (oneIf (x .real)) ++ (bitsOf 16 (length (x .steps)) ++ bitsOf 32 (x .cost)))
-    → size ≡ sheetSize (length (x .steps)) → d₁ ≡ take 0 d ++ packed 6 (bitsOf 53 v) ++ drop 6 d
-    → take size d₂ ≡ take 6 d₁ ++ packed (size - 6) (bitsOf 5 (v % 32) ++ stepBits (x .steps)) → take size d₂ ≡ sheetBytes x
+    → size ≡ sheetSize (length (x .steps)) → d₁ ≡ take 0 d ++ packed 1 (bitsOf 53 v) ++ drop 1 d
+    → take size d₂ ≡ take 1 d₁ ++ packed (size - 1) (bitsOf 45 v ++ stepBits (x .steps)) → take size d₂ ≡ sheetBytes x
 unfolding sheetBytes sheetBits sheetSize sheetEnd
 sheet-written x v size d d₁ d₂ e z q w =
-    let k : size ≡ 6 + (size - 6) = omega arith in
+    let k : size ≡ 1 + (size - 1) = omega arith in
     let b : sheetBits x ≡ bitsOf 53 v ++ stepBits (x .steps) = rw e (simp append-assoc) in
-    let p : packed 6 (bitsOf 53 v) ++ packed (size - 6) (bitsOf 5 v ++ stepBits (x .steps)) ≡ packed size (sheetBits x) = sym (ap (λ (n : ℕ). packed n (sheetBits x)) k ∙ rw b (packed-front 6 (size - 6) 53 5 v (stepBits (x .steps)) refl)) in
-    w ∙ rw (q, take-at (packed 6 (bitsOf 53 v)) (drop 6 d) 6 (length-packed 6 (bitsOf 53 v)), low-five v) (p ∙ ap (λ (n : ℕ). packed n (sheetBits x)) z)
+    let p : packed 1 (bitsOf 53 v) ++ packed (size - 1) (bitsOf 45 v ++ stepBits (x .steps)) ≡ packed size (sheetBits x) =
+    sym (ap (λ (n : ℕ). packed n (sheetBits x)) k ∙ rw b (packed-front 1 (size - 1) 53 45 v (stepBits (x .steps)) refl)) in
+    w ∙ rw (q, take-at (packed 1 (bitsOf 53 v)) (drop 1 d) 1 (length-packed 1 (bitsOf 53 v))) (p ∙ ap (λ (n : ℕ). packed n (sheetBits x)) z)

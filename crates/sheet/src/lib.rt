@@ -6,13 +6,14 @@ ghost use mathlib.Core.Path.{_≡_};
 ghost use mathlib.Core.Bool.{Bool};
 ghost use mathlib.Core.List.{_++_};
 ghost use mathlib.Core.Option.{none};
-ghost use Prim.Native.Nat.{ℕ, _+_, _-_, _*_, _<_, _≤_};
+ghost use Prim.Native.Nat.{ℕ, _+_, _-_, _*_, _/_, _%_, _<_, _≤_};
 ghost use lib.ListN.{length, take, drop, getD};
 ghost use Rattle.planning.specs.Basics.{bitsAt, oneIf, done, answer, refuseAt};
 ghost use Rattle.planning.specs.Record.{endsAt};
 ghost use Rattle.planning.specs.Sheet.{bitsOf, packed, stepBits, sheetSize, sheetCheck, stepsAt, stepsIn};
 ghost use Rattle.planning.specs.Calls.{Read, notBelow, writeCall, writeBytes, readCall, readList};
 ghost use Rattle.answers.specs.Answers.{checkOf, valueOf};
+ghost use Rattle.lists.specs.Four.{Spread};
 ghost use Rattle.sheet.specs.Answers.{sheet, readingAs, declined, headingOf, endCheck};
 ghost use Rattle.sheet.specs.Again.{ReadsAs, WritesAs};
 
@@ -47,17 +48,16 @@ fn check_each(list: &[u16]) -> Checked
 }
 
 // 0 only if no entry is over 1,023: a pass without a branch, which most lists need alone.
-fn excess(list: &[u16]) -> u32
-    requires { ⌜ length (now list) ≤ 32768 ⌝ }
+fn excess(list: &[u16]) -> u16
     ensures { λ r. ⌜ (r ≡ 0 → notBelow 1024 0 (now (list .entry)) ≡ none) ⌝ }
 {
-    let mut sum: u32 = 0;
+    let mut any: u16 = 0;
     let mut i: usize = 0;
     while i < list.len() {
-        sum += (list[i] / 1024) as u32;
+        any = any | list[i];
         i += 1;
     }
-    sum
+    any / 1024
 }
 
 fn check_entries(list: &[u16]) -> Checked
@@ -107,13 +107,16 @@ fn front(count: u16, cost: u32, real: bool) -> u64
     ((2 + one_if(real)) * 65536 + wide(count)) * 4294967296 + (cost as u64)
 }
 
-// The four steps from i on behind five bits: 45 bits.
-fn four_steps(list: &[u16], i: usize, five: u64) -> u64
-    requires { ⌜ (five < 32) × (i + 4 ≤ length (now list)) × ((k : ℕ) → getD (now list) k 0 < 1024) ⌝ }
-    ensures { λ r. ⌜ bitsOf 45 r ++ stepBits (drop (i + 4) (now (list .entry))) ≡ bitsOf 5 five ++ stepBits (drop i (now (list .entry))) ⌝ }
+// The next word: the last five bits of the word before and the four steps from i on, 45 bits, left aligned.
+fn four_steps(list: &[u16], i: usize, word: u64) -> u64
+    requires { ⌜ (word % 524288 ≡ 0) × (i + 4 ≤ length (now list)) × ((k : ℕ) → getD (now list) k 0 < 1024) ⌝ }
+    ensures { λ r. ⌜ (r % 524288 ≡ 0) × (bitsOf 45 (r / 524288) ++ stepBits (drop (i + 4) (now (list .entry))) ≡ bitsOf 5 (word / 524288) ++ stepBits (drop i (now (list .entry)))) ⌝ }
 {
-    (((five * 1024 + wide(list[i])) * 1024 + wide(list[i + 1])) * 1024 + wide(list[i + 2])) * 1024
-        + wide(list[i + 3])
+    (word % 16777216) * 1099511627776
+        + wide(list[i]) * 562949953421312
+        + wide(list[i + 1]) * 549755813888
+        + wide(list[i + 2]) * 536870912
+        + wide(list[i + 3]) * 524288
 }
 
 // The step at i, 0 behind the list.
@@ -132,22 +135,29 @@ fn last_steps(list: &[u16], i: usize, five: u64) -> u64
         * 32
 }
 
-// The steps from bit 53 on, behind the last five bits of the front: four steps fill five bytes.
-fn write_steps(list: &[u16], five: u64, size: usize, bytes: &mut [u8])
-    requires { ⌜ (five < 32) × ((k : ℕ) → getD (now list) k 0 < 1024) × (length (now list) ≤ 32768) × (size ≡ sheetSize (length (now list))) × (size ≤ length (now bytes)) ⌝ }
-    ensures { λ _. ⌜ take size (now (bytes .exit)) ≡ take 6 (now (bytes .entry)) ++ packed (size - 6) (bitsOf 5 five ++ stepBits (now (list .entry))) ⌝ }
+// The steps behind the last 45 bits of the front, which are the first word: five bytes, and five bits for the next word. A word is written
+// by eight bytes in one store, of which the next word has the last three.
+fn write_steps(list: &[u16], head: u64, size: usize, bytes: &mut [u8])
+    requires { ⌜ ((k : ℕ) → getD (now list) k 0 < 1024) × (length (now list) ≤ 32768) × (size ≡ sheetSize (length (now list))) × (size ≤ length (now bytes)) ⌝ }
+    ensures { λ _. ⌜ take size (now (bytes .exit)) ≡ take 1 (now (bytes .entry)) ++ packed (size - 1) (bitsOf 45 head ++ stepBits (now (list .entry))) ⌝ }
 {
-    let mut rest = five;
-    let mut at: usize = 6;
+    let mut word = head % 35184372088832 * 524288;
+    let mut at: usize = 1;
     let mut i: usize = 0;
     while i + 4 <= list.len() {
-        let word = four_steps(list, i, rest);
-        bits::write_bits(bytes, at, word, 45, 5);
-        rest = word % 32;
+        bits::write_bits(bytes, at, word, 64, 8);
+        word = four_steps(list, i, word);
         at += 5;
         i += 4;
     }
-    bits::write_bits(bytes, at, last_steps(list, i, rest), 40, size - at);
+    bits::write_bits(bytes, at, word, 64, 5);
+    bits::write_bits(
+        bytes,
+        at + 5,
+        last_steps(list, i, word / 524288 % 32),
+        40,
+        size - at - 5,
+    );
 }
 
 // Writes the sheet of a list, a cost and a verdict: the count of its bytes, zeros behind it, and zeros throughout after a
@@ -164,8 +174,8 @@ pub fn write(list: &[u16], cost: u32, real: bool, bytes: &mut [u8]) -> Number
     };
     let size = n as usize;
     let head = front(list.len() as u16, cost, real);
-    bits::write_bits(bytes, 0, head, 53, 6);
-    write_steps(list, head % 32, size, bytes);
+    bits::write_bits(bytes, 0, head, 53, 1);
+    write_steps(list, head, size, bytes);
     lists::clear_from(bytes, size);
     a
 }
@@ -279,16 +289,23 @@ fn five_steps(bytes: &[u8], at: usize) -> u64
     bits::window_at(&bytes[at / 8..], at % 8) >> 14
 }
 
+// The first four of five steps, 16 bits each, the first one lowest, as they lie in a list.
+fn spread(word: u64) -> u64
+    ensures { λ r. ⌜ Spread (word / 1099511627776 % 1024) (word / 1073741824 % 1024) (word / 1048576 % 1024) (word / 1024 % 1024) r ⌝ }
+{
+    (word >> 40) % 1024
+        + (word >> 30) % 1024 * 65536
+        + (word >> 20) % 1024 * 4294967296
+        + (word >> 10) % 1024 * 281474976710656
+}
+
 // Five steps out of one window, written from i on.
 fn read_five(bytes: &[u8], list: &mut [u16], i: usize)
     requires { ⌜ (10 * i + 117 ≤ 8 * length (now bytes)) × (i ≤ 32768) × (i + 5 ≤ length (now list)) ⌝ }
     ensures { λ _. ⌜ now (list .exit) ≡ take i (now (list .entry)) ++ stepsAt (now (bytes .entry)) (53 + 10 * i) 5 ++ drop (i + 5) (now (list .entry)) ⌝ }
 {
     let word = five_steps(bytes, 53 + 10 * i);
-    list[i] = ((word >> 40) % 1024) as u16;
-    list[i + 1] = ((word >> 30) % 1024) as u16;
-    list[i + 2] = ((word >> 20) % 1024) as u16;
-    list[i + 3] = ((word >> 10) % 1024) as u16;
+    lists::put_four(list, i, spread(word));
     list[i + 4] = (word % 1024) as u16;
 }
 

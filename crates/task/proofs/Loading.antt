@@ -4,11 +4,11 @@ use mathlib.Core.Path.{_≡_, refl, sym, ap, _∙_, subst}
 use mathlib.Core.Logic.{inl, inr}
 use mathlib.Core.List.{List}
 use mathlib.Core.Option.{none}
-use Prim.Native.Nat.{ℕ, zero, suc, _+_, _*_, _/_, _%_, _<_, _≤_}
+use Prim.Native.Nat.{ℕ, zero, suc, _+_, _-_, _*_, _/_, _%_, _^_, _<_, _≤_}
 use native.Mathlib.Nat.{add-zero}
 use native.Mathlib.Numerals.{add-one}
 use native.Mathlib.Omega.{arith}
-use native.Mathlib.Decide.{ℕ-discrete}
+use native.Mathlib.Decide.{ℕ-discrete, decLt}
 use lib.ListN.{length, getD, set, length-set}
 use lib.Seq.{slice-cons, slice-empty, getD-set-same, getD-set-other, ext-getD}
 use Rattle.planning.specs.Basics.{bitsAt}
@@ -16,7 +16,7 @@ use Rattle.planning.specs.Record.{Task, variablesIn, actionsIn, preconditionsIn
 use Rattle.planning.specs.Runs.{noVariable, noAction, variables, actions, variable, act}
 use Rattle.planning.proofs.Fields.{bitsAt-below, taskOf-variables, taskOf-actions, taskOf-variable, taskOf-act, actionStart}
 use Rattle.planning.proofs.Formed.{formed-of}
-use Rattle.bits.proofs.Window.{bitsAt-add}
+use Rattle.bits.proofs.Window.{bitsAt-add, bitsAt-cut}
 use Rattle.task.specs.Task.{cell, factsIn, variableIn, actionIn, each, taskIn, Row, Loaded}
 use Rattle.task.specs.Size.{factsOf, factsFrom, taskSize}
 use Rattle.task.specs.Loading.{RowWritten, FactsLoaded, Placed, Room, ActionLoaded, VariablePlaced, VariableLoaded, Headed}
@@ -40,6 +40,42 @@ facts-turn s at k to before task w L b e =
     go : (j : ℕ) → j < k + 1 → Dec (j ≡ k) → getD (set task (to + k) w) (to + j) 0 ≡ bitsAt s (at + 12 * j) 12
     go j h (yes q) = rw q (getD-set-same task (to + k) w 0 (omega (arith, L .long)) ∙ e)
     go j h (no n) = getD-set-other task (to + k) (to + j) w 0 (λ q. n (omega arith)) ∙ L .facts j (omega arith)
+
+-- m facts behind k
+pub facts-more : (s : List ℕ) (at k m n to : ℕ) (before task after : List ℕ) → FactsLoaded s at k to before task → FactsLoaded s (at + 12 * k) m (to + k) task after → n ≡ k + m
+    → FactsLoaded s at n to before after
+facts-more s at k m n to before task after L M e =
+    record {
+      long = M .long ∙ L .long;
+      facts = λ j h. go j h (decLt j k);
+      kept = λ j h. M .kept j (omega arith) ∙ L .kept j h;
+    }
+  where
+    go : (j : ℕ) → j < n → Dec (j < k) → getD after (to + j) 0 ≡ bitsAt s (at + 12 * j) 12
+    go j h (yes l) = M .kept (to + j) (omega arith) ∙ L .facts j l
+    go j h (no g) =
+        let p : to + j ≡ to + k + (j - k) = omega arith in
+        let q : at + 12 * k + 12 * (j - k) ≡ at + 12 * j = omega arith in
+        ap (λ (x : ℕ). getD after x 0) p ∙ M .facts (j - k) (omega arith) ∙ ap (λ (x : ℕ). bitsAt s x 12) q
+
+-- four facts out of 48 bits
+pub facts-four : (s : List ℕ) (at to w x y z u : ℕ) (task : List ℕ) → w ≡ bitsAt s at 48 → to + 4 ≤ length task
+    → x ≡ w / 68719476736 % 4096 → y ≡ w / 16777216 % 4096 → z ≡ w / 4096 % 4096 → u ≡ w % 4096
+    → FactsLoaded s at 4 to task (set (set (set (set task to x) (to + 1) y) (to + 2) z) (to + 3) u)
+facts-four s at to w x y z u task e h ex ey ez eu =
+    let p0 : at + 12 * 0 ≡ at = omega arith in
+    let p1 : at + 0 ≡ at = omega arith in
+    let t0 : to + 0 ≡ to = omega arith in
+    let u0 : w / 2 ^ 0 % 4096 ≡ w % 4096 = omega arith in
+    let f0 : x ≡ bitsAt s (at + 12 * 0) 12 = ex ∙ rw (e, p0) (bitsAt-cut s at 0 12 36 ∙ ap (λ (q : ℕ). bitsAt s q 12) p1) in
+    let f1 : y ≡ bitsAt s (at + 12) 12 = ey ∙ rw e (bitsAt-cut s at 12 12 24) in
+    let f2 : z ≡ bitsAt s (at + 24) 12 = ez ∙ rw e (bitsAt-cut s at 24 12 12) in
+    let f3 : u ≡ bitsAt s (at + 36) 12 = eu ∙ sym u0 ∙ rw e (bitsAt-cut s at 36 12 0) in
+    let l0 = facts-turn s at 0 to task task x (facts-start s at to task) (omega arith) f0 in
+    let l1 = facts-turn s at 1 to task (set task (to + 0) x) y l0 (omega arith) f1 in
+    let l2 = facts-turn s at 2 to task (set (set task (to + 0) x) (to + 1) y) z l1 (omega arith) f2 in
+    let l3 = facts-turn s at 3 to task (set (set (set task (to + 0) x) (to + 1) y) (to + 2) z) u l2 (omega arith) f3 in
+    rw t0 at l3
 
 pub facts-done : (s : List ℕ) (at k n to : ℕ) (before task : List ℕ) → FactsLoaded s at k to before task → k ≡ n → FactsLoaded s at n to before task
 facts-done s at k n to before task L e = subst (λ x. FactsLoaded s at x to before task) e L

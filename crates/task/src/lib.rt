@@ -1,10 +1,11 @@
 // The loaded task: one list of numbers that states the task of an accepted record. Nothing above this crate sees the record.
 ghost use mathlib.Core.Path.{_≡_};
 ghost use mathlib.Core.Option.{none};
-ghost use Prim.Native.Nat.{_+_, _*_, _<_, _≤_};
+ghost use Prim.Native.Nat.{_+_, _*_, _/_, _%_, _<_, _≤_};
 ghost use lib.ListN.{length, getD, set};
 ghost use Rattle.planning.specs.Record.{taskOf, recordCheck, variablesIn, actionsIn};
 ghost use Rattle.planning.specs.Runs.{variables, actions, variable, count, black};
+ghost use Rattle.lists.specs.Four.{Spread};
 ghost use Rattle.task.specs.Task.{taskIn, Loaded, costAt, preAt, effAt, endAt};
 ghost use Rattle.task.specs.Links.{headAt, nextAt, orderIn, linked, Unlinked, Prepared};
 ghost use Rattle.task.specs.Size.{taskSize, roomFor};
@@ -180,8 +181,26 @@ fn write_row(task: &mut [u16], r: usize, a: u16, b: u16, c: u16, d: u16)
     task[4 * r + 3] = d;
 }
 
-// The n facts from bit `at` on, as numbers from place `to` on.
-fn load_facts(bytes: &[u8], at: usize, n: usize, task: &mut [u16], to: usize)
+// Four facts of 12 bits, 16 bits each, the first one lowest.
+fn spread(word: u64) -> u64
+    ensures { λ r. ⌜ Spread (word / 68719476736 % 4096) (word / 16777216 % 4096) (word / 4096 % 4096) (word % 4096) r ⌝ }
+{
+    (word >> 36) % 4096
+        + (word >> 24) % 4096 * 65536
+        + (word >> 12) % 4096 * 4294967296
+        + word % 4096 * 281474976710656
+}
+
+// The four facts from bit `at` on, as numbers from place `to` on.
+fn load_four(bytes: &[u8], at: usize, task: &mut [u16], to: usize)
+    requires { ⌜ (at + 48 ≤ 8 * length (now bytes)) × (8 ≤ length (now bytes)) × (to + 4 ≤ length (now task)) ⌝ }
+    ensures { λ _. ⌜ FactsLoaded (now (bytes .entry)) at 4 to (now (task .entry)) (now (task .exit)) ⌝ }
+{
+    lists::put_four(task, to, spread(bits::window_at(bytes, at) >> 16));
+}
+
+// The n facts from bit `at` on, as numbers from place `to` on, one by one.
+fn load_each(bytes: &[u8], at: usize, n: usize, task: &mut [u16], to: usize)
     requires { ⌜ (at + 12 * n ≤ 8 * length (now bytes)) × (8 * length (now bytes) ≤ 1000000) × (to + n ≤ length (now task)) ⌝ }
     ensures { λ _. ⌜ FactsLoaded (now (bytes .entry)) at n to (now (task .entry)) (now (task .exit)) ⌝ }
 {
@@ -190,6 +209,19 @@ fn load_facts(bytes: &[u8], at: usize, n: usize, task: &mut [u16], to: usize)
         task[to + k] = bits::read_bits(bytes, at + 12 * k, 12) as u16;
         k += 1;
     }
+}
+
+// The same, four a turn out of one window.
+fn load_facts(bytes: &[u8], at: usize, n: usize, task: &mut [u16], to: usize)
+    requires { ⌜ (24 ≤ at) × (at + 12 * n ≤ 8 * length (now bytes)) × (8 * length (now bytes) ≤ 1000000) × (to + n ≤ length (now task)) ⌝ }
+    ensures { λ _. ⌜ FactsLoaded (now (bytes .entry)) at n to (now (task .entry)) (now (task .exit)) ⌝ }
+{
+    let mut k = 0;
+    while k + 4 <= n {
+        load_four(bytes, at + 12 * k, task, to + k);
+        k += 4;
+    }
+    load_each(bytes, at + 12 * k, n - k, task, to + k);
 }
 
 // The action at bit `at`: row r, and its facts from place `to` on. One read gives its cost and both counts. The answer is its

@@ -1,88 +1,123 @@
-use mathlib.Core.Bool.{Bool}
-use Prim.Native.Nat.{_-_}
+-- One precondition that is not marked is enough; else the walk tells.
+use mathlib.Core.Path.{_≡_, refl, sym, ap, _∙_}
+use Prim.Native.Nat.{_+_, _<_}
 use native.Mathlib.Omega.{arith}
 use Rattle.planning.specs.Runs.{act, holds}
-use Rattle.task.specs.Task.{taskIn}
+use Rattle.task.specs.Task.{taskIn, factsIn}
 use Rattle.state.proofs.Listing.{loaded-listed}
+use Rattle.graph.specs.Graph.{Facts}
 use Rattle.graph.proofs.Rows.{listed-preconditions}
 use Rattle.painting.specs.Returns.{marked}
-use Rattle.painting.proofs.Walks.{Walking, walking-start, walking-turn, walking-hit, walking-end, walking-small, pre-facts, marked-hit, marked-skip, marked-none}
+use Rattle.painting.proofs.Walks.{pre-facts, unmarked-at}
 use borrow.Author.Needs.{needs}
+use borrow.Author.Tests.{eq-eqb, ne-eqb}
 use Rattle.painting.proofs.all_marked.Statement.{statement}
 use Rattle.painting.proofs.all_marked.Tie as tie
 
--- All preconditions are marked where those from place k on are: the ones passed are.
-abbrev Inv-loop : tie.InvT-loop
-Inv-loop task j marks i end k₀ k = Walking Bool (holds (marked i marks)) (act (taskIn task) j .pre) task end k
+front : (e : tie.After-eff-start) → Facts (e .before .before .before .args .task .now) (e .before .pre-start .result) (e .eff-start .result)
+front e =
+    let p = e .before .before .before .pre in
+    listed-preconditions _ _ (loaded-listed _ (p .0) _ (p .1)) _ _ (e .before .pre-start .ensures) (e .eff-start .ensures)
 
-abbrev μ-loop : tie.MeasureT-loop
-μ-loop task j marks i end k₀ k = end - k
+seen-small : (c : tie.After-wide2) → c .wide2 .result < 4096
+seen-small c =
+    let e = c .before .before .before .before .before in
+    omega (arith, c .wide2 .ensures, front e .small (e .before .pre-start .result + c .before .before .before .wide .result) (omega arith) (omega arith))
 
-eff-start-requires : tie.Need-eff-start-requires Inv-loop μ-loop
-eff-start-requires c κs = search needs
-
-pre-start-requires : tie.Need-pre-start-requires Inv-loop μ-loop
+pre-start-requires : tie.Need-pre-start-requires
 pre-start-requires c κs = search needs
 
-loop-holds : tie.Need-loop-holds Inv-loop μ-loop
-loop-holds c =
-    let e = c .before in
-    let p = e .before .before .pre in
-    let L = loaded-listed _ (p .0) _ (p .1) in
-    walking-start _ _ _ _ _ _ (listed-preconditions _ _ L _ _ (c .pre-start .ensures) (e .eff-start .ensures)) (pre-facts _ _ L _ _ (c .pre-start .ensures) (e .eff-start .ensures))
+eff-start-requires : tie.Need-eff-start-requires
+eff-start-requires c κs = search needs
 
-mul-wide : tie.Need-mul-wide Inv-loop μ-loop
+sub-wide : tie.Need-sub-wide
+sub-wide c = search needs
+
+mul-wide : tie.Need-mul-wide
 mul-wide c = search needs
 
-shared-slice-read-wide : tie.Need-shared-slice-read-wide Inv-loop μ-loop
-shared-slice-read-wide c = let l = c .before .before in omega (arith, l .loop .inv .facts .within)
+element-copy-out-wide : tie.Need-element-copy-out-wide
+element-copy-out-wide c = search needs
 
-wide-requires : tie.Need-wide-requires Inv-loop μ-loop
+wide-requires : tie.Need-wide-requires
 wide-requires c κs = search needs
 
-mul-if1 : tie.Need-mul-if1 Inv-loop μ-loop
-mul-if1 c = let l = c .before .before .before in let q = walking-small _ _ _ _ _ _ (l .loop .inv) (omega arith) _ (c .wide .ensures) in omega (arith, q)
+add-seen : tie.Need-add-seen
+add-seen c = let F = front (c .before .before) in omega (arith, F .within, F .rises)
 
-element-copy-out-if1 : tie.Need-element-copy-out-if1 Inv-loop μ-loop
-element-copy-out-if1 c = let l = c .before .before .before in walking-small _ _ _ _ _ _ (l .loop .inv) (omega arith) _ (c .wide .ensures)
+mul-wide-2 : tie.Need-mul-wide-2
+mul-wide-2 c = let F = front (c .before .before .before) in omega (arith, F .within, F .rises)
 
-returns : tie.Need-returns Inv-loop μ-loop
+shared-slice-read-wide : tie.Need-shared-slice-read-wide
+shared-slice-read-wide c = let F = front (c .before .before .before .before) in omega (arith, F .within, F .rises)
+
+wide-requires-2 : tie.Need-wide-requires-2
+wide-requires-2 c κs = search needs
+
+mul-if2 : tie.Need-mul-if2
+mul-if2 c = omega (arith, seen-small c)
+
+element-copy-out-if2 : tie.Need-element-copy-out-if2
+element-copy-out-if2 c = omega (arith, seen-small c)
+
+returns : tie.Need-returns
 returns c =
     let w = c .before .before in
-    let l = w .before .before .before in
-    walking-hit _ _ _ _ _ _ (l .loop .inv) (omega arith) _ (w .wide .ensures) _ (marked-hit _ _ _ (c .if1 .taken))
+    let e = w .before .before .before .before .before in
+    let p = e .before .before .before .pre in
+    let a = e .before .before .before .args in
+    let L = loaded-listed _ (p .0) _ (p .1) in
+    let u = unmarked-at (a .task .now) (a .marks .now) (a .i) (w .before .before .before .wide .result)
+    (e .before .pre-start .result) (e .eff-start .result) _
+    (front e) refl (omega arith) (rw (w .wide2 .ensures) at (c .if2 .taken)) in
+    sym (ap (holds (marked (a .i) (a .marks .now))) (sym (pre-facts _ _ L _ _ (e .before .pre-start .ensures) (e .eff-start .ensures))) ∙ u)
 
-add-k : tie.Need-add-k Inv-loop μ-loop
-add-k c = search needs
+first-unmarked-requires : tie.Need-first-unmarked-requires
+first-unmarked-requires c κs = search needs
 
-loop-less : tie.Need-loop-less Inv-loop μ-loop
-loop-less c = search needs
+returns-2 : tie.Need-returns-2
+returns-2 c = let m = c .before in sym (m .first-unmarked .ensures .2 ∙ eq-eqb _ _ (c .if3 .taken ∙ m .before .before .before .before .eff-start .ensures))
 
-loop-again : tie.Need-loop-again Inv-loop μ-loop
-loop-again c =
-    let w = c .before .before in
-    let l = w .before .before .before in
-    walking-turn _ _ _ _ _ _ (l .loop .inv) (omega arith) _ (w .wide .ensures) (marked-skip _ _ _ (c .if1 .left))
+sub-last : tie.Need-sub-last
+sub-last c = search needs
 
-returns-2 : tie.Need-returns-2 Inv-loop μ-loop
-returns-2 c = walking-end _ _ _ _ _ _ (c .before .loop .inv) (omega arith) _ (marked-none _ _)
+cast-last : tie.Need-cast-last
+cast-last c = omega arith
+
+sub-last-2 : tie.Need-sub-last-2
+sub-last-2 c = search needs
+
+mul-last : tie.Need-mul-last
+mul-last c = search needs
+
+element-write-last : tie.Need-element-write-last
+element-write-last c = search needs
+
+returns-3 : tie.Need-returns-3
+returns-3 c = let m = c .before in sym (m .first-unmarked .ensures .2 ∙ ne-eqb _ _ (λ q. c .if3 .left (q ∙ sym (m .before .before .before .before .eff-start .ensures))))
 
 pub all-marked-spec : {M : Type 1} → statement M
 all-marked-spec =
     tie.close
     (tie.spec
-    Inv-loop
-    μ-loop
-    eff-start-requires
     pre-start-requires
-    loop-holds
+    eff-start-requires
+    sub-wide
     mul-wide
-    shared-slice-read-wide
+    element-copy-out-wide
     wide-requires
-    mul-if1
-    element-copy-out-if1
+    add-seen
+    mul-wide-2
+    shared-slice-read-wide
+    wide-requires-2
+    mul-if2
+    element-copy-out-if2
     returns
-    add-k
-    loop-less
-    loop-again
-    returns-2)
+    first-unmarked-requires
+    returns-2
+    sub-last
+    cast-last
+    sub-last-2
+    mul-last
+    element-write-last
+    returns-3)

@@ -9,30 +9,30 @@ use Rattle.painting.proofs.first_return.Tie as tie
 
 -- No action from j up to k returns: those that set f stand in the chain, and the chain rises.
 abbrev Inv-loop : tie.InvT-loop
-Inv-loop task marks i f j k₀ k = Chasing (taskIn task) (marked i marks) (f / 64) (f % 64) j k
+Inv-loop task marks i f j last₀ k₀ last k = Chasing (taskIn task) (marked i marks) (f / 64) (f % 64) j k
 
 abbrev μ-loop : tie.MeasureT-loop
-μ-loop task marks i f j k₀ k = 65535 - k
+μ-loop task marks i f j last₀ k₀ last k = 65535 - k
 
 loop-holds : tie.Need-loop-holds Inv-loop μ-loop
 loop-holds c = chasing-start _ _ _ _ _ (c .before .pre .1)
 
 all-marked-requires : tie.Need-all-marked-requires Inv-loop μ-loop
 all-marked-requires c κs =
-    let l = c .before in
+    let l = c .before .before in
     let p = l .before .before .pre in
-    (p .0 .loaded, chasing-at _ _ (p .0) _ _ _ (l .loop .inv) (c .loop-test .taken) .1)
+    (p .0 .loaded, chasing-at _ _ (p .0) _ _ _ (l .loop .inv) (c .before .loop-test .taken) .1)
 
 returns : tie.Need-returns Inv-loop μ-loop
 returns c =
     let m = c .before in
-    let l = m .before .before in
+    let l = m .before .before .before in
     let p = l .before .before .pre in
-    chasing-hit _ _ (p .0) _ _ _ (l .loop .inv) (m .before .loop-test .taken) (sym (m .all-marked .ensures) ∙ c .if1 .taken)
+    chasing-hit _ _ (p .0) _ _ _ (l .loop .inv) (m .before .before .loop-test .taken) (sym (m .all-marked .ensures) ∙ c .if1 .taken)
 
 next-setter-requires : tie.Need-next-setter-requires Inv-loop μ-loop
 next-setter-requires c κs =
-    let n = c .before .before in
+    let n = c .before .before .before in
     let l = n .before in
     let p = l .before .before .pre in
     (p .0 .loaded, chasing-near _ _ (p .0) _ _ _ (l .loop .inv) (n .loop-test .taken))
@@ -40,18 +40,18 @@ next-setter-requires c κs =
 loop-less : tie.Need-loop-less Inv-loop μ-loop
 loop-less c =
     let m = c .before .before in
-    let l = m .before .before in
+    let l = m .before .before .before in
     let p = l .before .before .pre in
-    let b = chasing-near _ _ (p .0) _ _ _ (l .loop .inv) (m .before .loop-test .taken) in
-    let r = chasing-turn _ _ (p .0) _ _ _ (l .loop .inv) (m .before .loop-test .taken) _ (c .next-setter .ensures) (sym (m .all-marked .ensures) ∙ c .before .if1 .left) in
+    let b = chasing-near _ _ (p .0) _ _ _ (l .loop .inv) (m .before .before .loop-test .taken) in
+    let r = chasing-turn _ _ (p .0) _ _ _ (l .loop .inv) (m .before .before .loop-test .taken) _ (c .next-setter .ensures) (sym (m .all-marked .ensures) ∙ c .before .if1 .left) in
     omega (arith, b, r .1)
 
 loop-again : tie.Need-loop-again Inv-loop μ-loop
 loop-again c =
     let m = c .before .before in
-    let l = m .before .before in
+    let l = m .before .before .before in
     let p = l .before .before .pre in
-    chasing-turn _ _ (p .0) _ _ _ (l .loop .inv) (m .before .loop-test .taken) _ (c .next-setter .ensures) (sym (m .all-marked .ensures) ∙ c .before .if1 .left) .0
+    chasing-turn _ _ (p .0) _ _ _ (l .loop .inv) (m .before .before .loop-test .taken) _ (c .next-setter .ensures) (sym (m .all-marked .ensures) ∙ c .before .if1 .left) .0
 
 returns-2 : tie.Need-returns-2 Inv-loop μ-loop
 returns-2 c =

@@ -22,16 +22,16 @@ first-setter-requires c κs = search needs
 
 first-return-requires : tie.Need-first-return-requires
 first-return-requires c κs =
-    let p = c .before .before .before .before .before .before .pre in
-    (p, head-chain _ _ p _ (c .first-setter .ensures))
+    let p = c .before .before .before .before .before .before .before .before .pre in
+    (p, head-chain _ _ p _ (c .before .first-setter .ensures))
 
 cast-last : tie.Need-cast-last
 cast-last c =
     let l = c .before .before in
-    let p = l .before .before .before .before .pre in
+    let p = l .before .before .before .before .before .pre in
     ⊎-elim
-    (λ w. omega (arith, w .3, serves-near _ _ p _ _ (next-serves _ _ _ _ _ _ (w .2 .ensures))))
-    (λ w. omega (arith, w .1, serves-near _ _ p _ _ (l .later-return .ensures)))
+    (λ w. omega (arith, w .5, serves-near _ _ p _ _ (next-serves _ _ _ _ _ _ (w .3 .ensures))))
+    (λ w. omega (arith, w .2, serves-near _ _ p _ _ (l .later-return .ensures)))
     (c .before .if1 .came)
 
 mul-last : tie.Need-mul-last
@@ -43,10 +43,10 @@ element-write-last c = search needs
 returns : tie.Need-returns
 returns c =
     let l = c .before .before in
-    let p = l .before .before .before .before .pre in
+    let p = l .before .before .before .before .before .pre in
     ⊎-elim
-    (λ w. rw (w .3) (served-first _ _ p _ _ _ (w .1 .ensures) (w .2 .ensures)))
-    (λ w. rw (w .1) (served _ _ p _ _ (l .later-return .ensures) (w .0 .left)))
+    (λ w. rw (w .5) (served-first _ _ p _ _ _ (w .1 .ensures) (w .3 .ensures)))
+    (λ w. rw (w .2) (served _ _ p _ _ (l .later-return .ensures) (w .0 .left)))
     (c .before .if1 .came)
 
 pub is-returned-spec : {M : Type 1} → statement M

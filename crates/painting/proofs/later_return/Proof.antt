@@ -41,14 +41,14 @@ returns-2 c = inl refl
 
 first-return-requires : tie.Need-first-return-requires
 first-return-requires c κs =
-    let k = c .before in
+    let k = c .before .before in
     let e = k .before in
     let s = e .before in
     let n = s .before in
     let p = n .before .before .before .pre in
     let L = loaded-listed _ (p .loaded) _ (below n) in
     let q = asked-eff _ _ L _ _ _ _ (k .asked .ensures) (s .eff-start .ensures) (e .eff-end .ensures) in
-    (p, asked-chain _ _ _ _ _ q (omega arith) (c .if2 .left) (below n))
+    (p, asked-chain _ _ _ _ _ q (omega arith) (c .before .if2 .left) (below n))
 
 returns-3 : tie.Need-returns-3
 returns-3 c = next-serves _ _ _ _ _ _ (c .first-return .ensures)

@@ -44,12 +44,14 @@ returns c =
     let p = read-refused (o .bytes .now) (length (o .list .now)) _ _ _ t (c .before .before .blank .ensures) in
     (w, (p .0, λ n h. p .1 n (sym w ∙ h)))
 
-called : (c : tie.After-known-told) → readCall ((known-told-to-start c) .args .bytes .now) (length ((known-told-to-start c) .args .list .now)) ≡ done (heading (c .before .a .given .0 .0) (c .before .a .given .0 .1 .0) (c .before .a .given .0 .1 .1 .0))
+called : (c : tie.After-known-told) → readCall ((known-told-to-start c) .args .bytes .now) (length ((known-told-to-start c) .args .list .now)) ≡ done
+    (heading (c .before .a .given .0 .0) (c .before .a .given .0 .1 .0) (c .before .a .given .0 .1 .1 .0))
 unfolding readingAs
 called c = sym (c .before .before .before .read-checked .ensures) ∙ ap readingAs (c .before .a .given .1)
 
 -- the sheet that was accepted has as many steps as the answer says, and the list has room
-held : (c : tie.After-known-told) → Held ((known-told-to-start c) .args .bytes .now) (length ((known-told-to-start c) .args .list .now)) (heading (c .before .a .given .0 .0) (c .before .a .given .0 .1 .0) (c .before .a .given .0 .1 .1 .0))
+held : (c : tie.After-known-told) → Held ((known-told-to-start c) .args .bytes .now) (length ((known-told-to-start c) .args .list .now))
+    (heading (c .before .a .given .0 .0) (c .before .a .given .0 .1 .0) (c .before .a .given .0 .1 .1 .0))
 held c = holding _ _ _ (called c)
 
 steps-are : (c : tie.After-known-told) → c .before .a .given .0 .0 ≡ stepsIn ((known-told-to-start c) .args .bytes .now)
@@ -86,7 +88,8 @@ returns-2 c =
     let l : length d ≡ length (o .list .now) = search needs in
     let z : take k d ++ replicate (length d - k) 65535 ≡ stepsAt (o .bytes .now) 53 (stepsIn (o .bytes .now)) ++ replicate (length (o .list .now) - stepsIn (o .bytes .now)) 65535 =
     rw (at-read-steps .read-steps .ensures, l, steps-are (at-read-steps .before .before)) refl in
-    let p = read-done (o .bytes .now) (length (o .list .now)) _ (rw (h .is) at w) (h .ok) (λ i. omega (arith, at-shared-slice-known .shared-slice-known .given i)) (c .before .before .blank-from .ensures ∙ z) in
+    let p = read-done (o .bytes .now) (length (o .list .now)) _ (rw (h .is) at w) (h .ok)
+    (λ i. omega (arith, at-shared-slice-known .shared-slice-known .given i)) (c .before .before .blank-from .ensures ∙ z) in
     (sym w, (p .0, λ n q. p .1 n (w ∙ q)))
 
 pub read-spec : {M : Type 1} → statement M

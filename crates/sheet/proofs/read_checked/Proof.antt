@@ -22,7 +22,9 @@ enum-told c = omega arith
 
 returns : tie.Need-returns
 unfolding readingAs
-returns c = ap readingAs (c .enum-told .given .1) ∙ sym (read-refused (c .before .before .before .before .args .bytes .now) (c .before .before .before .before .args .room) _ _ (sym (c .before .before .read-fields .ensures) ∙ ap readingAs (c .enum-told .given .1)))
+returns c =
+    ap readingAs (c .enum-told .given .1) ∙ sym (read-refused (c .before .before .before .before .args .bytes .now)
+    (c .before .before .before .before .args .room) _ _ (sym (c .before .before .read-fields .ensures) ∙ ap readingAs (c .enum-told .given .1)))
 
 cast-if1 : tie.Need-cast-if1
 cast-if1 c = omega arith
@@ -30,7 +32,8 @@ cast-if1 c = omega arith
 cast-t7 : tie.Need-cast-t7
 cast-t7 c = omega arith
 
-was : (c : tie.After-known-told) → (sheetCheck (c .before .before .before .before .before .args .bytes .now) ≡ none) × (headingOf (c .before .before .before .before .before .args .bytes .now) ≡ heading (c .before .a .given .0 .0) (c .before .a .given .0 .1 .0) (c .before .a .given .0 .1 .1 .0))
+was : (c : tie.After-known-told) → (sheetCheck (c .before .before .before .before .before .args .bytes .now) ≡ none) ×
+    (headingOf (c .before .before .before .before .before .args .bytes .now) ≡ heading (c .before .a .given .0 .0) (c .before .a .given .0 .1 .0) (c .before .a .given .0 .1 .1 .0))
 unfolding readingAs
 was c = answer-done _ (headingOf (c .before .before .before .before .before .args .bytes .now)) _ (sym (c .before .before .before .read-fields .ensures) ∙ ap readingAs (c .before .a .given .1))
 
@@ -40,11 +43,15 @@ steps-are c = ap (λ (h : Read). h .steps) (sym (was c .1))
 
 returns-2 : tie.Need-returns-2
 unfolding readingAs
-returns-2 c = let s = c .before .before .before .before .before .before .args .bytes .now in let w = was (c .before) in sym (over-list s (c .before .before .before .before .before .before .args .room) (w .0) (accepted s (w .0) .few) (omega (arith, steps-are (c .before))))
+returns-2 c =
+    let s = c .before .before .before .before .before .before .args .bytes .now in let w = was (c .before) in sym
+    (over-list s (c .before .before .before .before .before .before .args .room) (w .0) (accepted s (w .0) .few) (omega (arith, steps-are (c .before))))
 
 returns-3 : tie.Need-returns-3
 unfolding readingAs
-returns-3 c = let s = c .before .before .before .before .before .before .args .bytes .now in let w = was (c .before) in ap done (sym (w .1)) ∙ sym (reads s (c .before .before .before .before .before .before .args .room) (w .0) (accepted s (w .0) .few) (omega (arith, steps-are (c .before))))
+returns-3 c =
+    let s = c .before .before .before .before .before .before .args .bytes .now in let w = was (c .before) in ap done (sym (w .1)) ∙ sym
+    (reads s (c .before .before .before .before .before .before .args .room) (w .0) (accepted s (w .0) .few) (omega (arith, steps-are (c .before))))
 
 pub read-checked-spec : {M : Type 1} → statement M
 read-checked-spec =

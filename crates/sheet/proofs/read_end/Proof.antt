@@ -57,7 +57,9 @@ returns-2 c =
     let at-ends = c .before .before .before in
     let at-start = at-ends .before .before .before in
     let o = at-start in
-    rw (o .pre .1, c .before .cost-in .ensures, c .read-bits .ensures) (sym (passes (headingOf (o .args .bytes .now)) _ (end-passes (o .args .bytes .now) (omega (arith, o .pre .1)) (rw (← o .pre .1) (sym (at-ends .ends .ensures) ∙ c .before .before .if2 .taken)))))
+    rw (o .pre .1, c .before .cost-in .ensures, c .read-bits .ensures)
+    (sym (passes (headingOf (o .args .bytes .now)) _ (end-passes (o .args .bytes .now) (omega (arith, o .pre .1))
+    (rw (← o .pre .1) (sym (at-ends .ends .ensures) ∙ c .before .before .if2 .taken)))))
 
 cast-refused-2 : tie.Need-cast-refused-2
 cast-refused-2 c = omega arith
@@ -69,7 +71,8 @@ returns-3 : tie.Need-returns-3
 returns-3 c =
     let at-start = c .before .before .before .before .before in
     let o = at-start in
-    c .refused2 .ensures ∙ rw (o .pre .1) (sym (refuses _ _ _ _ (end-fails (o .args .bytes .now) (omega (arith, o .pre .1)) (rw (← o .pre .1) (sym (c .before .before .ends .ensures) ∙ c .before .if2 .left)))))
+    c .refused2 .ensures ∙ rw (o .pre .1) (sym (refuses _ _ _ _
+    (end-fails (o .args .bytes .now) (omega (arith, o .pre .1)) (rw (← o .pre .1) (sym (c .before .before .ends .ensures) ∙ c .before .if2 .left)))))
 
 pub read-end-spec : {M : Type 1} → statement M
 read-end-spec =

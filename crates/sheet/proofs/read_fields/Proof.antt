@@ -50,7 +50,8 @@ returns-4 : tie.Need-returns-4
 returns-4 c =
     let at-read-bits = c .before .before .before .before .before in
     let at-start = at-read-bits .before .before .before in
-    c .refused4 .ensures ∙ sym (refuses _ _ _ _ (too-many-steps (at-start .args .bytes .now) (omega arith) (omega (arith, at-read-bits .read-bits .ensures)) (omega arith) (rw (sym (steps-are (c .before .before))) (omega arith))))
+    c .refused4 .ensures ∙ sym (refuses _ _ _ _ (too-many-steps (at-start .args .bytes .now) (omega arith) (omega (arith, at-read-bits .read-bits .ensures))
+    (omega arith) (rw (sym (steps-are (c .before .before))) (omega arith))))
 
 refused-requires-5 : tie.Need-refused-requires-5
 refused-requires-5 c κs = tt
@@ -60,7 +61,8 @@ returns-5 c =
     let at-read-bits2 = c .before .before .before in
     let at-read-bits = at-read-bits2 .before .before .before in
     let at-start = at-read-bits .before .before .before in
-    c .refused5 .ensures ∙ sym (refuses _ _ _ _ (cut-before-cost (at-start .args .bytes .now) (omega arith) (omega (arith, at-read-bits .read-bits .ensures)) (omega arith) (rw (sym (steps-are (at-read-bits2))) (omega arith)) (omega arith)))
+    c .refused5 .ensures ∙ sym (refuses _ _ _ _ (cut-before-cost (at-start .args .bytes .now) (omega arith) (omega (arith, at-read-bits .read-bits .ensures))
+    (omega arith) (rw (sym (steps-are (at-read-bits2))) (omega arith)) (omega arith)))
 
 read-end-requires : tie.Need-read-end-requires
 read-end-requires c κs = (omega arith, steps-are (c .before .before), omega arith)
@@ -70,7 +72,9 @@ returns-6 c =
     let at-read-bits2 = c .before .before .before in
     let at-read-bits = at-read-bits2 .before .before .before in
     let at-start = at-read-bits .before .before .before in
-    c .read-end .ensures ∙ ap (λ (k : Check). answer k (headingOf (at-start .args .bytes .now))) (sym (front-passed (at-start .args .bytes .now) (omega arith) (omega (arith, at-read-bits .read-bits .ensures)) (omega arith) (rw (sym (steps-are (at-read-bits2))) (omega arith)) (omega arith)))
+    c .read-end .ensures ∙ ap (λ (k : Check). answer k (headingOf (at-start .args .bytes .now)))
+    (sym (front-passed (at-start .args .bytes .now) (omega arith) (omega (arith, at-read-bits .read-bits .ensures)) (omega arith)
+    (rw (sym (steps-are (at-read-bits2))) (omega arith)) (omega arith)))
 
 pub read-fields-spec : {M : Type 1} → statement M
 read-fields-spec =

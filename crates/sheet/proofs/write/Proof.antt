@@ -46,15 +46,17 @@ returns c =
     let p = write-refused (sheet (o .list .now) (o .cost) (o .real)) (length (o .bytes .now)) _ _ _ t (c .before .before .clear .ensures) in
     (w, (p .0, λ n h. p .1 n (sym w ∙ h)))
 
-called : (c : tie.After-known-told) → writeCall (sheet ((known-told-to-start c) .args .list .now) ((known-told-to-start c) .args .cost) ((known-told-to-start c) .args .real)) (length ((known-told-to-start c) .args .bytes .now)) ≡ done (c .before .a .given .0 .0)
+called : (c : tie.After-known-told) → writeCall (sheet ((known-told-to-start c) .args .list .now) ((known-told-to-start c) .args .cost)
+    ((known-told-to-start c) .args .real)) (length ((known-told-to-start c) .args .bytes .now)) ≡ done (c .before .a .given .0 .0)
 called c = sym (c .before .before .before .size-for .ensures ((known-told-to-start c) .args .cost) ((known-told-to-start c) .args .real)) ∙ ap valueOf (c .before .a .given .1)
 
-fit : (c : tie.After-known-told) → Fitting (sheet ((known-told-to-start c) .args .list .now) ((known-told-to-start c) .args .cost) ((known-told-to-start c) .args .real)) (length ((known-told-to-start c) .args .bytes .now)) (c .before .a .given .0 .0)
+fit : (c : tie.After-known-told) → Fitting (sheet ((known-told-to-start c) .args .list .now) ((known-told-to-start c) .args .cost)
+    ((known-told-to-start c) .args .real)) (length ((known-told-to-start c) .args .bytes .now)) (c .before .a .given .0 .0)
 fit c = fitting _ _ _ (called c)
 
-six : (c : tie.After-known-told) → 6 ≤ length ((known-told-to-start c) .args .bytes .now)
+one : (c : tie.After-known-told) → 1 ≤ length ((known-told-to-start c) .args .bytes .now)
 unfolding sheetSize sheetEnd
-six c = omega (arith, fit c .room)
+one c = omega (arith, fit c .room)
 
 cast-size : tie.Need-cast-size
 cast-size c = omega arith
@@ -66,13 +68,13 @@ front-requires : tie.Need-front-requires
 front-requires c κs = tt
 
 write-bits-requires : tie.Need-write-bits-requires
-write-bits-requires c κs = (six (c .before .before), omega arith, omega arith)
+write-bits-requires c κs = (one (c .before .before), omega arith, omega arith)
 
 write-steps-requires : tie.Need-write-steps-requires
 write-steps-requires c κs =
     let at-known-told = c .before .before .before .before .before .before in
     let f = fit (at-known-told) in
-    (omega arith, all-below 1024 0 _ (omega arith) (f .below), f .short, f .size, omega (arith, f .room, f .size))
+    (all-below 1024 0 _ (omega arith) (f .below), f .short, f .size, omega (arith, f .room, f .size))
 
 clear-from-requires : tie.Need-clear-from-requires
 clear-from-requires c κs = tt

@@ -57,7 +57,8 @@ loop-again c =
       search needs,
       search needs,
       c .before .before .before .before .before .loop .inv .2 ∙ holds-passes (a .facts .now)
-          (c .before .before .before .before .before .loop .k) (a .to) (omega arith) (omega arith) (alone (valuesOf (a .newest .now))) _ (c .before .before .wide .ensures) (newest-is _ _ (omega arith)),
+          (c .before .before .before .before .before .loop .k) (a .to) (omega arith) (omega arith) (alone (valuesOf (a .newest .now))) _
+          (c .before .before .wide .ensures) (newest-is _ _ (omega arith)),
     )
 
 returns-2 : tie.Need-returns-2 Inv-loop μ-loop
