@@ -30,7 +30,9 @@ same-length-2 c = search needs
 
 returns : tie.Need-returns
 returns c =
-    called (c .before .before .before .before .before .before .before .before .before .before .before .before .before .before .before .before .before .before .args .given) (c .before .before .before .before .before .before .before .before .before .before .before .before .before .before .before .before .before .before .args .bytes .now) _ (c .before .before .before .before .before .before .before .before .before .before .load .ensures .1) _ _ _ _ (c .before .before .before .before .before .before .before .before .before .before .before .before .before .before .before .before .before .before .pre) (c .before .before .before .before .before .plan-loaded .ensures)
+    let at-load = c .before .before .before .before .before .before .before .before .before .before in
+    let at-start = at-load .before .before .before .before .before .before .before .before in
+    called (at-start .args .given) (at-start .args .bytes .now) _ (at-load .load .ensures .1) _ _ _ _ (at-start .pre) (c .before .before .before .before .before .plan-loaded .ensures)
 
 slice-aggregate-load-2 : tie.Need-slice-aggregate-load-2
 slice-aggregate-load-2 c = search needs
@@ -53,7 +55,9 @@ same-length-4 c = search needs
 
 returns-2 : tie.Need-returns-2
 returns-2 c =
-    called (c .before .before .before .before .before .before .before .before .before .before .before .before .before .before .before .before .before .before .args .given) (c .before .before .before .before .before .before .before .before .before .before .before .before .before .before .before .before .before .before .args .bytes .now) _ (c .before .before .before .before .before .before .before .before .before .before .load2 .ensures .1) _ _ _ _ (c .before .before .before .before .before .before .before .before .before .before .before .before .before .before .before .before .before .before .pre) (c .before .before .before .before .before .plan-loaded2 .ensures)
+    let at-load = c .before .before .before .before .before .before .before .before .before .before in
+    let at-start = at-load .before .before .before .before .before .before .before .before in
+    called (at-start .args .given) (at-start .args .bytes .now) _ (at-load .load2 .ensures .1) _ _ _ _ (at-start .pre) (c .before .before .before .before .before .plan-loaded2 .ensures)
 
 pub plan-accepted-spec : {M : Type 1} → statement M
 plan-accepted-spec =

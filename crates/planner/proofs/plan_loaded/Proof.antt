@@ -43,7 +43,10 @@ same-length-4 c = search needs
 returns-2 : tie.Need-returns-2
 unfolding paintingCheck
 returns-2 c =
-    painted (c .before .before .before .before .before .before .before .before .before .before .before .before .before .before .before .before .before .before .args .given) (taskIn (c .before .before .before .before .before .before .before .before .before .before .before .before .before .before .before .before .before .before .args .task .now)) _ (c .before .before .before .before .before .before .before .before .before .before .before .before .prepare .ensures .same) _ _ _ _ (passed-by _ _ (c .before .before .before .before .before .before .before .before .enum-told .given .1) (c .before .before .before .before .before .before .before .before .before .before .before .before .prepare .ensures .answer)) (c .before .before .before .before .plan-prepared .ensures)
+    let at-prepare = c .before .before .before .before .before .before .before .before .before .before .before .before in
+    let at-start = at-prepare .before .before .before .before .before .before in
+    painted (at-start .args .given) (taskIn (at-start .args .task .now)) _ (at-prepare .prepare .ensures .same) _ _ _ _
+    (passed-by _ _ (c .before .before .before .before .before .before .before .before .enum-told .given .1) (at-prepare .prepare .ensures .answer)) (c .before .before .before .before .plan-prepared .ensures)
 
 pub plan-loaded-spec : {M : Type 1} → statement M
 plan-loaded-spec =
