@@ -309,13 +309,24 @@ fn read_five(bytes: &[u8], list: &mut [u16], i: usize)
     list[i + 4] = (word % 1024) as u16;
 }
 
-// The steps of a sheet: five a turn while seven are left, so that eight bytes are.
+// The steps at which five can be read: seven are left, so that eight bytes are.
+fn fives_end(steps: usize) -> usize
+    ensures { λ r. ⌜ r ≤ steps - 6 ⌝ }
+{
+    if steps < 7 {
+        return 0;
+    }
+    steps - 6
+}
+
+// The steps of a sheet: five a turn, and the rest one by one.
 fn read_steps(bytes: &[u8], steps: usize, list: &mut [u16])
     requires { ⌜ (steps ≤ 32768) × (steps ≤ length (now list)) × (53 + 10 * steps ≤ 8 * length (now bytes)) ⌝ }
     ensures { λ _. ⌜ take steps (now (list .exit)) ≡ stepsAt (now (bytes .entry)) 53 steps ⌝ }
 {
+    let end = fives_end(steps);
     let mut i: usize = 0;
-    while i + 7 <= steps {
+    while i < end {
         read_five(bytes, list, i);
         i += 5;
     }
