@@ -7,7 +7,7 @@ use Prim.Native.Nat.{ℕ, _+_, _*_, _/_, _%_, _≤_, _<_}
 use lib.Dec.{leb, ltb}
 use lib.ListN.{length, getD}
 use Rattle.planning.specs.Basics.{Check, check, inOrder, bitsAt}
-use Rattle.planning.specs.Record.{variablesIn, actionsIn, countIn, preconditionsIn, effectsIn, effectsFrom, fieldCheck, goalFits, variablesChecks, factsChecks, actionsChecks, endsAt, recordEnd}
+use Rattle.planning.specs.Record.{variableBit, variablesIn, actionsIn, countIn, preconditionsIn, effectsIn, effectsFrom, fieldCheck, goalFits, variablesChecks, factsChecks, actionsChecks, endsAt, recordEnd}
 use Rattle.bits.specs.Windows.{Leading}
 
 -- the list holds the count of values of each of the first n variables, and 0 behind them
@@ -39,7 +39,7 @@ unfoldable pub fromEnd : List ℕ → List Check
 fromEnd s = check (endsAt s (recordEnd s)) 6 (recordEnd s) ∷ []
 
 unfoldable pub fromActions : List ℕ → List Check
-fromActions s = actionsChecks s (22 + 20 * variablesIn s) (actionsIn s) ++ fromEnd s
+fromActions s = actionsChecks s (variableBit (variablesIn s)) (actionsIn s) ++ fromEnd s
 
 unfoldable pub fromVariables : List ℕ → List Check
 fromVariables s = variablesChecks s 22 (variablesIn s) ++ fromActions s

@@ -12,16 +12,16 @@ use Rattle.planning.specs.Record.{Task}
 use Rattle.planning.specs.Runs.{has, actions, act, black}
 use Rattle.planning.specs.Painting.{cyclic, unreturned}
 use Rattle.planning.specs.Repair.{order}
-use Rattle.task.specs.Task.{cell, taskIn, Loaded}
+use Rattle.task.specs.Task.{orderFrom, headsFrom, nextsFrom, linksEnd, cell, taskIn, Loaded}
 
 abbrev pub headAt : List ℕ → ℕ → ℕ
-headAt task f = getD task (324 + f) 0
+headAt task f = getD task (headsFrom + f) 0
 
 abbrev pub nextAt : List ℕ → ℕ → ℕ
-nextAt task i = getD task (4420 + i) 0
+nextAt task i = getD task (nextsFrom + i) 0
 
 unfoldable pub orderIn : List ℕ → List ℕ
-orderIn task = slice 260 (260 + cell task 0 2) task
+orderIn task = slice orderFrom (orderFrom + cell task 0 2) task
 
 -- x is the least number from a on, below n, that P holds of; 65,535 if there is none
 pub record Next (n : ℕ) (P : ℕ → Type 0) (a x : ℕ) : Type 0 where
@@ -48,7 +48,7 @@ pub record Prepared (task : List ℕ) : Type 0 where
 
 -- a place of the three parts, or of the number of black variables
 abbrev pub Link : ℕ → Type 0
-Link k = (k ≡ 2) ⊎ ((260 ≤ k) × (k < 5444))
+Link k = (k ≡ 2) ⊎ ((orderFrom ≤ k) × (k < linksEnd))
 
 -- the list differs from what it was before in such places alone
 pub record Relinked (before after : List ℕ) : Type 0 where
@@ -62,4 +62,4 @@ pub record Unlinked (n : ℕ) (before after : List ℕ) : Type 0 where
 
 -- action i in front of the chain of fact f
 unfoldable pub linked : ℕ → ℕ → List ℕ → List ℕ
-linked f i task = set (set task (4420 + i) (headAt task f)) (324 + f) i
+linked f i task = set (set task (nextsFrom + i) (headAt task f)) (headsFrom + f) i

@@ -16,6 +16,22 @@ use Rattle.planning.specs.Record.{Fact, Action, Variable, Task, goalOf}
 use Rattle.planning.specs.Runs.{actions}
 use Rattle.planning.proofs.Formed.{Formed}
 
+-- where the parts start: the order, the first actions and the next ones by the fact they set; the row of action 0; the end of those three
+abbrev pub orderFrom : ℕ
+orderFrom = 260
+
+abbrev pub headsFrom : ℕ
+headsFrom = 324
+
+abbrev pub nextsFrom : ℕ
+nextsFrom = 4420
+
+abbrev pub linksEnd : ℕ
+linksEnd = 5444
+
+abbrev pub actionRows : ℕ
+actionRows = 1361
+
 abbrev pub cell : List ℕ → ℕ → ℕ → ℕ
 cell task r k = getD task (4 * r + k) 0
 
@@ -36,16 +52,16 @@ variableIn task v = record {
 
 -- the fields of action i
 abbrev pub costAt : List ℕ → ℕ → ℕ
-costAt task i = cell task (1361 + i) 0
+costAt task i = cell task (actionRows + i) 0
 
 abbrev pub preAt : List ℕ → ℕ → ℕ
-preAt task i = cell task (1361 + i) 1
+preAt task i = cell task (actionRows + i) 1
 
 abbrev pub effAt : List ℕ → ℕ → ℕ
-effAt task i = cell task (1361 + i) 2
+effAt task i = cell task (actionRows + i) 2
 
 abbrev pub endAt : List ℕ → ℕ → ℕ
-endAt task i = cell task (1361 + i) 3
+endAt task i = cell task (actionRows + i) 3
 
 unfoldable pub actionIn : List ℕ → ℕ → Action
 actionIn task i = record {
@@ -69,7 +85,7 @@ taskIn task = record {
 -- row r says where facts stand, and they are there, behind the fixed parts
 pub record Row (task : List ℕ) (r : ℕ) : Type 0 where
   pub room : 4 * r + 4 ≤ length task
-  pub behind : 5444 ≤ cell task r 1
+  pub behind : linksEnd ≤ cell task r 1
   pub pre-below : cell task r 1 ≤ cell task r 2
   pub eff-below : cell task r 2 ≤ cell task r 3
   pub end-below : cell task r 3 ≤ length task
@@ -77,5 +93,5 @@ pub record Row (task : List ℕ) (r : ℕ) : Type 0 where
 -- the list states a task of an accepted record
 pub record Loaded (task : List ℕ) : Type 0 where
   pub formed : Formed (taskIn task)
-  pub head : 5444 ≤ length task
-  pub rows : (i : ℕ) → i < actions (taskIn task) → Row task (1361 + i)
+  pub head : linksEnd ≤ length task
+  pub rows : (i : ℕ) → i < actions (taskIn task) → Row task (actionRows + i)

@@ -6,11 +6,20 @@ ghost use lib.ListN.{length, getD, set};
 ghost use Rattle.planning.specs.Record.{taskOf, recordCheck, variablesIn, actionsIn};
 ghost use Rattle.planning.specs.Runs.{variables, actions, variable, count, black};
 ghost use Rattle.lists.specs.Four.{Spread};
-ghost use Rattle.task.specs.Task.{taskIn, Loaded, costAt, preAt, effAt, endAt};
+ghost use Rattle.task.specs.Task.{orderFrom, linksEnd, taskIn, Loaded, costAt, preAt, effAt, endAt};
 ghost use Rattle.task.specs.Links.{headAt, nextAt, orderIn, linked, Unlinked, Prepared};
 ghost use Rattle.task.specs.Size.{taskSize, roomFor};
 ghost use Rattle.task.specs.Loading.{RowWritten, FactsLoaded, Room, ActionLoaded, VariableLoaded, Headed};
 ghost use Rattle.task.specs.Goals.{optionOf};
+
+// Where the parts of the list start: the order, the first actions and the next ones by the fact they set; and the row of action 0.
+const ORDER: usize = 260;
+
+const HEADS: usize = 324;
+
+const NEXTS: usize = 4420;
+
+const ACTION_ROWS: usize = 1361;
 
 // The number of variables.
 pub fn variables(task: &[u16]) -> usize
@@ -74,7 +83,7 @@ pub fn cost(task: &[u16], i: usize) -> usize
     requires { ⌜ Loaded (now task) × (i < actions (taskIn (now task))) ⌝ }
     ensures { λ r. ⌜ r ≡ costAt (now (task .entry)) i ⌝ }
 {
-    lists::wide(task[4 * (1361 + i)])
+    lists::wide(task[4 * (ACTION_ROWS + i)])
 }
 
 // Where the preconditions of action i start.
@@ -82,7 +91,7 @@ pub fn pre_start(task: &[u16], i: usize) -> usize
     requires { ⌜ Loaded (now task) × (i < actions (taskIn (now task))) ⌝ }
     ensures { λ r. ⌜ r ≡ preAt (now (task .entry)) i ⌝ }
 {
-    lists::wide(task[4 * (1361 + i) + 1])
+    lists::wide(task[4 * (ACTION_ROWS + i) + 1])
 }
 
 // Where they end and its effects start.
@@ -90,7 +99,7 @@ pub fn eff_start(task: &[u16], i: usize) -> usize
     requires { ⌜ Loaded (now task) × (i < actions (taskIn (now task))) ⌝ }
     ensures { λ r. ⌜ r ≡ effAt (now (task .entry)) i ⌝ }
 {
-    lists::wide(task[4 * (1361 + i) + 2])
+    lists::wide(task[4 * (ACTION_ROWS + i) + 2])
 }
 
 // Where its effects end.
@@ -98,7 +107,7 @@ pub fn eff_end(task: &[u16], i: usize) -> usize
     requires { ⌜ Loaded (now task) × (i < actions (taskIn (now task))) ⌝ }
     ensures { λ r. ⌜ r ≡ endAt (now (task .entry)) i ⌝ }
 {
-    lists::wide(task[4 * (1361 + i) + 3])
+    lists::wide(task[4 * (ACTION_ROWS + i) + 3])
 }
 
 // The first action that sets fact f, as it was linked.
@@ -106,7 +115,7 @@ pub fn first_setter(task: &[u16], f: usize) -> usize
     requires { ⌜ Loaded (now task) × (f < 4096) ⌝ }
     ensures { λ r. ⌜ r ≡ headAt (now (task .entry)) f ⌝ }
 {
-    lists::wide(task[324 + f])
+    lists::wide(task[HEADS + f])
 }
 
 // The next action that sets the same black fact as action i, as it was linked.
@@ -114,7 +123,7 @@ pub fn next_setter(task: &[u16], i: usize) -> usize
     requires { ⌜ Loaded (now task) × (i < 1024) ⌝ }
     ensures { λ r. ⌜ r ≡ nextAt (now (task .entry)) i ⌝ }
 {
-    lists::wide(task[4420 + i])
+    lists::wide(task[NEXTS + i])
 }
 
 // The number of black variables in the clients-first order.
@@ -130,41 +139,41 @@ pub fn order_at(task: &[u16], p: usize) -> usize
     requires { ⌜ Prepared (now task) × (p < length (orderIn (now task))) ⌝ }
     ensures { λ r. ⌜ r ≡ getD (orderIn (now (task .entry))) p 0 ⌝ }
 {
-    lists::wide(task[260 + p])
+    lists::wide(task[ORDER + p])
 }
 
 // No action is linked for the first n facts.
 pub fn unlink(task: &mut [u16], n: usize)
-    requires { ⌜ (n ≤ 4096) × (5444 ≤ length (now task)) ⌝ }
+    requires { ⌜ (n ≤ 4096) × (linksEnd ≤ length (now task)) ⌝ }
     ensures { λ _. ⌜ Unlinked n (now (task .entry)) (now (task .exit)) ⌝ }
 {
     let mut f = 0;
     while f < n {
-        task[324 + f] = 65535;
+        task[HEADS + f] = 65535;
         f += 1;
     }
 }
 
 // Action i in front of the chain of fact f.
 pub fn link(task: &mut [u16], f: usize, i: usize)
-    requires { ⌜ (f < 4096) × (i < 1024) × (5444 ≤ length (now task)) ⌝ }
+    requires { ⌜ (f < 4096) × (i < 1024) × (linksEnd ≤ length (now task)) ⌝ }
     ensures { λ _. ⌜ now (task .exit) ≡ linked f i (now (task .entry)) ⌝ }
 {
-    task[4420 + i] = task[324 + f];
-    task[324 + f] = i as u16;
+    task[NEXTS + i] = task[HEADS + f];
+    task[HEADS + f] = i as u16;
 }
 
 // Variable v at place k of the order.
 pub fn set_order(task: &mut [u16], k: usize, v: usize)
-    requires { ⌜ (k < 64) × (v < 64) × (5444 ≤ length (now task)) ⌝ }
-    ensures { λ _. ⌜ now (task .exit) ≡ set (now (task .entry)) (260 + k) v ⌝ }
+    requires { ⌜ (k < 64) × (v < 64) × (linksEnd ≤ length (now task)) ⌝ }
+    ensures { λ _. ⌜ now (task .exit) ≡ set (now (task .entry)) (orderFrom + k) v ⌝ }
 {
-    task[260 + k] = v as u16;
+    task[ORDER + k] = v as u16;
 }
 
 // The order has n variables.
 pub fn end_order(task: &mut [u16], n: usize)
-    requires { ⌜ (n ≤ 64) × (5444 ≤ length (now task)) ⌝ }
+    requires { ⌜ (n ≤ 64) × (linksEnd ≤ length (now task)) ⌝ }
     ensures { λ _. ⌜ now (task .exit) ≡ set (now (task .entry)) 2 n ⌝ }
 {
     task[2] = n as u16;
@@ -248,7 +257,7 @@ fn load_action(bytes: &[u8], at: usize, task: &mut [u16], r: usize, to: usize) -
 // Variable v: 20 bits from bit 22 + 20 v on: count of values less one, 6; black, 1; initial value, 6; goal present, 1; goal
 // value, 6.
 fn load_variable(bytes: &[u8], task: &mut [u16], v: usize)
-    requires { ⌜ (42 + 20 * v ≤ 8 * length (now bytes)) × (8 * length (now bytes) ≤ 1000000) × (v < 64) × (5444 ≤ length (now task)) ⌝ }
+    requires { ⌜ (42 + 20 * v ≤ 8 * length (now bytes)) × (8 * length (now bytes) ≤ 1000000) × (v < 64) × (linksEnd ≤ length (now task)) ⌝ }
     ensures { λ _. ⌜ VariableLoaded (now (bytes .entry)) v (now (task .entry)) (now (task .exit)) ⌝ }
 {
     let at = 20 * v;
@@ -261,7 +270,7 @@ fn load_variable(bytes: &[u8], task: &mut [u16], v: usize)
 
 // Rows 0 to 64.
 fn load_variables(bytes: &[u8], task: &mut [u16], n: usize, count: usize)
-    requires { ⌜ (recordCheck (now bytes) ≡ none) × (n ≡ variablesIn (now bytes)) × (count ≡ actionsIn (now bytes)) × (5444 ≤ length (now task)) ⌝ }
+    requires { ⌜ (recordCheck (now bytes) ≡ none) × (n ≡ variablesIn (now bytes)) × (count ≡ actionsIn (now bytes)) × (linksEnd ≤ length (now task)) ⌝ }
     ensures { λ _. ⌜ Headed (now (bytes .entry)) (now (task .exit)) × (length (now (task .exit)) ≡ length (now (task .entry))) ⌝ }
 {
     write_row(task, 0, n as u16, count as u16, 0, 0);
@@ -294,10 +303,10 @@ pub fn load(bytes: &[u8], task: &mut [u16])
     let count = bits::read_bits(bytes, 11, 11) as usize;
     load_variables(bytes, task, variables, count);
     let mut at = 22 + 20 * variables;
-    let mut to = 4 * (1361 + count);
+    let mut to = 4 * (ACTION_ROWS + count);
     let mut i = 0;
     while i < count {
-        let n = load_action(bytes, at, task, 1361 + i, to);
+        let n = load_action(bytes, at, task, ACTION_ROWS + i, to);
         at += 24 + 12 * n;
         to += n;
         i += 1;
