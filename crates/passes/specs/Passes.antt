@@ -10,7 +10,7 @@ use Rattle.planning.specs.Record.{Fact, Task}
 use Rattle.planning.specs.Runs.{State, look, actions, count, act}
 use Rattle.planning.specs.Repair.{pass}
 use Rattle.task.specs.Task.{factsIn}
-use Rattle.paths.specs.Paths.{pathsOf, Put}
+use Rattle.paths.specs.Paths.{pathsOf, marksFrom, memoLength, Put}
 use Rattle.paths.specs.declared.Written.{Written}
 
 -- the pass for v, whose value is c, over the list l, where the facts K are known and the facts w are wanted
@@ -44,8 +44,8 @@ Entries t l = (k : ℕ) → k < length l → getD l k 0 < actions t
 
 -- no row stands in the memo
 pub record Blank (memo : List ℕ) : Type 0 where
-  pub long : length memo ≡ 4160
-  pub none-marked : (d : ℕ) → d < 64 → getD memo (4096 + d) 0 ≡ 0
+  pub long : length memo ≡ memoLength
+  pub none-marked : (d : ℕ) → d < 64 → getD memo (marksFrom + d) 0 ≡ 0
 
 -- what w says of a list that was written, r says of the same list with i behind it
 abbrev pub Behind : Written → ℕ → List ℕ → List ℕ → Written → Type 0

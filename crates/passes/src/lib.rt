@@ -11,16 +11,16 @@ ghost use Rattle.planning.specs.Repair.{toward, after, blackMet};
 ghost use Rattle.task.specs.Task.{taskIn, Loaded};
 ghost use Rattle.task.specs.Links.{Prepared};
 ghost use Rattle.state.specs.Sets.{setsOf, modeOf};
-ghost use Rattle.paths.specs.Paths.{pathsOf, Memo, Covers, Put};
+ghost use Rattle.paths.specs.Paths.{pathsOf, Memo, memoLength, Covers, Put};
 ghost use Rattle.passes.specs.Passes.{askedBy, passOf, served, unasked, factsOf, Fitting, Entries, Blank, Behind};
 
 // The memo with no row in it.
 pub fn forget(memo: &mut [u16])
-    requires { ⌜ length (now memo) ≡ 4160 ⌝ }
+    requires { ⌜ length (now memo) ≡ memoLength ⌝ }
     ensures { λ _. ⌜ Blank (now (memo .exit)) ⌝ }
 {
-    let mut k: usize = 4096;
-    while k < 4160 {
+    let mut k: usize = paths::MARKS;
+    while k < paths::MEMO {
         memo[k] = 0;
         k += 1;
     }

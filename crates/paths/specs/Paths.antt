@@ -83,10 +83,17 @@ Kept rest row₀ row = (c : ℕ) → c < 64 → (T (inSet rest c) → ⊥) → g
 abbrev pub Apart : ℕ → ℕ → Type 0
 Apart front rest = (c : ℕ) → T (inSet front c) → T (inSet rest c) → ⊥
 
--- a row of leads for each value d: to d, of the black variable v where v + 1 stands behind the rows at d
+-- the memo: 64 rows of 64 leads, and behind them 64 marks; its length
+abbrev pub marksFrom : ℕ
+marksFrom = 4096
+
+abbrev pub memoLength : ℕ
+memoLength = 4160
+
+-- a row of leads for each value d: to d, of the black variable v where v + 1 is the mark of d
 pub record Memo (t : Task) (K : State) (memo : List ℕ) : Type 0 where
-  pub long : length memo ≡ 4160
-  pub rows : (v d c : ℕ) → T (black t v) → d < 64 → c < count t v → getD memo (4096 + d) 0 ≡ v + 1 → getD memo (64 * d + c) 0 ≡ leadOf t K v c d
+  pub long : length memo ≡ memoLength
+  pub rows : (v d c : ℕ) → T (black t v) → d < 64 → c < count t v → getD memo (marksFrom + d) 0 ≡ v + 1 → getD memo (64 * d + c) 0 ≡ leadOf t K v c d
 
 -- the facts set a black variable
 unfoldable pub anyBlack : Task → List Fact → Bool

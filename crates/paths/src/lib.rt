@@ -10,7 +10,12 @@ ghost use Rattle.planning.specs.Painting.{fits};
 ghost use Rattle.task.specs.Task.{taskIn, Loaded};
 ghost use Rattle.task.specs.Links.{Prepared};
 ghost use Rattle.state.specs.Sets.{inSet, setsOf, Asked};
-ghost use Rattle.paths.specs.Paths.{Member, lower, sourceOf, pathsOf, Leads, Marked, Kept, Apart, Memo, anyBlack, Covers, Put};
+ghost use Rattle.paths.specs.Paths.{Member, lower, sourceOf, pathsOf, Leads, Marked, Kept, Apart, Memo, marksFrom, anyBlack, Covers, Put};
+
+// The memo has 64 rows of 64 leads, and behind them 64 marks.
+pub const MARKS: usize = 4096;
+
+pub const MEMO: usize = 4160;
 
 // Where a list ends after more was written, or that it does not fit.
 pub enum Written {
@@ -196,15 +201,15 @@ fn walk(
 fn prepare(task: &[u16], ever: &[u64; 64], memo: &mut [u16], v: usize, d: usize)
     requires { ⌜ Prepared (now task) × T (black (taskIn (now task)) v) × (d < count (taskIn (now task)) v) ⌝ }
     requires { ⌜ Memo (taskIn (now task)) (setsOf (now ever)) (now memo) ⌝ }
-    ensures { λ _. ⌜ Memo (taskIn (now (task .entry))) (setsOf (now (ever .entry))) (now (memo .exit)) × (getD (now (memo .exit)) (4096 + d) 0 ≡ v + 1) ⌝ }
+    ensures { λ _. ⌜ Memo (taskIn (now (task .entry))) (setsOf (now (ever .entry))) (now (memo .exit)) × (getD (now (memo .exit)) (marksFrom + d) 0 ≡ v + 1) ⌝ }
 {
-    if lists::wide(memo[4096 + d]) == v + 1 {
+    if lists::wide(memo[MARKS + d]) == v + 1 {
         return;
     }
     let from = 64 * d;
     let to = from + 64;
     towards(task, ever, &mut memo[from..to], v, d);
-    memo[4096 + d] = (v + 1) as u16;
+    memo[MARKS + d] = (v + 1) as u16;
 }
 
 // The path of v from c to d (6.7), written into the list from place `at` on.

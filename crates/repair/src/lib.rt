@@ -315,7 +315,7 @@ pub fn repair(task: &[u16], relaxed: &[u16], plan: &mut [u16], work: &mut [u16])
     ensures { λ r. ⌜ Held (taskIn (now (task .entry))) (repaired (taskIn (now (task .entry))) (now (relaxed .entry))) (now (plan .exit)) (capacityOf (length (now (plan .entry))) (length (now (work .entry)))) r ⌝ }
 {
     let room = lists::capacity(lists::lesser(plan.len(), work.len()));
-    let mut memo = [0u16; 4160];
+    let mut memo = [0u16; paths::MEMO];
     passes::forget(&mut memo);
     repair_from(
         task,
