@@ -261,7 +261,7 @@ fn too_long(room: usize) -> Planned
 }
 
 // The repair from the initial state in one pass: where every step placed is taken the next stage is placed behind them, else one
-// step is taken.
+// step is taken. The state's step stands last in the turn: the compiler then copies the state twice for it, elsewhere three times.
 fn repair_from(
     task: &[u16],
     memo: &mut [u16],
@@ -298,13 +298,12 @@ fn repair_from(
             continue;
         }
         let i = lists::wide(plan[k]);
+        if !has_effects(task, &ever.sets, i) {
+            passes::refresh(task, &ever.sets, memo, i, needs);
+            ever = ever.step(task, i, 0);
+        }
         c = counted(task, &s.newest, i, c);
         s = s.step(task, i, paint);
-        if has_effects(task, &ever.sets, i) {
-            continue;
-        }
-        passes::refresh(task, &ever.sets, memo, i, needs);
-        ever = ever.step(task, i, 0);
     }
 }
 

@@ -1,7 +1,9 @@
 -- Where every step placed is taken, what is left begins with the steps of the next stage; else one more is taken, and state, facts held
 -- ever, newest values and counts are those behind it. In the end nothing is left, and the counts are those of the whole repair.
 use borrow.Author.Needs.{needs}
+use borrow.Author.Tests.{not-false}
 use mathlib.Core.List.{List}
+use mathlib.Core.Logic.{inl, inr}
 use mathlib.Core.Path.{_≡_, sym, ap, _∙_}
 use Prim.Native.Nat.{ℕ, _+_, _-_, _*_, _<_}
 use native.Mathlib.Omega.{arith}
@@ -10,6 +12,7 @@ use Rattle.planning.specs.Basics.{refused}
 use Rattle.planning.specs.Runs.{Mode, relaxed, step, actions, act}
 use Rattle.task.specs.Task.{taskIn}
 use Rattle.state.specs.Sets.{setsOf, valuesOf}
+use Rattle.paths.specs.Paths.{Memo}
 use Rattle.repair.proofs.Values.{mode-none, step-held}
 use Rattle.repair.proofs.Repairing.{Repairing, repairing-start, repairing-lent, repairing-few, repairing-small, repairing-below, repairing-step}
 use Rattle.repair.proofs.Repairing.{Arranged, repairing-long, repairing-fits, repairing-turn, stages-fewer, steps-fewer, rest-is, rest-entries}
@@ -38,17 +41,24 @@ again-of c = c .before .before .before .before .before .before .before .before .
 abbrev left-by : tie.After-stage Inv-loop μ-loop → List ℕ
 left-by c = c .stage .last .1 .1 .1 .1 .1 .0
 
-abbrev counted-of : tie.After-ever2 Inv-loop μ-loop → tie.After-counted Inv-loop μ-loop
-counted-of c = c .before .before
-
-abbrev step-of : tie.After-ever2 Inv-loop μ-loop → tie.After-step Inv-loop μ-loop
-step-of c = c .before
-
-abbrev wide-of : tie.After-ever2 Inv-loop μ-loop → tie.After-wide Inv-loop μ-loop
-wide-of c = c .before .before .before .before .before
+abbrev wide-of : tie.After-has-effects Inv-loop μ-loop → tie.After-wide Inv-loop μ-loop
+wide-of c = c .before .before .before
 
 abbrev head-of : tie.After-wide Inv-loop μ-loop → tie.At-loop Inv-loop μ-loop
 head-of c = c .before .before .before
+
+-- a turn that takes a step: its last point, its count, its step, and the point before both
+abbrev Last : Type 0
+Last = tie.After-step2 Inv-loop μ-loop
+
+abbrev counted-of : Last → tie.After-counted Inv-loop μ-loop
+counted-of c = c .before
+
+abbrev step-of : Last → tie.After-step2 Inv-loop μ-loop
+step-of c = c
+
+abbrev learnt-of : Last → tie.Joined3 Inv-loop μ-loop
+learnt-of c = c .before .before .before .before
 
 arranged : (c : tie.After-plan Inv-loop μ-loop) → let d = stage-of c in let e = again-of d in let h = e .before .before in let a = start-of h .args in let l = h .loop in
     Arranged (taskIn (a .task .now)) (a .list .now) (a .plan .now) (l .plan) (l .memo) (l .work) (l .s .sets) (l .ever .sets) (valuesOf (l .s .newest)) (l .c) (l .at) (l .j)
@@ -72,6 +82,19 @@ less c = let h = head-of c in omega (arith, c .before .before .if1 .left, h .loo
 
 below : (c : tie.After-wide Inv-loop μ-loop) → c .wide .result < actions (taskIn (start-of (head-of c) .args .task .now))
 below c = repairing-below (head-of c .loop .inv) (less c) _ (c .wide .ensures)
+
+-- the facts held ever and the rows of leads for them, whether or not the action adds a fact
+learnt : (c : tie.Joined3 Inv-loop μ-loop) → let w = wide-of (c .before) in let h = head-of w in let t = taskIn (start-of h .args .task .now) in
+    (setsOf (c .if3 .ever .sets) ≡ step relaxed (act t (w .wide .result)) (setsOf (h .loop .ever .sets))) × Memo t (setsOf (c .if3 .ever .sets)) (c .if3 .memo)
+learnt c =
+    let w = wide-of (c .before) in
+    let h = head-of w in
+    let i = act (taskIn (start-of h .args .task .now)) (w .wide .result) in
+    let K = setsOf (h .loop .ever .sets) in
+    elim (c .if3 .came) [
+      | inl p ↦ (let e : setsOf (p .7 .result .sets) ≡ step relaxed i K = p .7 .ensures .0 ∙ ap (λ (m : Mode). step m i K) mode-none in rw (p .8, p .9) (e, rw e (p .4 .ensures)))
+      | inr p ↦ (let same = step-held i K (sym (c .before .has-effects .ensures) ∙ not-false _ (p .0 .left)) in rw (p .1, p .2) (same, h .loop .inv .rows))
+    ]
 
 painted-requires : tie.Need-painted-requires Inv-loop μ-loop
 painted-requires c κs = c .before .before .before .before .before .pre .0 .loaded
@@ -203,57 +226,38 @@ slice-read-wide c =
 wide-requires : tie.Need-wide-requires Inv-loop μ-loop
 wide-requires c κs = search needs
 
+has-effects-requires : tie.Need-has-effects-requires Inv-loop μ-loop
+has-effects-requires c κs = let w = c .before .before in (start-of (head-of w) .pre .0 .loaded, below w)
+
+refresh-requires : tie.Need-refresh-requires Inv-loop μ-loop
+refresh-requires c κs =
+    let w = wide-of (c .before .before .before .before) in
+    let h = head-of w in
+    ((start-of h .pre .0 .loaded, below w, h .before .before .needs .ensures), h .loop .inv .rows)
+
+step-requires : tie.Need-step-requires Inv-loop μ-loop
+step-requires c κs = let w = wide-of (c .before .before .before .before .before .before .before) in (start-of (head-of w) .pre .0 .loaded, below w)
+
 counted-requires : tie.Need-counted-requires Inv-loop μ-loop
 counted-requires c κs =
-    let w = c .before .before in
+    let w = wide-of (c .before .before .before) in
     let h = head-of w in
     let p = start-of h .pre in
     (p .0 .loaded, below w, repairing-small (h .loop .inv) (less w) _ (w .wide .ensures) (p .0 .loaded .formed) (p .4))
 
-step-requires : tie.Need-step-requires Inv-loop μ-loop
-step-requires c κs = let w = c .before .before .before in (start-of (head-of w) .pre .0 .loaded, below w)
-
-has-effects-requires : tie.Need-has-effects-requires Inv-loop μ-loop
-has-effects-requires c κs = let w = wide-of (c .before) in (start-of (head-of w) .pre .0 .loaded, below w)
+step-requires-2 : tie.Need-step-requires-2 Inv-loop μ-loop
+step-requires-2 c κs = let w = wide-of (c .before .before .before .before) in (start-of (head-of w) .pre .0 .loaded, below w)
 
 loop-less-2 : tie.Need-loop-less-2 Inv-loop μ-loop
-loop-less-2 c = let d = c .before .before .before in steps-fewer _ _ _ _ (less (wide-of d)) (counted-of d .counted .ensures .steps)
+loop-less-2 c = steps-fewer _ _ _ _ (less (wide-of (learnt-of c .before))) (counted-of c .counted .ensures .steps)
 
 loop-again-2 : tie.Need-loop-again-2 Inv-loop μ-loop
 loop-again-2 c =
-    let d = c .before .before .before in
-    let w = wide-of d in
+    let l = learnt (learnt-of c) in
+    let w = wide-of (learnt-of c .before) in
     let h = head-of w in
-    let a = start-of h in
-    let same = step-held (act (taskIn (a .args .task .now)) (w .wide .result)) (setsOf (h .loop .ever .sets)) (sym (c .before .has-effects .ensures) ∙ c .if3 .taken) in
-    repairing-step (h .loop .inv) (less w) _ (w .wide .ensures) (a .pre .0 .loaded .formed) _ _ _ _ _ _ (h .before .before .before .painted .ensures) (h .loop .inv .rows)
-    (step-of d .step .ensures .0) same (counted-of d .counted .ensures) (step-of d .step .ensures .1)
-
-refresh-requires : tie.Need-refresh-requires Inv-loop μ-loop
-refresh-requires c κs =
-    let w = wide-of (c .before .before .before .before .before .before) in
-    let h = head-of w in
-    ((start-of h .pre .0 .loaded, below w, h .before .before .needs .ensures), h .loop .inv .rows)
-
-step-requires-2 : tie.Need-step-requires-2 Inv-loop μ-loop
-step-requires-2 c κs = let w = wide-of (c .before .before .before .before .before .before .before .before .before) in (start-of (head-of w) .pre .0 .loaded, below w)
-
-loop-less-3 : tie.Need-loop-less-3 Inv-loop μ-loop
-loop-less-3 c =
-    let d = c .before .before .before .before .before .before .before .before .before .before in
-    steps-fewer _ _ _ _ (less (wide-of d)) (counted-of d .counted .ensures .steps)
-
-loop-again-3 : tie.Need-loop-again-3 Inv-loop μ-loop
-loop-again-3 c =
-    let d = c .before .before .before .before .before .before .before .before .before .before in
-    let w = wide-of d in
-    let h = head-of w in
-    let a = start-of h in
-    let i = act (taskIn (a .args .task .now)) (w .wide .result) in
-    let K = setsOf (h .loop .ever .sets) in
-    let e : setsOf (c .step2 .result .sets) ≡ step relaxed i K = c .step2 .ensures .0 ∙ ap (λ (m : Mode). step m i K) mode-none in
-    repairing-step (h .loop .inv) (less w) _ (w .wide .ensures) (a .pre .0 .loaded .formed) _ _ _ _ _ _ (h .before .before .before .painted .ensures)
-    (rw e (c .before .before .before .refresh .ensures)) (step-of d .step .ensures .0) e (counted-of d .counted .ensures) (step-of d .step .ensures .1)
+    repairing-step (h .loop .inv) (less w) _ (w .wide .ensures) (start-of h .pre .0 .loaded .formed) _ _ _ _ _ _ (h .before .before .before .painted .ensures)
+    (l .1) (step-of c .step2 .ensures .0) (l .0) (counted-of c .counted .ensures) (step-of c .step2 .ensures .1)
 
 pub repair-from-spec : {M : Type 1} → statement M
 repair-from-spec =
@@ -288,12 +292,10 @@ repair-from-spec =
     mul-wide
     slice-read-wide
     wide-requires
-    counted-requires
-    step-requires
     has-effects-requires
-    loop-less-2
-    loop-again-2
     refresh-requires
+    step-requires
+    counted-requires
     step-requires-2
-    loop-less-3
-    loop-again-3)
+    loop-less-2
+    loop-again-2)
