@@ -58,7 +58,7 @@ fn judge_relaxed(task: &[u16], list: &[u16], known: usize) -> Verdict
     }
 }
 
-// The red-black run of a list, up to the first step that does not apply: the state there, how many steps run, and how many run for real.
+// Where the red-black run of a list stops: the state there, how many steps run, and how many run for real.
 pub struct Trace {
     pub state: State,
     pub steps: usize,
