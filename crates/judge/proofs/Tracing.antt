@@ -1,23 +1,21 @@
 -- One pass over a list. After k steps that ran red-black the sets are those of that run, the newest values are the same under every
 -- semantics, and the steps counted are those of the real run; there the newest values are the state, as long as it goes on. A step that
 -- applies for real applies red-black.
-use mathlib.Core.Path.{_≡_, refl, sym, ap, _∙_, subst}
-use mathlib.Core.Logic.{_≢_}
-use mathlib.Core.Bool.{Bool, true, false, _&&_}
+use mathlib.Core.Path.{_≡_, refl, sym, ap, _∙_}
+use mathlib.Core.Bool.{Bool, true, false}
 use mathlib.Core.List.{List, [], _∷_, _++_}
 use Prim.Native.Nat.{ℕ, suc, _+_, _<_, _≤_}
 use native.Mathlib.Numerals.{add-one}
 use native.Mathlib.Omega.{arith}
 use native.Mathlib.Decide.{ℕ-discrete}
-use borrow.Author.Tests.{eq-eqb, ne-eqb}
-use lib.Dec.{T, eqb}
+use lib.Dec.{T}
 use lib.ListN.{length, getD, take, drop, take-append-drop}
 use lib.Seq.{drop-cons, take-suc, length-take-le, take-all}
-use Rattle.planning.specs.Record.{Fact, Task}
+use Rattle.planning.specs.Record.{Task}
 use Rattle.planning.specs.Runs.{State, Mode, has, holds, step, variables, actions, act, count, relaxed, real, black, initial, goals, run, stepsRun, judged, runBy, stepsBy}
 use Rattle.planning.specs.Newest.{Values, initialValues, newer, tracked, alone, redBlackSteps, stopsIn}
 use Rattle.planning.proofs.Tests.{T→true, true→T}
-use Rattle.planning.proofs.Facts.{_⊆_, holds→sub, sub→holds}
+use Rattle.planning.proofs.Facts.{holds→sub, sub→holds}
 use Rattle.planning.proofs.Formed.{Formed, sorted-has, goals-sorted}
 use Rattle.planning.proofs.Steps.{run-mono}
 use Rattle.planning.proofs.Prefixes.{runBy-behind, stepsBy-on, stepsBy-fails, stepsBy-stopped, stepsBy-le}

@@ -10,7 +10,7 @@ use lib.Seq.{drop-cons, set-at, take-at}
 use Rattle.planning.specs.Basics.{Check, refuse, andThen, inOrder, Answer, refused, done, answer}
 use Rattle.planning.specs.Record.{Task, taskOf, recordCheck}
 use Rattle.planning.specs.Runs.{real, variables, act, initial, stepsRun}
-use Rattle.planning.specs.Newest.{Values, Progress as Result, progress, tabulate, newestValues, redBlackSteps, stopsIn}
+use Rattle.planning.specs.Newest.{Progress as Result, progress, tabulate, newestValues, redBlackSteps, stopsIn}
 use Rattle.planning.specs.Calls.{lengthCheck, entriesCheck, roomCheck, lent, newestCall, newestList}
 use Rattle.planning.proofs.Checks.{inOrder-pass, inOrder-++}
 use Rattle.planning.proofs.Newest.{tabulate-length}
@@ -21,7 +21,7 @@ use Rattle.state.specs.Sets.{valuesOf}
 use Rattle.judge.specs.Answers.{listCheck}
 use Rattle.newest.specs.declared.Board.{Board}
 use Rattle.newest.specs.declared.Progress.the-variants.{Run}
-use Rattle.newest.specs.Answers.{answerOf, emptyBy, shownOf, Shows, Tells, Called}
+use Rattle.newest.specs.Answers.{emptyBy, shownOf, Shows, Tells, Called}
 
 -- one number more in the table
 tabulate-more : (n : ℕ) (f : ℕ → ℕ) → tabulate (suc n) f ≡ tabulate n f ++ (f n ∷ [])

@@ -9,7 +9,7 @@ use Rattle.planning.specs.Record.{Task, taskOf, recordCheck}
 use Rattle.planning.specs.Relaxed.{relaxedPlan}
 use Rattle.planning.specs.Painting.{acyclicCheck, returnCheck}
 use Rattle.planning.specs.Repair.{repaired}
-use Rattle.planning.specs.Calls.{capacityOf, lengthCheck, relaxedCheck, goalsCheck, roomCheck, planned, Planned as Result}
+use Rattle.planning.specs.Calls.{lengthCheck, relaxedCheck, goalsCheck, roomCheck, planned, Planned as Result}
 use Rattle.answers.specs.declared.Planned.{Planned}
 use Rattle.answers.specs.declared.Planned.the-variants.{Plan, Refused}
 use Rattle.answers.specs.Plans.{answerOf}
@@ -45,7 +45,3 @@ Painted given t l room = Drafted t (paintingCheck t ∷ sourceCheck given t l �
 
 abbrev pub Called : Bool → List ℕ → List ℕ → ℕ → List ℕ → Planned → Type 0
 Called given s l room = Drafted (taskOf s) (recordCheck s ∷ paintingCheck (taskOf s) ∷ sourceCheck given (taskOf s) l ∷ []) (source given (taskOf s) l) room
-
--- what both lists lend
-abbrev pub roomIn : List ℕ → List ℕ → ℕ
-roomIn plan work = capacityOf (length plan) (length work)

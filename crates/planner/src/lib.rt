@@ -17,7 +17,8 @@ ghost use Rattle.planning.specs.Existence.{Demand3, Bounded};
 ghost use Rattle.task.specs.Task.{taskIn, Loaded};
 ghost use Rattle.task.specs.Links.{Prepared};
 ghost use Rattle.answers.specs.Plans.{answerOf, stepsOf};
-ghost use Rattle.planner.specs.Drafts.{Drafted, Sourced, Painted, Called, roomIn};
+ghost use Rattle.repair.specs.Answers.{roomIn};
+ghost use Rattle.planner.specs.Drafts.{Drafted, Sourced, Painted, Called};
 
 // The repair of a relaxed plan in the front of the plan list; 11 if it is longer than the capacity.
 fn draft(task: &[u16], list: &[u16], plan: &mut [u16], work: &mut [u16]) -> Planned
@@ -128,7 +129,8 @@ fn steps_of(answer: Planned) -> usize
 
 // What stands behind the plan, and in the work list: 65,535.
 fn finish(answer: Planned, plan: &mut [u16], work: &mut [u16])
-    ensures { λ _. ⌜ (now (plan .exit) ≡ lent (answerOf answer) (length (now (plan .entry))) (planIn (answerOf answer) (now (plan .entry)))) × (now (work .exit) ≡ workList (length (now (work .entry)))) ⌝ }
+    ensures { λ _. ⌜ now (plan .exit) ≡ lent (answerOf answer) (length (now (plan .entry))) (planIn (answerOf answer) (now (plan .entry))) ⌝ }
+    ensures { λ _. ⌜ now (work .exit) ≡ workList (length (now (work .entry))) ⌝ }
 {
     lists::blank_from(plan, steps_of(answer));
     lists::blank(work);

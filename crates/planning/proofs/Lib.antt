@@ -7,11 +7,11 @@ pub mod Checks
 pub mod Below
 pub mod Graph
 pub mod Facts
+pub mod Prefixes
 pub mod Steps
 pub mod Fields
 pub mod Formed
 pub mod Plans
-pub mod Prefixes
 pub mod Newest
 pub mod Forward
 pub mod Achievers

@@ -2,10 +2,10 @@
 -- is the only one of a variable that acts as black (`set-alone`). They do not depend on the painting (`newest-any`). In a real run all
 -- variables act as black, so that the newest values are the real state (`real-state`); hence one run of any semantics tells how many steps
 -- run for real, tested on its newest values (`real-steps`), and that state after each of them.
-use Prim.Native.Nat.{ℕ, zero, suc, _+_, _≤_, _<_}
+use Prim.Native.Nat.{ℕ, zero, suc, _+_, _<_}
 use mathlib.Core.Path.{_≡_, refl, sym, ap, _∙_}
 use mathlib.Core.Logic.{_⊎_, inl, inr}
-use mathlib.Core.Bool.{Bool, true, false, not, _&&_}
+use mathlib.Core.Bool.{Bool, true, false, not}
 use mathlib.Core.List.{List, [], _∷_, _++_}
 use mathlib.Core.Option.{Option, none, some}
 use lib.Dec.{T, eqb, eqb→eq, eqb-refl, ltb, lt→ltb}
@@ -14,7 +14,7 @@ use native.Mathlib.Omega.{arith}
 use Rattle.planning.specs.Record.{Fact, Action, Task}
 use Rattle.planning.specs.Runs.{State, Mode, has, touches, look, holds, step, real, variables, variable, count, act, black, initial, run, stepsRun, runBy, stepsBy}
 use Rattle.planning.specs.Newest.{Values, initialValues, newer, Tracked, tracked, track, alone, tabulate}
-use Rattle.planning.proofs.Tests.{T→true, true→T, F→false, and-l, and-r, and-i}
+use Rattle.planning.proofs.Tests.{T→true, F→false, and-r, and-i}
 use Rattle.planning.proofs.Facts.{has-here, has-there, has→touches, touches→has, look-some, look-none, look-is, Func}
 use Rattle.planning.proofs.Steps.{step-eff, step-keep, step-cases}
 use Rattle.planning.proofs.Formed.{Formed, sorted-has, sorted-func}

@@ -1,12 +1,12 @@
 -- The first steps of a list, over any semantics: how many run is told of them alone once one fails, and goes on with the next step as
 -- long as none does.
-use Prim.Native.Nat.{ℕ, zero, suc, _+_, _≤_, _<_}
+use Prim.Native.Nat.{ℕ, suc, _+_, _≤_, _<_}
 use mathlib.Core.Path.{_≡_, refl, sym, ap, _∙_}
 use mathlib.Core.Bool.{Bool, true, false}
 use mathlib.Core.List.{List, [], _∷_, _++_}
 use lib.ListN.{length}
 use native.Mathlib.Omega.{arith}
-use Rattle.planning.specs.Runs.{runBy, runsBy, stepsBy}
+use Rattle.planning.specs.Runs.{runBy, stepsBy}
 
 module _ {S : Type 0} (next : ℕ → S → S) where
   pub runBy-append : (l k : List ℕ) (s : S) → runBy next (l ++ k) s ≡ runBy next k (runBy next l s)

@@ -5,12 +5,11 @@ use mathlib.Core.Bool.{Bool, true, false}
 use mathlib.Core.List.{List, [], _∷_, _++_}
 use Prim.Native.Nat.{ℕ, _+_, _*_, _<_, _≤_}
 use native.Mathlib.Omega.{arith}
-use borrow.Author.Tests.{eqb-true, eqb-false, eq-eqb, ne-eqb}
 use lib.Dec.{eqb}
 use lib.ListN.{length, length-append}
 use Rattle.planning.specs.Basics.{done}
 use Rattle.planning.specs.Record.{Task}
-use Rattle.planning.specs.Runs.{State, holds, step, real, actions, act, initial, goals, runBy, stepsBy, run, runs, stepsRun, isPlan, costOf, allBelow}
+use Rattle.planning.specs.Runs.{holds, step, real, actions, act, initial, goals, runBy, stepsBy, run, runs, stepsRun, isPlan, costOf, allBelow}
 use Rattle.planning.specs.Newest.{Values, initialValues, newer, alone}
 use Rattle.planning.specs.Calls.{planned}
 use Rattle.planning.proofs.Tests.{T→true}

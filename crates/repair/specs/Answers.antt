@@ -5,9 +5,13 @@ use Prim.Native.Nat.{ℕ, _≤_}
 use lib.ListN.{length, take}
 use Rattle.planning.specs.Basics.{answer}
 use Rattle.planning.specs.Record.{Task}
-use Rattle.planning.specs.Calls.{planned, roomCheck}
+use Rattle.planning.specs.Calls.{capacityOf, planned, roomCheck}
 use Rattle.answers.specs.declared.Planned.{Planned}
 use Rattle.answers.specs.Plans.{answerOf}
+
+-- what both lists lend
+abbrev pub roomIn : List ℕ → List ℕ → ℕ
+roomIn plan work = capacityOf (length plan) (length work)
 
 -- the answer r for the list l, if there is room for it, or 11; where it fits it fills the front of d
 pub record Held (t : Task) (l d : List ℕ) (room : ℕ) (r : Planned) : Type 0 where

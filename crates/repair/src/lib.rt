@@ -14,14 +14,13 @@ ghost use Rattle.planning.specs.Basics.{done, refused};
 ghost use Rattle.planning.specs.Runs.{holds, variables, actions, act, black, goals};
 ghost use Rattle.planning.specs.Newest.{alone};
 ghost use Rattle.planning.specs.Repair.{blackMet, repaired};
-ghost use Rattle.planning.specs.Calls.{capacityOf};
 ghost use Rattle.task.specs.Task.{taskIn, Loaded};
 ghost use Rattle.task.specs.Links.{Prepared};
 ghost use Rattle.state.specs.Sets.{setsOf, valuesOf};
 ghost use Rattle.paths.specs.Paths.{Memo, Put};
 ghost use Rattle.passes.specs.Passes.{factsOf, Entries, Blank};
 ghost use Rattle.answers.specs.Plans.{answerOf};
-ghost use Rattle.repair.specs.Answers.{Held};
+ghost use Rattle.repair.specs.Answers.{roomIn, Held};
 ghost use Rattle.repair.specs.Counting.{Small, Few, Onward, judgedBy};
 ghost use Rattle.repair.specs.Repairs.{Present, Wanted, Lent, filled, moved, stepsFor, lastMoves, stageOf};
 
@@ -311,7 +310,7 @@ fn repair_from(
 // real run; 11 if it is longer than the capacity.
 pub fn repair(task: &[u16], relaxed: &[u16], plan: &mut [u16], work: &mut [u16]) -> Planned
     requires { ⌜ Prepared (now task) × Entries (taskIn (now task)) (now relaxed) ⌝ }
-    ensures { λ r. ⌜ Held (taskIn (now (task .entry))) (repaired (taskIn (now (task .entry))) (now (relaxed .entry))) (now (plan .exit)) (capacityOf (length (now (plan .entry))) (length (now (work .entry)))) r ⌝ }
+    ensures { λ r. ⌜ Held (taskIn (now (task .entry))) (repaired (taskIn (now (task .entry))) (now (relaxed .entry))) (now (plan .exit)) (roomIn (now (plan .entry)) (now (work .entry))) r ⌝ }
 {
     let room = lists::capacity(lists::lesser(plan.len(), work.len()));
     let mut memo = [0u16; paths::MEMO];
