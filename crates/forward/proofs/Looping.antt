@@ -1,6 +1,6 @@
 -- One turn of the forward run. The lowest ready action is taken out of the ready ones for good: if it adds a fact it is the
 -- definition's next action, else it never will.
-use mathlib.Core.Path.{_≡_, sym, ap, _∙_, subst, fun-ext}
+use mathlib.Core.Path.{_≡_, sym, ap, _∙_, subst}
 use mathlib.Core.Logic.{_⊎_, inl, inr, _≢_}
 use mathlib.Core.Bool.{true, false, not}
 use mathlib.Core.List.{List, []}
@@ -11,7 +11,7 @@ use lib.Dec.{T, T-not, not-T, eqb, eqb-refl}
 use lib.ListN.{length, set, replicate}
 use Rattle.planning.specs.Basics.{first, tally}
 use Rattle.planning.specs.Record.{Task}
-use Rattle.planning.specs.Runs.{State, Mode, has, holds, step, relaxed, actions, act, initial, goals}
+use Rattle.planning.specs.Runs.{State, has, holds, step, relaxed, actions, act, initial, goals}
 use Rattle.planning.specs.Relaxed.{adds}
 use Rattle.planning.proofs.Tests.{and-l, and-r}
 use Rattle.planning.proofs.Below.{tally-le}
@@ -19,19 +19,13 @@ use Rattle.planning.proofs.Facts.{_⊆_, holds→sub, sub→holds}
 use Rattle.planning.proofs.Steps.{step-eff, step-keep, step-cases}
 use Rattle.task.specs.Task.{taskIn, Loaded}
 use Rattle.state.specs.declared.Goals.{Goals}
-use Rattle.state.specs.Sets.{setsOf, modeOf, GoalsOf}
-use Rattle.state.proofs.Members.{inSet-empty}
+use Rattle.state.specs.Sets.{setsOf, GoalsOf}
 use Rattle.forward.specs.declared.Ran.{Ran}
 use Rattle.forward.specs.Waiting.{reaches, member, Passing, Unmet, Lowest, Without, Noted, Settled}
 use Rattle.forward.specs.Running.{RanOf, Looping}
 use Rattle.forward.proofs.Places.{passing-more}
 use Rattle.forward.proofs.Chains.{tally-fewer, passing-up, sites-none, sites-first, sites-leave}
 use Rattle.forward.proofs.Running.{going-start, going-on, going-take, going-drop, ended-met, ended-none, goals-met, goals-open}
-
--- all variables act as red
-pub modeOf-zero : modeOf 0 ≡ relaxed
-unfolding modeOf
-modeOf-zero = fun-ext (λ v. inSet-empty v)
 
 -- What falls with each turn: actions whose effects are not all reached, then ready actions.
 unfoldable pub left : List ℕ → List ℕ → List ℕ → ℕ
@@ -110,10 +104,7 @@ module _ {task : List ℕ} {g : Goals} {fst plan sets work ready : List ℕ} {n 
             pub take-room : n < 1024
             take-room = going-on (L .loaded .formed) (L .going) i unmet-goal is-next
 
-            module _ (sets′ : List ℕ) (e : setsOf sets′ ≡ step (modeOf 0) (act t i) s) where
-              stepped : setsOf sets′ ≡ step relaxed (act t i) s
-              stepped = e ∙ ap (λ (m : Mode). step m (act t i) s) modeOf-zero
-
+            module _ (sets′ : List ℕ) (stepped : setsOf sets′ ≡ step relaxed (act t i) s) where
               grows : s ⊆ setsOf sets′
               grows v d x = subst (λ (z : State). T (z v d)) (sym stepped) (step-keep relaxed (act t i) s v d x (λ z _. z))
 

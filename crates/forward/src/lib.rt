@@ -223,7 +223,7 @@ fn run_on(
         if note(&s.sets, task, i, first) {
             plan[steps] = i as u16;
             steps += 1;
-            s = s.step(task, i, 0);
+            s = s.step(task, i);
             wake(&s.sets, task, work, ready, i);
         }
     }

@@ -17,6 +17,7 @@ use Rattle.planning.specs.Runs.{State, holds, step, act, actions, initial, goal
 use Rattle.planning.specs.Calls.{lengthCheck, entriesCheck, relaxedFault, relaxedCheck}
 use Rattle.planning.proofs.Calls.{relaxedCheck-of}
 use Rattle.judge.specs.Answers.{leading}
+use Rattle.judge.specs.Traces.{Relaxes}
 use Rattle.judge.proofs.Lists.{leading-cons, leading-none, leading-below, entries-below, allBelow-of, short-checked}
 use Rattle.judge.proofs.Going.{stepsRun-pass, stepsRun-stop, runs-pass, run-more}
 
@@ -101,3 +102,8 @@ module _ (t : Task) (l : List ℕ) (n : ℕ) (e : n ≡ leading (actions t) l) w
         faulty : (eqb n (length l) ≡ false) ⊎ (j .plan ≡ false) → Faulty t (initial t) l n
         faulty (inl q) = let a = eqb-false n (length l) q in inl (omega arith)
         faulty (inr q) = inr (front-run false (sym plan-is ∙ q))
+
+-- before the first step
+pub relaxes-none : (t : Task) (l : List ℕ) (s : State) → s ≡ initial t → Relaxes t l s 0
+unfolding runBy
+relaxes-none t l s e = record { runs = omega arith; held = e }

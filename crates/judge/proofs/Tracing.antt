@@ -16,13 +16,14 @@ use Rattle.planning.specs.Runs.{State, Mode, has, holds, step, variables, actio
 use Rattle.planning.specs.Newest.{Values, initialValues, newer, tracked, alone, redBlackSteps, stopsIn}
 use Rattle.planning.proofs.Tests.{T→true, true→T}
 use Rattle.planning.proofs.Facts.{holds→sub, sub→holds}
-use Rattle.planning.proofs.Formed.{Formed, sorted-has, goals-sorted}
+use Rattle.planning.proofs.Formed.{Formed, sorted-has, sorted-func, goals-sorted}
 use Rattle.planning.proofs.Steps.{run-mono}
 use Rattle.planning.proofs.Prefixes.{runBy-behind, stepsBy-on, stepsBy-fails, stepsBy-stopped, stepsBy-le}
 use Rattle.planning.proofs.Newest.{newestAfter, track-sets, track-newest, real-applies, real-holds}
-use Rattle.state.specs.Sets.{further}
+use Rattle.state.specs.Sets.{further, inColours}
 use Rattle.state.proofs.Running.{further-fails, further-stopped, further-steps}
-use Rattle.judge.specs.Traces.{StopsAs, RunsAs}
+use Rattle.state.proofs.Colours.{colours-step, colours-initial, step-held}
+use Rattle.judge.specs.Traces.{StopsAs, RunsAs, Relaxes}
 use Rattle.judge.proofs.Modes.{redBlack-further, relaxed-further, judged-of}
 
 module _ (t : Task) (l : List ℕ) where
@@ -143,24 +144,64 @@ module _ (t : Task) (l : List ℕ) where
     unfolding stopsIn tracked
     traced-newest e = p .newest ∙ sym (track-newest (act t) (black t) (take (redBlackSteps t l) l) (tracked t) ∙ rw (← e) refl)
 
-pub stops-few : (t : Task) (l : List ℕ) (s : State) (n : ℕ) → StopsAs t l s n → n ≤ length l
+-- The pass keeps the values held, which are those of the relaxed run, and reads the red-black state off them and the newest values.
+module _ (t : Task) (l : List ℕ) where
+  abbrev shown : State → Values → State
+  shown = inColours (black t)
+
+  pub record Following (s : State) (f : Values) (k runs : ℕ) : Type 0 where
+    pub traced : Tracing t l (shown s f) f k runs
+    pub held : s ≡ run (act t) relaxed (take k l) (initial t)
+
+  pub following-start : (s : State) (f : Values) → s ≡ initial t → f ≡ initialValues t → Following s f 0 0
+  unfolding runBy
+  following-start s f es ef = record { traced = tracing-start t l (shown s f) f (rw (es, ef) (colours-initial t)) ef; held = es }
+
+  module _ (F : Formed t) (s : State) (f : Values) (k runs : ℕ) (p : Following s f k runs) (h : k < length l) (i : ℕ) (ei : i ≡ getD l k 0) where
+    pub following-turn : (r : ℕ) (s′ : State) (f′ : Values) → r ≡ further (holds (alone f) (act t i .pre)) runs k → holds (shown s f) (act t i .pre) ≡ true
+        → s′ ≡ step relaxed (act t i) s → f′ ≡ newer (act t i) f → Following s′ f′ (k + 1) r
+    following-turn r s′ f′ er ha es ef = record {
+      traced = tracing-turn t l F (shown s f) f k runs (p .traced) h i ei r (shown s′ f′) f′ er ha
+          (rw (es, ef) (colours-step (black t) (act t i) (sorted-func (variables t) (count t) 0 (act t i .eff) (F .eff-sorted i)) s f)) ef;
+      held = rw (one-more t l F (shown s f) f k runs (p .traced) h i ei, runBy-behind (λ i. step relaxed (act t i)) (take k l) i (initial t), ← p .held) es;
+    }
+
+    -- where every effect of the action is held
+    pub following-held : (r : ℕ) (f′ : Values) → r ≡ further (holds (alone f) (act t i .pre)) runs k → holds (shown s f) (act t i .pre) ≡ true
+        → holds s (act t i .eff) ≡ true → f′ ≡ newer (act t i) f → Following s f′ (k + 1) r
+    following-held r f′ er ha he = following-turn r s f′ er ha (step-held (act t i) s he)
+
+  -- what the pass tells, once it has stopped at k
+  module _ (s : State) (f : Values) (k r : ℕ) (p : Following s f k r) (e : k ≡ redBlackSteps t l) where
+    pub follows-painted : StopsAs t l s f k
+    follows-painted = record { steps = e; state = traced-sets t l (shown s f) f k r (p .traced) e }
+
+    pub follows-real : (n : ℕ) → n ≡ stepsRun (act t) real l (initial t) → RunsAs t l f n
+    follows-real n q = record { runs = q; newest = traced-newest t l (shown s f) f k r (p .traced) e }
+
+    pub follows-relaxed : Relaxes t l s k
+    unfolding redBlackSteps
+    follows-relaxed = record { runs = omega (arith, e, relaxed-further t l); held = p .held }
+
+pub stops-few : (t : Task) (l : List ℕ) (s : State) (f : Values) (n : ℕ) → StopsAs t l s f n → n ≤ length l
 unfolding redBlackSteps
-stops-few t l s n p = omega (arith, p .steps, stepsBy-le (λ i s. holds s (act t i .pre)) (λ i. step (black t) (act t i)) l (initial t))
+stops-few t l s f n p = omega (arith, p .steps, stepsBy-le (λ i s. holds s (act t i .pre)) (λ i. step (black t) (act t i)) l (initial t))
 
 pub runs-few : (t : Task) (l : List ℕ) (f : Values) (n : ℕ) → RunsAs t l f n → n ≤ length l
 runs-few t l f n p = omega (arith, p .runs, stepsBy-le (λ i s. holds s (act t i .pre)) (λ i. step real (act t i)) l (initial t))
 
 -- the verdicts where the pass went through the whole list
 module _ (t : Task) (F : Formed t) (l : List ℕ) (below : (j : ℕ) → j < length l → getD l j 0 < actions t) where
-  pub painted-short : (s : State) (n : ℕ) → StopsAs t l s n → n < length l → record { steps = n; plan = false } ≡ judged t (black t) l
+  pub painted-short : (s : State) (f : Values) (n : ℕ) → StopsAs t l s f n → n < length l → record { steps = n; plan = false } ≡ judged t (black t) l
   unfolding redBlackSteps
-  painted-short s n p h = judged-of t (black t) l below n (p .steps) false (λ e. absurd (omega arith)) (λ e. refl)
+  painted-short s f n p h = judged-of t (black t) l below n (p .steps) false (λ e. absurd (omega arith)) (λ e. refl)
 
-  pub painted-whole : (s : State) (n : ℕ) → StopsAs t l s n → length l ≤ n → (b : Bool) → b ≡ holds s (goals t) → record { steps = n; plan = b } ≡ judged t (black t) l
+  pub painted-whole : (s : State) (f : Values) (n : ℕ) → StopsAs t l s f n → length l ≤ n → (b : Bool) → b ≡ holds (inColours (black t) s f) (goals t)
+      → record { steps = n; plan = b } ≡ judged t (black t) l
   unfolding redBlackSteps stopsIn tracked
-  painted-whole s n p h b eb =
+  painted-whole s f n p h b eb =
       let e : take (redBlackSteps t l) l ≡ l = take-all (redBlackSteps t l) l (omega (arith, p .steps)) in
-      let q : s ≡ run (act t) (black t) l (initial t) = p .sets ∙ track-sets (act t) (black t) (take (redBlackSteps t l) l) (tracked t) ∙ rw e refl in
+      let q : inColours (black t) s f ≡ run (act t) (black t) l (initial t) = p .state ∙ track-sets (act t) (black t) (take (redBlackSteps t l) l) (tracked t) ∙ rw e refl in
       judged-of t (black t) l below n (p .steps) b (λ x. eb ∙ rw q refl)
       (λ x. absurd (x (omega (arith, p .steps, stepsBy-le (λ i s. holds s (act t i .pre)) (λ i. step (black t) (act t i)) l (initial t)))))
 
@@ -175,8 +216,3 @@ module _ (t : Task) (F : Formed t) (l : List ℕ) (below : (j : ℕ) → j < len
       let g : holds (alone f) (goals t) ≡ holds (run (act t) real l (initial t)) (goals t) = rw q
       (sym (real-holds t F l (goals t) (λ v d x. sorted-has (variables t) (count t) 0 (goals t) (goals-sorted t F) v d x .var-below))) in
       judged-of t real l below n (p .runs) b (λ x. eb ∙ g) (λ x. absurd (x (omega (arith, p .runs, stepsBy-le (λ i s. holds s (act t i .pre)) (λ i. step real (act t i)) l (initial t)))))
-
--- the steps that run red-black run relaxed
-pub relaxed-known : (t : Task) (l : List ℕ) (n : ℕ) → n ≡ redBlackSteps t l → n ≤ stepsRun (act t) relaxed l (initial t)
-unfolding redBlackSteps
-relaxed-known t l n e = omega (arith, e, relaxed-further t l)

@@ -6,7 +6,7 @@ use lib.Dec.{ltb}
 use lib.ListN.{length, getD}
 use Rattle.planning.specs.Basics.{Check, inOrder, Answer, refused, done, answer}
 use Rattle.planning.specs.Record.{Task}
-use Rattle.planning.specs.Runs.{Judged, Judgement, judgement, actions, act, initial, relaxed, stepsRun}
+use Rattle.planning.specs.Runs.{Judged, Judgement, judgement, actions}
 use Rattle.planning.specs.Calls.{lengthCheck, entriesCheck, relaxedCheck}
 use Rattle.answers.specs.declared.Refusal.{Refusal}
 use Rattle.task.specs.Task.{taskIn, Loaded}
@@ -39,10 +39,6 @@ pub record Ready (task l : List ℕ) : Type 0 where
   pub loaded : Loaded task
   pub short : length l ≤ 32768
   pub entries : Entries (taskIn task) l
-
--- the first n steps of the list run relaxed
-abbrev pub Runs : List ℕ → List ℕ → ℕ → Type 0
-Runs task l n = n ≤ stepsRun (act (taskIn task)) relaxed l (initial (taskIn task))
 
 -- the checks of a list of actions, and of a caller's relaxed plan
 abbrev pub listCheck : Task → List ℕ → Check

@@ -1,5 +1,5 @@
 // Judging: for each of the three semantics, the steps of a list that run and whether it is a plan. One pass red-black tells the real run as
-// well, by the newest values; the relaxed run follows where the list is no red-black plan.
+// well, by the newest values; the relaxed run goes on where the red-black one stops.
 use answers::Checked;
 use answers::Number;
 use answers::Refusal;
@@ -16,8 +16,8 @@ ghost use Rattle.planning.specs.Calls.{judgeCall};
 ghost use Rattle.answers.specs.Answers.{valueOf};
 ghost use Rattle.task.specs.Task.{taskIn, Loaded};
 ghost use Rattle.state.specs.Sets.{setsOf, valuesOf};
-ghost use Rattle.judge.specs.Answers.{judgedOf, judgementOf, answerOf, refusalOf, Ready, Runs, leading, listCheck, callerCheck, judgedList};
-ghost use Rattle.judge.specs.Traces.{Traces, StopsAs, RunsAs};
+ghost use Rattle.judge.specs.Answers.{judgedOf, judgementOf, answerOf, refusalOf, Ready, leading, listCheck, callerCheck, judgedList};
+ghost use Rattle.judge.specs.Traces.{Traces, StopsAs, RunsAs, Relaxes};
 
 // Under one semantics (3.11): how many steps run, and whether the list is a plan.
 pub struct Verdict {
@@ -31,23 +31,24 @@ pub struct Verdicts {
     pub real: Verdict,
 }
 
-// The relaxed run. The first `known` steps are known to apply, and are not tested.
-fn judge_relaxed(task: &[u16], list: &[u16], known: usize) -> Verdict
-    requires { ⌜ Ready (now task) (now list) × Runs (now task) (now list) known ⌝ }
+// The relaxed run from the state behind the first `from` steps, which run. An action whose effects are held changes nothing.
+fn judge_relaxed(task: &[u16], list: &[u16], start: State, from: usize) -> Verdict
+    requires { ⌜ Ready (now task) (now list) × Relaxes (taskIn (now task)) (now list) (setsOf (start .sets)) from ⌝ }
     ensures { λ r. ⌜ judgedOf r ≡ judged (taskIn (now (task .entry))) relaxed (now (list .entry)) ⌝ }
 {
-    let mut s = State::initial(task);
-    let mut k: usize = 0;
+    let mut s = start;
+    let mut k = from;
     while k < list.len() {
         let i = list[k] as usize;
-        if known <= k {
-            if !state::applies(&s.sets, task, i) {
-                let steps = k as u32;
-                return Verdict { steps, plan: false };
-            }
+        if !state::applies(&s.sets, task, i) {
+            let steps = k as u32;
+            return Verdict { steps, plan: false };
         }
-        s = s.step(task, i, 0);
         k += 1;
+        if state::has_effects(&s.sets, task, i) {
+            continue;
+        }
+        s = s.step(task, i);
     }
     let g = Goals::load(task);
     let n = g.count;
@@ -65,7 +66,8 @@ pub struct Trace {
     pub runs: usize,
 }
 
-// As long as every step ran for real the newest values are the real state, so that one pass tells both runs.
+// As long as every step ran for real the newest values are the real state, so that one pass tells both runs. Where an action's effects are
+// held only the newest values step.
 pub fn follow(task: &[u16], list: &[u16]) -> Trace
     requires { ⌜ Ready (now task) (now list) ⌝ }
     ensures { λ r. ⌜ Traces (taskIn (now (task .entry))) (now (list .entry)) r ⌝ }
@@ -76,12 +78,17 @@ pub fn follow(task: &[u16], list: &[u16]) -> Trace
     let mut runs: usize = 0;
     while k < list.len() {
         let i = list[k] as usize;
-        runs = state::further(&s.newest, task, i, runs, k);
-        if runs <= k && !state::applies(&s.sets, task, i) {
+        runs = state::further(&s.newest.values, task, i, runs, k);
+        if runs <= k && !state::applies_in_colours(paint, &s.sets, &s.newest.values, task, i) {
             break;
         }
-        s = s.step(task, i, paint);
         k += 1;
+        if state::has_effects(&s.sets, task, i) {
+            let newest = s.newest;
+            s.newest = newest.step(task, i);
+            continue;
+        }
+        s = s.step(task, i);
     }
     Trace {
         state: s,
@@ -90,9 +97,9 @@ pub fn follow(task: &[u16], list: &[u16]) -> Trace
     }
 }
 
-// The red-black verdict, from the sets where the run stops.
-fn judge_painted(task: &[u16], list: &[u16], sets: &[u64; 64], steps: usize) -> Verdict
-    requires { ⌜ Ready (now task) (now list) × StopsAs (taskIn (now task)) (now list) (setsOf (now sets)) steps ⌝ }
+// The red-black verdict, from the state where the run stops.
+fn judge_painted(task: &[u16], list: &[u16], s: State, steps: usize) -> Verdict
+    requires { ⌜ Ready (now task) (now list) × StopsAs (taskIn (now task)) (now list) (setsOf (s .sets)) (valuesOf (s .newest .values)) steps ⌝ }
     ensures { λ r. ⌜ judgedOf r ≡ judged (taskIn (now (task .entry))) (black (taskIn (now (task .entry)))) (now (list .entry)) ⌝ }
 {
     if steps < list.len() {
@@ -101,11 +108,12 @@ fn judge_painted(task: &[u16], list: &[u16], sets: &[u64; 64], steps: usize) -> 
             plan: false,
         };
     }
+    let paint = state::painted(task);
     let g = Goals::load(task);
     let n = g.count;
     Verdict {
         steps: steps as u32,
-        plan: state::all_hold(sets, &g.facts, 0, n),
+        plan: state::all_in_colours(paint, &s.sets, &s.newest.values, &g.facts, 0, n),
     }
 }
 
@@ -128,14 +136,15 @@ fn judge_real(task: &[u16], list: &[u16], newest: &[u8; 64], runs: usize) -> Ver
     }
 }
 
-// The three verdicts. The steps that run red-black need no test in the relaxed run, and a red-black plan is a relaxed one.
+// The three verdicts. A red-black plan is a relaxed one; else the relaxed run goes on where the red-black one stops.
 fn judge_all(task: &[u16], list: &[u16]) -> Verdicts
     requires { ⌜ Ready (now task) (now list) ⌝ }
     ensures { λ r. ⌜ judgementOf r ≡ judgement (taskIn (now (task .entry))) (now (list .entry)) ⌝ }
 {
     let x = follow(task, list);
-    let red_black = judge_painted(task, list, &x.state.sets, x.steps);
-    let real = judge_real(task, list, &x.state.newest, x.runs);
+    let s = x.state;
+    let red_black = judge_painted(task, list, s, x.steps);
+    let real = judge_real(task, list, &s.newest.values, x.runs);
     if red_black.plan {
         return Verdicts {
             relaxed: red_black,
@@ -143,7 +152,7 @@ fn judge_all(task: &[u16], list: &[u16]) -> Verdicts
             real,
         };
     }
-    let relaxed = judge_relaxed(task, list, x.steps);
+    let relaxed = judge_relaxed(task, list, s, x.steps);
     Verdicts {
         relaxed,
         red_black,
@@ -198,7 +207,7 @@ pub fn check_relaxed(task: &[u16], list: &[u16]) -> Number
         });
     }
     let n = leading(list, task::actions(task));
-    let v = judge_relaxed(task, &list[..n], 0);
+    let v = judge_relaxed(task, &list[..n], State::initial(task), 0);
     if v.plan && n == list.len() {
         return Number::Value(n as u32);
     }

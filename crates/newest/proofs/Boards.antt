@@ -71,7 +71,7 @@ module _ (t : Task) (l : List ℕ) (room : ℕ) where
         empty-shows (answer asked (progress t l)) (newestValues t l) room (record { number = 11; place = room }) (rw q refl)
 
     pub values-told : (b : Board) (n k : ℕ) → b .answer ≡ Run n k → b .count ≡ variables t → b .count ≤ 64 → b .count ≤ room → n ≡ redBlackSteps t l
-        → k ≡ stepsRun (act t) real l (initial t) → valuesOf (b .state .newest) ≡ stopsIn t l .newest → Tells t l room b
+        → k ≡ stepsRun (act t) real l (initial t) → valuesOf (b .newest .values) ≡ stopsIn t l .newest → Tells t l room b
     unfolding answer andThen inOrder progress newestValues
     values-told b n k ea ec h₁ h₂ en ek ef =
         let q : asked ≡ none = rest ∙ rw (room-fits (variables t) room (omega arith)) refl in
@@ -87,12 +87,12 @@ module _ (s l : List ℕ) (room : ℕ) where
   record-passed e t q b T = rw (inOrder-pass (recordCheck s) (lengthCheck l ∷ entriesCheck (taskOf s) l ∷ roomCheck (variables (taskOf s)) room ∷ []) e) (rw q at T)
 
   -- the list, filled from the board and blanked behind it
-  pub list-after : (b : Board) → Called s l room b → (d e g : List ℕ) → length d ≡ room → e ≡ tabulate (b .count) (valuesOf (b .state .newest)) ++ drop (b .count) d
+  pub list-after : (b : Board) → Called s l room b → (d e g : List ℕ) → length d ≡ room → e ≡ tabulate (b .count) (valuesOf (b .newest .values)) ++ drop (b .count) d
       → g ≡ take (b .count) e ++ replicate (length e - b .count) 65535 → g ≡ newestList s l room
   unfolding newestList lent
   list-after b C d e g hd he hg =
-      let front : List ℕ = tabulate (b .count) (valuesOf (b .state .newest)) in
-      let long : length front ≡ b .count = tabulate-length (b .count) (valuesOf (b .state .newest)) in
+      let front : List ℕ = tabulate (b .count) (valuesOf (b .newest .values)) in
+      let long : length front ≡ b .count = tabulate-length (b .count) (valuesOf (b .newest .values)) in
       let whole : length e ≡ room = rw (he, length-append front (drop (b .count) d), length-drop (b .count) d) (omega (arith, C .fits)) in
       let lead : take (b .count) e ≡ front = rw he (take-at front (drop (b .count) d) (b .count) long) in
       hg ∙ rw (lead, whole) (ap (λ (n : ℕ). front ++ replicate (room - n) 65535) (sym long) ∙ ap (λ (x : List ℕ). x ++ replicate (room - length x) 65535) (C .front) ∙ shape (newestCall s l room))

@@ -20,7 +20,7 @@ answerOf (Refused f) = refused (f .number) (f .place)
 
 -- the board of a refusal
 abbrev pub emptyBy : Refusal → Board
-emptyBy f = record { answer = Refused f; count = 0; state = record { sets = replicate 64 0; newest = replicate 64 0 } }
+emptyBy f = record { answer = Refused f; count = 0; newest = record { values = replicate 64 0 } }
 
 -- what is shown of the list l: after a refusal nothing
 abbrev pub shownOf : Answer Result → List ℕ → List ℕ
@@ -32,7 +32,7 @@ pub record Shows (r : Answer Result) (l : List ℕ) (room : ℕ) (b : Board) : T
   pub answer′ : answerOf (b .answer) ≡ r
   pub few : b .count ≤ 64
   pub fits : b .count ≤ room
-  pub front : tabulate (b .count) (valuesOf (b .state .newest)) ≡ shownOf r l
+  pub front : tabulate (b .count) (valuesOf (b .newest .values)) ≡ shownOf r l
 
 -- from the checks of the list on, and from those of the record on
 abbrev pub Tells : Task → List ℕ → ℕ → Board → Type 0

@@ -2,7 +2,7 @@
 use answers::Checked;
 use answers::Number;
 use answers::Refusal;
-use state::State;
+use state::Newest;
 ghost use mathlib.Core.Path.{_≡_};
 ghost use mathlib.Core.List.{_++_};
 ghost use mathlib.Core.Option.{none};
@@ -21,11 +21,11 @@ pub enum Progress {
     Refused(Refusal),
 }
 
-// The answer, and the state where the run stops, of which `count` variables are shown; after a refusal none.
+// The answer, and the newest values where the run stops, of which those of `count` variables are shown; after a refusal none.
 pub struct Board {
     pub answer: Progress,
     pub count: usize,
-    pub state: State,
+    pub newest: Newest,
 }
 
 // After a refusal there is nothing to show.
@@ -35,10 +35,7 @@ fn empty(f: Refusal) -> Board
     Board {
         answer: Progress::Refused(f),
         count: 0,
-        state: State {
-            sets: [0; 64],
-            newest: [0; 64],
-        },
+        newest: Newest { values: [0; 64] },
     }
 }
 
@@ -61,11 +58,11 @@ fn tell_loaded(task: &[u16], list: &[u16], room: usize) -> Board
     let x = judge::follow(task, list);
     let steps = x.steps as u32;
     let runs = x.runs as u32;
-    let state = x.state;
+    let newest = x.state.newest;
     Board {
         answer: Progress::Run { steps, runs },
         count: n,
-        state,
+        newest,
     }
 }
 
@@ -121,7 +118,7 @@ pub fn newest(bytes: &[u8], list: &[u16], values: &mut [u16]) -> Progress
 {
     let b = tell(bytes, list, values.len());
     let n = b.count;
-    put(&b.state.newest, n, values);
+    put(&b.newest.values, n, values);
     lists::blank_from(values, n);
     b.answer
 }

@@ -122,12 +122,6 @@ sets-inside t i v x e = go (decLt i (actions t))
         let q : look (act t i .eff) v ≡ look [] v = ap (λ (a : Action). look (a .eff) v) (act-past t i (omega arith)) in
         let z : _≡_ {A = ℕ} 0 1 = cc in absurd (omega arith)
 
-pub bool-same : (a b : Bool) → (T a → T b) → (T b → T a) → a ≡ b
-bool-same true true f g = refl
-bool-same true false f g = absurd (f tt)
-bool-same false true f g = absurd (g tt)
-bool-same false false f g = refl
-
 -- more facts are known, but none of a needed variable
 module _ (t : Task) (m : ℕ) (C : Covers t (actions t) m) (K L : State) (sub : K ⊆ L) (new : (v d : ℕ) → T (inSet m v) → T (L v d) → T (K v d)) where
   pre-same : (i : ℕ) → i < actions t → T (anyBlack t (act t i .eff)) → holds K (act t i .pre) ≡ holds L (act t i .pre)

@@ -22,11 +22,11 @@ use Rattle.planning.proofs.Prefixes.{runBy-behind, stepsBy-pass, stepsB
 
 -- an effect sets the newest value; other variables keep theirs
 module _ (a : Action) (f : Values) (v : ℕ) where
-  newer-some : (d : ℕ) → look (a .eff) v ≡ some d → newer a f v ≡ d
+  pub newer-some : (d : ℕ) → look (a .eff) v ≡ some d → newer a f v ≡ d
   unfolding newer
   newer-some d e = rw (newer, e) refl
 
-  newer-none : look (a .eff) v ≡ none → newer a f v ≡ f v
+  pub newer-none : look (a .eff) v ≡ none → newer a f v ≡ f v
   unfolding newer
   newer-none e = rw (newer, e) refl
 

@@ -20,7 +20,6 @@ use Rattle.state.specs.Sets.{setsOf}
 use Rattle.paths.specs.Paths.{Memo, Put}
 use Rattle.paths.specs.declared.Written.{Written}
 use Rattle.paths.specs.declared.Written.the-variants.{Upto, Long}
-use Rattle.paths.proofs.Needing.{bool-same}
 use Rattle.passes.specs.Passes.{Entries, Blank}
 use Rattle.passes.proofs.Putting.{put-as, blank-memo}
 use Rattle.repair.specs.declared.Counts.{Counts}

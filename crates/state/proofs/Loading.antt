@@ -82,7 +82,7 @@ module _ (t : Task) (n : ℕ) (ms : List ℕ) (v : ℕ) (p : Starting t n ms v) 
       let e : v ≡ variables t = omega (arith, p .over .within, p .over .all) in
       fun-ext (λ w. fun-ext (λ d. p .filled w d ∙ rw e refl))
 
-black-past : (t : Task) (w : ℕ) → variables t ≤ w → black t w ≡ false
+pub black-past : (t : Task) (w : ℕ) → variables t ≤ w → black t w ≡ false
 unfolding black
 black-past t w h = ap (λ (y : Variable). y .black) (variable-past t w h)
 

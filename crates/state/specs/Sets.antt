@@ -1,15 +1,14 @@
--- Sets of values as numbers, and the state that 64 of them, with 64 newest values, stand for.
+-- Sets of values as numbers, and the states that 64 of them, with 64 newest values, stand for.
 use mathlib.Core.Path.{_≡_}
 use mathlib.Core.Bool.{Bool, true, false, _&&_}
 use mathlib.Core.List.{List}
 use mathlib.Core.Option.{Option, none, some}
 use Prim.Native.Nat.{ℕ, suc, _/_, _%_, _^_, _<_, _≤_}
-use lib.Bits.{bitOr}
 use lib.Dec.{eqb}
 use lib.ListN.{getD}
 use Rattle.planning.specs.Record.{Task}
 use Rattle.planning.specs.Runs.{State, Mode, variables, count, goals}
-use Rattle.planning.specs.Newest.{Values}
+use Rattle.planning.specs.Newest.{Values, alone}
 use Rattle.task.specs.Task.{factsIn}
 use Rattle.state.specs.declared.Goals.{Goals}
 
@@ -33,10 +32,9 @@ further b runs steps = elim (eqb runs steps && b) [ true ↦ suc runs | false �
 unfoldable pub modeOf : ℕ → Mode
 modeOf m v = inSet m v
 
--- 3.3: the next set of an affected variable, from its old set and what is set; the variable acts as black, or as red
-unfoldable pub mixed : Bool → ℕ → ℕ → ℕ
-mixed true old new = new
-mixed false old new = bitOr old new
+-- the red-black state, where the variables of m are black: of these the newest value alone, of the others each value that they have had
+unfoldable pub inColours : Mode → State → Values → State
+inColours m s f v d = elim (m v) [ true ↦ alone f v d | false ↦ s v d ]
 
 -- the goals of the task, in the front of a list
 pub record GoalsOf (t : Task) (g : Goals) : Type 0 where

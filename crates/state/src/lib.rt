@@ -1,13 +1,14 @@
-// States: for each of 64 variables the set of its values, one bit a value, and its newest value. The step takes a state and hands the
-// next one back whole; which variables act as black is a set of variables, so that the three semantics are one step.
+// States: for each of 64 variables the set of the values that it has had, one bit a value, and the newest of them. The step takes a state
+// and hands the next one back whole. The sets are the relaxed state; the newest values alone are the real one; the red-black state has the
+// newest value of a black variable and the set of a red one.
 use task::Goal;
 ghost use mathlib.Core.Path.{_≡_};
 ghost use Prim.Native.Nat.{ℕ, _+_, _*_, _/_, _%_, _^_, _<_, _≤_};
 ghost use lib.ListN.{length, getD};
-ghost use Rattle.planning.specs.Runs.{actions, act, holds, look, step, initial, black, size};
+ghost use Rattle.planning.specs.Runs.{actions, act, holds, look, step, initial, relaxed, black, size};
 ghost use Rattle.planning.specs.Newest.{initialValues, newer, alone};
 ghost use Rattle.task.specs.Task.{factsIn, taskIn, Loaded};
-ghost use Rattle.state.specs.Sets.{inSet, mixed, setsOf, valuesOf, modeOf, further, GoalsOf, Asked};
+ghost use Rattle.state.specs.Sets.{inSet, setsOf, valuesOf, modeOf, inColours, further, GoalsOf, Asked};
 
 // The set of value x alone.
 pub fn single(x: usize) -> u64
@@ -61,6 +62,14 @@ pub fn applies(sets: &[u64; 64], task: &[u16], i: usize) -> bool
     )
 }
 
+// Each effect of action i is in the state.
+pub fn has_effects(sets: &[u64; 64], task: &[u16], i: usize) -> bool
+    requires { ⌜ Loaded (now task) × (i < actions (taskIn (now task))) ⌝ }
+    ensures { λ r. ⌜ r ≡ holds (setsOf (now (sets .entry))) (act (taskIn (now (task .entry))) i .eff) ⌝ }
+{
+    all_hold(sets, task, task::eff_start(task, i), task::eff_end(task, i))
+}
+
 // Each fact from place `from` up to `to` is the newest value of its variable.
 pub fn all_newest(newest: &[u8; 64], facts: &[u16], from: usize, to: usize) -> bool
     requires { ⌜ (from ≤ to) × (to ≤ length (now facts)) × ((k : ℕ) → from ≤ k → k < to → getD (now facts) k 0 < 4096) ⌝ }
@@ -83,6 +92,61 @@ pub fn applies_newest(newest: &[u8; 64], task: &[u16], i: usize) -> bool
     ensures { λ r. ⌜ r ≡ holds (alone (valuesOf (now (newest .entry)))) (act (taskIn (now (task .entry))) i .pre) ⌝ }
 {
     all_newest(
+        newest,
+        task,
+        task::pre_start(task, i),
+        task::eff_start(task, i),
+    )
+}
+
+// Fact f is in the red-black state: the newest value of a variable of the set `paint`, else one that the variable has had.
+fn in_colours<'a>(paint: u64, sets: &'a [u64; 64], newest: &'a [u8; 64], f: usize) -> bool
+    requires { ⌜ f < 4096 ⌝ }
+    ensures { λ r. ⌜ r ≡ inColours (modeOf paint) (setsOf (now (sets .entry))) (valuesOf (now (newest .entry))) (f / 64) (f % 64) ⌝ }
+{
+    if member(paint, f / 64) {
+        (f % 64) as u8 == newest[f / 64]
+    } else {
+        holds(sets, f)
+    }
+}
+
+// Each fact from place `from` up to `to` is in the red-black state.
+pub fn all_in_colours<'a>(
+    paint: u64,
+    sets: &'a [u64; 64],
+    newest: &'a [u8; 64],
+    facts: &[u16],
+    from: usize,
+    to: usize,
+) -> bool
+    requires { ⌜ (from ≤ to) × (to ≤ length (now facts)) × ((k : ℕ) → from ≤ k → k < to → getD (now facts) k 0 < 4096) ⌝ }
+    ensures { λ r. ⌜ r ≡ holds (inColours (modeOf paint) (setsOf (now (sets .entry))) (valuesOf (now (newest .entry)))) (factsIn (now (facts .entry)) from to) ⌝ }
+{
+    let mut k = from;
+    while k < to {
+        if !in_colours(paint, sets, newest, lists::wide(facts[k])) {
+            return false;
+        }
+        k += 1;
+    }
+    true
+}
+
+// Action i applies red-black.
+pub fn applies_in_colours<'a>(
+    paint: u64,
+    sets: &'a [u64; 64],
+    newest: &'a [u8; 64],
+    task: &[u16],
+    i: usize,
+) -> bool
+    requires { ⌜ Loaded (now task) × (i < actions (taskIn (now task))) ⌝ }
+    ensures { λ r. ⌜ r ≡ holds (inColours (modeOf paint) (setsOf (now (sets .entry))) (valuesOf (now (newest .entry)))) (act (taskIn (now (task .entry))) i .pre) ⌝ }
+{
+    all_in_colours(
+        paint,
+        sets,
         newest,
         task,
         task::pre_start(task, i),
@@ -116,15 +180,6 @@ pub fn asked(facts: &[u16], from: usize, to: usize, v: usize) -> usize
         k += 1;
     }
     64
-}
-
-// The set after an effect: value x alone where the variable acts as black, else x and what was there.
-fn changed(old: u64, x: usize, black: bool) -> u64
-    requires { ⌜ x < 64 ⌝ }
-    ensures { λ r. ⌜ r ≡ mixed black old (2 ^ x) ⌝ }
-{
-    let new = single(x);
-    if black { new } else { old | new }
 }
 
 // The black variables, as a set of variables.
@@ -172,9 +227,31 @@ impl Goals {
     }
 }
 
+// The newest value of each variable. As long as every step ran for real they are the real state.
+pub struct Newest {
+    pub values: [u8; 64],
+}
+
+impl Newest {
+    // The newest values after action i.
+    pub fn step(mut self, task: &[u16], i: usize) -> Newest
+        requires { ⌜ Loaded (now task) × (i < actions (taskIn (now task))) ⌝ }
+        ensures { λ r. ⌜ valuesOf (r .values) ≡ newer (act (taskIn (now (task .entry))) i) (valuesOf (self .values)) ⌝ }
+    {
+        let end = task::eff_end(task, i);
+        let mut k = task::eff_start(task, i);
+        while k < end {
+            let f = lists::wide(task[k]);
+            self.values[f / 64] = (f % 64) as u8;
+            k += 1;
+        }
+        self
+    }
+}
+
 pub struct State {
     pub sets: [u64; 64],
-    pub newest: [u8; 64],
+    pub newest: Newest,
 }
 
 impl State {
@@ -182,35 +259,36 @@ impl State {
     pub fn initial(task: &[u16]) -> State
         requires { ⌜ Loaded (now task) ⌝ }
         ensures { λ r. ⌜ setsOf (r .sets) ≡ initial (taskIn (now (task .entry))) ⌝ }
-        ensures { λ r. ⌜ valuesOf (r .newest) ≡ initialValues (taskIn (now (task .entry))) ⌝ }
+        ensures { λ r. ⌜ valuesOf (r .newest .values) ≡ initialValues (taskIn (now (task .entry))) ⌝ }
     {
         let n = task::variables(task);
-        let mut s = State {
-            sets: [0; 64],
-            newest: [0; 64],
-        };
+        let mut sets = [0u64; 64];
+        let mut values = [0u8; 64];
         for v in 0..n {
             let x = task::initial(task, v);
-            s.sets[v] = single(x);
-            s.newest[v] = x as u8;
+            sets[v] = single(x);
+            values[v] = x as u8;
         }
-        s
+        State {
+            sets,
+            newest: Newest { values },
+        }
     }
 
-    // The state after action i, whole. Variable v acts as black where bit v of `mode` is 1.
-    pub fn step(mut self, task: &[u16], i: usize, mode: u64) -> State
+    // The state after action i, whole.
+    pub fn step(mut self, task: &[u16], i: usize) -> State
         requires { ⌜ Loaded (now task) × (i < actions (taskIn (now task))) ⌝ }
-        ensures { λ r. ⌜ setsOf (r .sets) ≡ step (modeOf mode) (act (taskIn (now (task .entry))) i) (setsOf (self .sets)) ⌝ }
-        ensures { λ r. ⌜ valuesOf (r .newest) ≡ newer (act (taskIn (now (task .entry))) i) (valuesOf (self .newest)) ⌝ }
+        ensures { λ r. ⌜ setsOf (r .sets) ≡ step relaxed (act (taskIn (now (task .entry))) i) (setsOf (self .sets)) ⌝ }
+        ensures { λ r. ⌜ valuesOf (r .newest .values) ≡ newer (act (taskIn (now (task .entry))) i) (valuesOf (self .newest .values)) ⌝ }
     {
+        let newest = self.newest;
+        self.newest = newest.step(task, i);
         let end = task::eff_end(task, i);
         let mut k = task::eff_start(task, i);
         while k < end {
             let f = lists::wide(task[k]);
             let v = f / 64;
-            let x = f % 64;
-            self.sets[v] = changed(self.sets[v], x, member(mode, v));
-            self.newest[v] = x as u8;
+            self.sets[v] = self.sets[v] | single(f % 64);
             k += 1;
         }
         self

@@ -10,7 +10,7 @@ use Rattle.planning.specs.Runs.{actions}
 use Rattle.planning.specs.Calls.{relaxedCheck}
 use Rattle.judge.specs.Answers.{leading}
 use Rattle.judge.proofs.Lists.{long-refused, entries-below}
-use Rattle.judge.proofs.Relaxed.{front-entries, relaxed-passed, relaxed-refused}
+use Rattle.judge.proofs.Relaxed.{front-entries, relaxed-passed, relaxed-refused, relaxes-none}
 use Rattle.judge.proofs.check_relaxed.Statement.{statement}
 use Rattle.judge.proofs.check_relaxed.Tie as tie
 
@@ -32,31 +32,37 @@ slice-aggregate-judge-relaxed c = sym (length-take-le _ _ (c .before .leading .e
 
 judge-relaxed-requires : tie.Need-judge-relaxed-requires
 judge-relaxed-requires c κs =
-    let a = c .before .before .before .before .before .before .args in
-    let n = c .before .leading .result in
-    let l = a .list .now in (
+    let d = c .before .before in
+    let s = d .before .before .before .before .before in
+    let n = d .leading .result in
+    let l = s .args .list .now in (
       record {
-        loaded = c .before .before .before .before .before .before .pre;
-        short = omega (arith, length-take-le n l (c .before .leading .ensures .1));
-        entries = entries-below (taskIn (a .task .now)) (take n l) (front-entries (taskIn (a .task .now)) l n (ensured (c .before)));
+        loaded = s .pre;
+        short = omega (arith, length-take-le n l (d .leading .ensures .1));
+        entries = entries-below (taskIn (s .args .task .now)) (take n l) (front-entries (taskIn (s .args .task .now)) l n (ensured d));
       },
-      omega arith,
+      relaxes-none _ _ _ (c .initial .ensures .0),
     )
 
-cast-t13 : tie.Need-cast-t13
-cast-t13 c = search needs
+initial-requires : tie.Need-initial-requires
+initial-requires c κs = search needs
+
+cast-t14 : tie.Need-cast-t14
+cast-t14 c = search needs
 
 returns-2 : tie.Need-returns-2
 returns-2 c =
-    let a = c .before .before .before .before .before .before .before .before .before .args in
-    relaxed-passed (taskIn (a .task .now)) (a .list .now) (c .before .before .before .before .leading .result) (ensured (c .before .before .before .before))
-    (omega arith) (c .before .before .before .before .leading .ensures .1) _ (c .before .before .judge-relaxed .ensures) (c .before .if2 .taken) (c .if3 .taken)
+    let d = c .before .before .before .before .before in
+    let a = d .before .before .before .before .before .args in
+    relaxed-passed (taskIn (a .task .now)) (a .list .now) (d .leading .result) (ensured d)
+    (omega arith) (d .leading .ensures .1) _ (c .before .before .judge-relaxed .ensures) (c .before .if2 .taken) (c .if3 .taken)
 
 returns-3 : tie.Need-returns-3
 returns-3 c =
-    let a = c .before .before .before .before .before .before .before .before .args in
-    relaxed-refused (taskIn (a .task .now)) (a .list .now) (c .before .before .before .leading .result) (ensured (c .before .before .before)) (omega arith)
-    (c .before .before .before .leading .ensures .1) _ (c .before .judge-relaxed .ensures) (elim (c .if2 .came) [ inl q ↦ inl (q .1 .left) | inr q ↦ inr (q .left) ])
+    let d = c .before .before .before .before in
+    let a = d .before .before .before .before .before .args in
+    relaxed-refused (taskIn (a .task .now)) (a .list .now) (d .leading .result) (ensured d) (omega arith)
+    (d .leading .ensures .1) _ (c .before .judge-relaxed .ensures) (elim (c .if2 .came) [ inl q ↦ inl (q .1 .left) | inr q ↦ inr (q .left) ])
 
 pub check-relaxed-spec : {M : Type 1} → statement M
 check-relaxed-spec =
@@ -66,7 +72,8 @@ check-relaxed-spec =
     actions-requires
     leading-requires
     slice-aggregate-judge-relaxed
+    initial-requires
     judge-relaxed-requires
-    cast-t13
+    cast-t14
     returns-2
     returns-3)

@@ -1,33 +1,53 @@
--- After k steps the state is that of the red-black run, its newest values are those of any run, and the steps counted run for real
--- (`Tracing`). A step that counts applies red-black as well.
+-- After k steps the values held and the newest ones show the state of the red-black run, and the steps counted run for real (`Following`). A
+-- step that counts applies red-black as well.
 use borrow.Author.Needs.{needs}
-use mathlib.Core.Path.{_≡_, refl, sym, _∙_}
-use mathlib.Core.Bool.{true}
+use mathlib.Core.Path.{_≡_, refl, sym, ap, _∙_}
+use mathlib.Core.Bool.{Bool, true}
 use mathlib.Core.Logic.{⊎-elim}
 use Prim.Native.Nat.{ℕ, _-_, _<_}
 use native.Mathlib.Omega.{arith}
 use borrow.Author.Tests.{not-true, not-false}
 use lib.ListN.{length, getD}
-use Rattle.planning.specs.Runs.{holds, actions, act}
+use Rattle.planning.specs.Runs.{Mode, holds, actions, act, black}
 use Rattle.task.specs.Task.{taskIn}
-use Rattle.state.specs.Sets.{setsOf, valuesOf}
-use Rattle.judge.proofs.Modes.{step-as}
-use Rattle.judge.proofs.Tracing.{Tracing, tracing-start, tracing-few, tracing-turn, tracing-stop, tracing-end, applied, traced-sets, traced-newest}
+use Rattle.state.specs.Sets.{setsOf, valuesOf, modeOf, inColours}
+use Rattle.judge.proofs.Tracing.{tracing-few, tracing-stop, tracing-end, applied, Following, following-start, following-turn, following-held, follows-painted, follows-real, follows-relaxed}
 use Rattle.judge.proofs.follow.Statement.{statement}
 use Rattle.judge.proofs.follow.Tie as tie
 
 abbrev Inv-loop : tie.InvT-loop
-Inv-loop task list paint s₀ k₀ runs₀ s k runs = Tracing (taskIn task) list (setsOf (s .sets)) (valuesOf (s .newest)) k runs
+Inv-loop task list paint s₀ k₀ runs₀ s k runs = Following (taskIn task) list (setsOf (s .sets)) (valuesOf (s .newest .values)) k runs
 
 abbrev μ-loop : tie.MeasureT-loop
 μ-loop task list paint s₀ k₀ runs₀ s k runs = length list - k
 
+abbrev start-of : tie.In-loop Inv-loop μ-loop → tie.Start Inv-loop μ-loop
+start-of c = c .before .before .before .before .before .before
+
 module _ (c : tie.In-loop Inv-loop μ-loop) where
   abbrev entry : ℕ
-  entry = getD (c .before .before .before .before .before .before .args .list .now) (c .before .loop .k) 0
+  entry = getD (start-of c .args .list .now) (c .before .loop .k) 0
 
-  below : entry < actions (taskIn (c .before .before .before .before .before .before .args .task .now))
-  below = c .before .before .before .before .before .before .pre .entries (c .before .loop .k) (omega arith)
+  below : entry < actions (taskIn (start-of c .args .task .now))
+  below = start-of c .pre .entries (c .before .loop .k) (omega arith)
+
+-- the turn in which the action was counted
+abbrev turn-of : tie.After-further Inv-loop μ-loop → tie.In-loop Inv-loop μ-loop
+turn-of c = c .before .before .before .before
+
+-- the action applies to the state shown by a painting
+module _ (c : tie.In-loop Inv-loop μ-loop) where
+  abbrev seen : Mode → Bool
+  seen m = holds (inColours m (setsOf (c .before .loop .s .sets)) (valuesOf (c .before .loop .s .newest .values))) (act (taskIn (start-of c .args .task .now)) (entry c) .pre)
+
+  paints : modeOf (c .before .before .before .painted .result) ≡ black (taskIn (start-of c .args .task .now))
+  paints = c .before .before .before .painted .ensures
+
+goes : (j : tie.Joined1 Inv-loop μ-loop) → let t = turn-of (j .before) in seen t (black (taskIn (start-of t .args .task .now))) ≡ true
+goes j =
+    let t = turn-of (j .before) in
+    ⊎-elim (λ w. ap (seen t) (sym (paints t)) ∙ sym (w .4 .ensures) ∙ not-false _ (w .5 .left))
+    (λ w. applied _ _ (start-of t .pre .loaded .formed) _ _ _ _ (t .before .loop .inv .traced) (omega arith) _ refl _ (j .before .further .ensures) (omega (arith, w .left))) (j .if1 .came)
 
 painted-requires : tie.Need-painted-requires Inv-loop μ-loop
 painted-requires c κs = search needs
@@ -36,7 +56,7 @@ initial-requires : tie.Need-initial-requires Inv-loop μ-loop
 initial-requires c κs = search needs
 
 loop-holds : tie.Need-loop-holds Inv-loop μ-loop
-loop-holds c = tracing-start _ _ _ _ (c .initial .ensures .0) (c .initial .ensures .1)
+loop-holds c = following-start _ _ _ _ (c .initial .ensures .0) (c .initial .ensures .1)
 
 mul-i : tie.Need-mul-i Inv-loop μ-loop
 mul-i c = search needs
@@ -49,47 +69,58 @@ cast-i c = omega (arith, c .shared-slice-known3 .given (c .before .before .loop 
 
 further-requires : tie.Need-further-requires Inv-loop μ-loop
 further-requires c κs =
-    let R = c .before .before .before .before .before .before .before .before .before .pre in
-    (R .loaded, below (c .before .before .before), omega (arith, R .short, tracing-few _ _ _ _ _ _ (c .before .before .before .before .loop .inv)))
+    let t = c .before .before .before in
+    let R = start-of t .pre in
+    (R .loaded, below t, omega (arith, R .short, tracing-few _ _ _ _ _ _ (t .before .loop .inv .traced)))
 
-applies-requires : tie.Need-applies-requires Inv-loop μ-loop
-applies-requires c κs =
-    (c .before .before .before .before .before .before .before .before .before .before .before .before .before .pre .loaded, below (c .before .before .before .before .before .before .before))
-
-step-requires : tie.Need-step-requires Inv-loop μ-loop
-step-requires c κs = (c .before .before .before .before .before .before .before .before .before .before .before .pre .loaded, below (c .before .before .before .before .before))
+applies-in-colours-requires : tie.Need-applies-in-colours-requires Inv-loop μ-loop
+applies-in-colours-requires c κs = let t = turn-of (c .before .before .before .before) in (start-of t .pre .loaded, below t)
 
 add-k : tie.Need-add-k Inv-loop μ-loop
 add-k c = search needs
+
+has-effects-requires : tie.Need-has-effects-requires Inv-loop μ-loop
+has-effects-requires c κs = let t = turn-of (c .before .before .before) in (start-of t .pre .loaded, below t)
+
+step-requires : tie.Need-step-requires Inv-loop μ-loop
+step-requires c κs = let t = turn-of (c .before .before .before .before .before .before) in (start-of t .pre .loaded, below t)
 
 loop-less : tie.Need-loop-less Inv-loop μ-loop
 loop-less c = search needs
 
 loop-again : tie.Need-loop-again Inv-loop μ-loop
 loop-again c =
-    let F = c .before .before .before .before .before .before .before .before .before .before .before .before .pre .loaded .formed in
-    let I = c .before .before .before .before .before .before .before .loop .inv in
-    let f = c .before .before .further .ensures in
-    let painted = c .before .before .before .before .before .before .before .before .before .painted .ensures in
-    let goes : holds (setsOf (c .before .before .before .before .before .before .before .loop .s .sets))
-    (act (taskIn (c .before .before .before .before .before .before .before .before .before .before .before .before .args .task .now))
-    (entry (c .before .before .before .before .before .before)) .pre) ≡ true =
-    ⊎-elim (λ w. sym (w .3 .ensures) ∙ not-false _ (w .4 .left)) (λ w. applied _ _ F _ _ _ _ I (omega arith) _ refl _ f (omega (arith, w .left))) (c .before .if1 .came) in
-    tracing-turn _ _ F _ _ _ _ I (omega arith) _ refl _ _ _ f goes (step-as _ _ _ _ _ painted (c .step .ensures .0)) (c .step .ensures .1)
+    let j = c .before .before .before .before .before .before in
+    let t = turn-of (j .before) in
+    following-held _ _ (start-of t .pre .loaded .formed) _ _ _ _ (t .before .loop .inv) (omega arith) _ refl _ _ (j .before .further .ensures) (goes j)
+    (sym (c .before .before .before .has-effects .ensures) ∙ c .before .before .if3 .taken) (c .step .ensures)
+
+step-requires-2 : tie.Need-step-requires-2 Inv-loop μ-loop
+step-requires-2 c κs = let t = turn-of (c .before .before .before .before .before) in (start-of t .pre .loaded, below t)
+
+loop-less-2 : tie.Need-loop-less-2 Inv-loop μ-loop
+loop-less-2 c = search needs
+
+loop-again-2 : tie.Need-loop-again-2 Inv-loop μ-loop
+loop-again-2 c =
+    let j = c .before .before .before .before .before in
+    let t = turn-of (j .before) in
+    following-turn _ _ (start-of t .pre .loaded .formed) _ _ _ _ (t .before .loop .inv) (omega arith) _ refl _ _ _ (j .before .further .ensures) (goes j) (c .step2 .ensures .0) (c .step2 .ensures .1)
 
 returns : tie.Need-returns Inv-loop μ-loop
 returns c =
     let I = c .before .loop .inv in
-    let e = tracing-end _ _ _ _ _ _ I (omega arith) in
-    record { painted = e .0; run-real = e .1; sets = traced-sets _ _ _ _ _ _ I (e .0); newest = traced-newest _ _ _ _ _ _ I (e .0) }
+    let e = tracing-end _ _ _ _ _ _ (I .traced) (omega arith) in
+    record { painted = follows-painted _ _ _ _ _ _ I (e .0); run-real = follows-real _ _ _ _ _ _ I (e .0) _ (e .1); relaxed′ = follows-relaxed _ _ _ _ _ _ I (e .0) }
 
 returns-2 : tie.Need-returns-2 Inv-loop μ-loop
 returns-2 c =
-    let I = c .before .before .before .before .before .before .before .before .before .before .loop .inv in
-    let e = tracing-stop _ _
-    (c .before .before .before .before .before .before .before .before .before .before .before .before .before .before .before .pre .loaded .formed) _ _ _ _
-    I (omega arith) _ refl _ (c .before .before .before .before .before .further .ensures) (omega arith) (sym (c .before .applies .ensures) ∙ not-true _ (c .if2 .taken)) in
-    record { painted = e .0; run-real = e .1; sets = traced-sets _ _ _ _ _ _ I (e .0); newest = traced-newest _ _ _ _ _ _ I (e .0) }
+    let f = c .before .before .before .before .before .before in
+    let t = turn-of f in
+    let I = t .before .loop .inv in
+    let fails = ap (seen t) (sym (paints t)) ∙ sym (c .before .applies-in-colours .ensures) ∙ not-true _ (c .if2 .taken) in
+    let e = tracing-stop _ _ (start-of t .pre .loaded .formed) _ _ _ _ (I .traced) (omega arith) _ refl _ (f .further .ensures) (omega arith) fails in
+    record { painted = follows-painted _ _ _ _ _ _ I (e .0); run-real = follows-real _ _ _ _ _ _ I (e .0) _ (e .1); relaxed′ = follows-relaxed _ _ _ _ _ _ I (e .0) }
 
 pub follow-spec : {M : Type 1} → statement M
 follow-spec =
@@ -104,10 +135,14 @@ follow-spec =
     shared-slice-read-i
     cast-i
     further-requires
-    applies-requires
-    step-requires
+    applies-in-colours-requires
     add-k
+    has-effects-requires
+    step-requires
     loop-less
     loop-again
+    step-requires-2
+    loop-less-2
+    loop-again-2
     returns
     returns-2)

@@ -1,6 +1,5 @@
 use borrow.Author.Needs.{needs}
 use Rattle.judge.proofs.Modes.{judgement-plan, judgement-of}
-use Rattle.judge.proofs.Tracing.{relaxed-known}
 use Rattle.judge.proofs.judge_all.Statement.{statement}
 use Rattle.judge.proofs.judge_all.Tie as tie
 
@@ -18,7 +17,7 @@ returns c = judgement-plan _ _ _ _ (c .before .before .before .before .judge-pai
 
 judge-relaxed-requires : tie.Need-judge-relaxed-requires
 judge-relaxed-requires c κs =
-    (c .before .before .before .before .before .before .before .before .before .before .pre, relaxed-known _ _ _ (c .before .before .before .before .before .before .before .follow .ensures .painted))
+    (c .before .before .before .before .before .before .before .before .before .pre, c .before .before .before .before .before .before .follow .ensures .relaxed′)
 
 returns-2 : tie.Need-returns-2
 returns-2 c = judgement-of _ _ _ _ _ (c .judge-relaxed .ensures) (c .before .before .before .before .before .judge-painted .ensures) (c .before .before .judge-real .ensures)

@@ -55,13 +55,13 @@ cast-steps : tie.Need-cast-steps
 cast-steps c =
     let T = c .before .follow .ensures in
     let R = list-ready _ _ (passed _ _ _ _ (c .before .before .before .before .enum-told .given .1) (c .before .before .before .before .before .before .check-list .ensures) .0) in
-    omega (arith, R .0, stops-few _ _ _ _ (record { steps = T .painted; sets = T .sets }))
+    omega (arith, R .0, stops-few _ _ _ _ _ (T .painted))
 
 cast-runs : tie.Need-cast-runs
 cast-runs c =
     let T = c .before .before .follow .ensures in
     let R = list-ready _ _ (passed _ _ _ _ (c .before .before .before .before .before .enum-told .given .1) (c .before .before .before .before .before .before .before .check-list .ensures) .0) in
-    omega (arith, R .0, runs-few _ _ _ _ (record { runs = T .run-real; newest = T .newest }))
+    omega (arith, R .0, runs-few _ _ _ _ (T .run-real))
 
 returns-3 : tie.Need-returns-3
 returns-3 c =
@@ -70,7 +70,7 @@ returns-3 c =
     values-told _ _ _ (passed _ _ _ _ (c .before .before .before .before .before .before .enum-told .given .1)
     (c .before .before .before .before .before .before .before .before .check-list .ensures) .0) _ _ _ refl
     (c .before .before .before .before .before .variables .ensures)
-    (omega (arith, c .before .before .before .before .before .variables .ensures, F .variables-max)) (omega arith) (T .painted) (T .run-real) (T .newest)
+    (omega (arith, c .before .before .before .before .before .variables .ensures, F .variables-max)) (omega arith) (T .painted .steps) (T .run-real .runs) (T .run-real .newest)
 
 pub tell-loaded-spec : {M : Type 1} → statement M
 tell-loaded-spec =

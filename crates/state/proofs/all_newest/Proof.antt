@@ -8,7 +8,7 @@ use Rattle.planning.specs.Newest.{alone}
 use Rattle.task.specs.Task.{factsIn}
 use Rattle.state.specs.Sets.{valuesOf}
 use Rattle.state.proofs.Effects.{holds-fails, holds-passes, holds-end}
-use Rattle.state.proofs.Newest.{newest-is, newest-not}
+use Rattle.state.proofs.Renewing.{newest-is, newest-not}
 use Rattle.state.proofs.all_newest.Statement.{statement}
 use Rattle.state.proofs.all_newest.Tie as tie
 

@@ -1,17 +1,18 @@
+-- The sets and the newest values of the variables below v are filled, the others empty and 0.
 use borrow.Author.Needs.{needs}
 use Prim.Native.Nat.{_-_}
 use native.Mathlib.Omega.{arith}
 use Rattle.task.specs.Task.{taskIn}
 use Rattle.state.proofs.Loading.{Starting, init-small, starting-start, starting-turn, starting-end}
-use Rattle.state.proofs.Newest.{Placing, placing-start, placing-turn, placing-end}
+use Rattle.state.proofs.Renewing.{Placing, placing-start, placing-turn, placing-end}
 use Rattle.state.proofs.State.initial.Statement.{statement}
 use Rattle.state.proofs.State.initial.Tie as tie
 
 abbrev Inv-loop : tie.InvT-loop
-Inv-loop task n s₀ v₀ s v = Starting (taskIn task) n (s .sets) v × Placing (taskIn task) (s .newest) v
+Inv-loop task n sets₀ values₀ v₀ sets values v = Starting (taskIn task) n sets v × Placing (taskIn task) values v
 
 abbrev μ-loop : tie.MeasureT-loop
-μ-loop task n s₀ v₀ s v = n - v
+μ-loop task n sets₀ values₀ v₀ sets values v = n - v
 
 variables-requires : tie.Need-variables-requires Inv-loop μ-loop
 variables-requires c κs = search needs
@@ -25,17 +26,17 @@ initial-requires c κs = (c .before .before .before .before .pre, omega (arith, 
 single-requires : tie.Need-single-requires Inv-loop μ-loop
 single-requires c κs = init-small _ _ _ (c .before .before .loop .inv .0 .over .formed) (c .initial .ensures)
 
-mul-s : tie.Need-mul-s Inv-loop μ-loop
-mul-s c = search needs
+mul-sets : tie.Need-mul-sets Inv-loop μ-loop
+mul-sets c = search needs
 
-element-write-s : tie.Need-element-write-s Inv-loop μ-loop
-element-write-s c = omega (arith, c .before .before .before .loop .inv .0 .over .most)
+array-write-sets : tie.Need-array-write-sets Inv-loop μ-loop
+array-write-sets c = omega (arith, c .before .before .before .loop .inv .0 .over .most)
 
-cast-s : tie.Need-cast-s Inv-loop μ-loop
-cast-s c = omega (arith, init-small _ _ _ (c .before .before .before .loop .inv .0 .over .formed) (c .before .initial .ensures))
+cast-values : tie.Need-cast-values Inv-loop μ-loop
+cast-values c = omega (arith, init-small _ _ _ (c .before .before .before .loop .inv .0 .over .formed) (c .before .initial .ensures))
 
-element-write-s-2 : tie.Need-element-write-s-2 Inv-loop μ-loop
-element-write-s-2 c = search needs
+array-write-values : tie.Need-array-write-values Inv-loop μ-loop
+array-write-values c = search needs
 
 add-v : tie.Need-add-v Inv-loop μ-loop
 add-v c = search needs
@@ -63,10 +64,10 @@ initial-spec =
     loop-holds
     initial-requires
     single-requires
-    mul-s
-    element-write-s
-    cast-s
-    element-write-s-2
+    mul-sets
+    array-write-sets
+    cast-values
+    array-write-values
     add-v
     loop-less
     loop-again

@@ -1,19 +1,29 @@
-use Rattle.state.proofs.Listing.{loaded-listed}
-use Rattle.state.proofs.Effects.{Putting, putting-start, putting-small, putting-turn, putting-end}
-use Rattle.state.proofs.Newest.{Renewing, renewing-start, renewing-turn, renewing-end}
+-- Newest values step by themselves. Effects are put into the sets one after the other; those from k on are left.
 use borrow.Author.Needs.{needs}
-use mathlib.Core.Path.{_≡_, refl, sym, ap, _∙_}
-use Prim.Native.Nat.{ℕ, _+_, _*_, _/_, _^_, _-_, _≤_, _<_}
+use mathlib.Core.Path.{_≡_, refl, ap, _∙_}
+use Prim.Native.Nat.{_-_, _<_}
 use native.Mathlib.Omega.{arith}
-use lib.ListN.{length, getD, take, drop, set, replicate}
+use Rattle.state.specs.Sets.{valuesOf}
+use Rattle.state.proofs.Listed.{Listed}
+use Rattle.state.proofs.Listing.{loaded-listed}
+use Rattle.state.proofs.Effects.{Walking, walking-start, walking-inside, walking-small, walking-turn, Putting, putting-start, putting-turn, putting-end}
 use Rattle.state.proofs.State.step.Statement.{statement}
 use Rattle.state.proofs.State.step.Tie as tie
 
 abbrev Inv-loop : tie.InvT-loop
-Inv-loop task i mode self₀ end k₀ self k = Putting task i mode (self₀ .sets) end (self .sets) k × Renewing task i (self₀ .newest) (self .newest) k
+Inv-loop task i self₀ end k₀ self k = Walking task i end k × Putting task i (self₀ .sets) (self .sets) k × (self .newest .values ≡ self₀ .newest .values)
 
 abbrev μ-loop : tie.MeasureT-loop
-μ-loop task i mode self₀ end k₀ self k = end - k
+μ-loop task i self₀ end k₀ self k = end - k
+
+listed : (s : tie.Start Inv-loop μ-loop) → Listed (s .args .task .now) (s .args .i)
+listed s = loaded-listed _ (s .pre .0) _ (s .pre .1)
+
+abbrev start-of : tie.At-loop Inv-loop μ-loop → tie.Start Inv-loop μ-loop
+start-of h = h .before .before .before .before .before .before
+
+step-requires : tie.Need-step-requires Inv-loop μ-loop
+step-requires c κs = search needs
 
 eff-end-requires : tie.Need-eff-end-requires Inv-loop μ-loop
 eff-end-requires c κs = search needs
@@ -23,59 +33,39 @@ eff-start-requires c κs = search needs
 
 loop-holds : tie.Need-loop-holds Inv-loop μ-loop
 loop-holds c = (
-  putting-start _ _ _ _ (loaded-listed _ (c .before .before .before .pre .0) _ (c .before .before .before .pre .1)) _ _ (c .before .eff-end .ensures)
-      (c .eff-start .ensures) (search needs),
-  renewing-start _ _ _ _ (c .eff-start .ensures) (search needs),
+  walking-start _ _ (listed (c .before .before .before .before .before)) _ _ (c .before .eff-end .ensures) (c .eff-start .ensures),
+  putting-start _ _ _ _ (c .eff-start .ensures) (search needs),
+  refl,
 )
 
 mul-wide : tie.Need-mul-wide Inv-loop μ-loop
-mul-wide c = omega (arith, (loaded-listed _ (c .before .before .before .before .before .pre .0) _ (c .before .before .before .before .before .pre .1)) .end-below, c .before .loop .inv .0 .at-end)
+mul-wide c = let h = c .before in omega (arith, walking-inside _ _ (listed (start-of h)) _ _ (h .loop .inv .0) (omega arith))
 
 shared-slice-read-wide : tie.Need-shared-slice-read-wide Inv-loop μ-loop
-shared-slice-read-wide c =
-    omega (
-      arith,
-      (loaded-listed _ (c .before .before .before .before .before .before .pre .0) _
-          (c .before .before .before .before .before .before .pre .1)) .end-below,
-      c .before .before .loop .inv .0 .at-end,
-    )
+shared-slice-read-wide c = let h = c .before .before in walking-inside _ _ (listed (start-of h)) _ _ (h .loop .inv .0) (omega arith)
 
 wide-requires : tie.Need-wide-requires Inv-loop μ-loop
 wide-requires c κs = search needs
 
 small : (c : tie.After-wide Inv-loop μ-loop) → c .wide .result < 4096
 small c =
-    omega (
-      arith,
-      c .wide .ensures,
-      putting-small _ _ _ _
-          (loaded-listed _ (c .before .before .before .before .before .before .before .pre .0) _ (c .before .before .before .before .before .before .before .pre .1))
-          _ _ _ (c .before .before .before .loop .inv .0) (omega arith),
-    )
-
-mul-changed : tie.Need-mul-changed Inv-loop μ-loop
-mul-changed c = search needs
-
-element-copy-out-changed : tie.Need-element-copy-out-changed Inv-loop μ-loop
-element-copy-out-changed c = omega (arith, small c)
-
-member-requires : tie.Need-member-requires Inv-loop μ-loop
-member-requires c κs = omega (arith, small (c .before))
-
-changed-requires : tie.Need-changed-requires Inv-loop μ-loop
-changed-requires c κs = search needs
+    let h = c .before .before .before in
+    omega (arith, c .wide .ensures, walking-small _ _ (listed (start-of h)) _ _ (h .loop .inv .0) (omega arith))
 
 mul-self : tie.Need-mul-self Inv-loop μ-loop
 mul-self c = search needs
 
+element-copy-out-self : tie.Need-element-copy-out-self Inv-loop μ-loop
+element-copy-out-self c = omega (arith, small c)
+
+single-requires : tie.Need-single-requires Inv-loop μ-loop
+single-requires c κs = search needs
+
+mul-self-2 : tie.Need-mul-self-2 Inv-loop μ-loop
+mul-self-2 c = search needs
+
 element-write-self : tie.Need-element-write-self Inv-loop μ-loop
-element-write-self c = omega (arith, small (c .before .before .before))
-
-cast-self : tie.Need-cast-self Inv-loop μ-loop
-cast-self c = search needs
-
-element-write-self-2 : tie.Need-element-write-self-2 Inv-loop μ-loop
-element-write-self-2 c = omega (arith, small (c .before .before .before))
+element-write-self c = omega (arith, small (c .before .before))
 
 add-k : tie.Need-add-k Inv-loop μ-loop
 add-k c = search needs
@@ -85,19 +75,19 @@ loop-less c = search needs
 
 loop-again : tie.Need-loop-again Inv-loop μ-loop
 loop-again c =
-    let I = c .before .before .before .before .before .before .loop .inv in
-    let L = loaded-listed _ (c .before .before .before .before .before .before .before .before .before .before .pre .0) _
-    (c .before .before .before .before .before .before .before .before .before .before .pre .1) in (
-      putting-turn _ _ _ _ L _ _ _ (I .0) (omega arith) _ _ _ _ (c .before .before .before .wide .ensures) refl refl
-          (c .changed .ensures ∙ rw (c .before .member .ensures) refl),
-      renewing-turn _ _ _ _ _ L _ _ _ _ (I .0) (I .1) (omega arith) _ _ _ (c .before .before .before .wide .ensures) refl refl,
+    let h = c .before .before .before .before .before in
+    let I = h .loop .inv in
+    let L = listed (start-of h) in (
+      walking-turn _ _ L _ _ (I .0) (omega arith),
+      putting-turn _ _ L _ _ _ _ (I .0) (I .1) (omega arith) _ _ _ _ (c .before .before .wide .ensures) refl refl (c .single .ensures),
+      I .2,
     )
 
 returns : tie.Need-returns Inv-loop μ-loop
 returns c =
-    let I = c .before .loop .inv in
-    let L = loaded-listed _ (c .before .before .before .before .before .pre .0) _ (c .before .before .before .before .before .pre .1) in
-    (putting-end _ _ _ _ L _ _ _ (I .0) (omega arith), renewing-end _ _ _ _ _ L _ _ _ _ (I .0) (I .1) (omega arith))
+    let h = c .before in
+    let I = h .loop .inv in
+    (putting-end _ _ (listed (start-of h)) _ _ _ _ (I .0) (I .1) (omega arith), ap valuesOf (I .2) ∙ h .before .before .before .step .ensures)
 
 pub step-spec : {M : Type 1} → statement M
 step-spec =
@@ -105,20 +95,18 @@ step-spec =
     (tie.spec
     Inv-loop
     μ-loop
+    step-requires
     eff-end-requires
     eff-start-requires
     loop-holds
     mul-wide
     shared-slice-read-wide
     wide-requires
-    mul-changed
-    element-copy-out-changed
-    member-requires
-    changed-requires
     mul-self
+    element-copy-out-self
+    single-requires
+    mul-self-2
     element-write-self
-    cast-self
-    element-write-self-2
     add-k
     loop-less
     loop-again

@@ -16,7 +16,7 @@ use Rattle.planning.proofs.Fields.{variable-past}
 use Rattle.task.specs.Task.{cell, factOf, factsIn, actionIn, taskIn}
 use Rattle.state.specs.Sets.{valuesOf}
 use Rattle.state.proofs.Listed.{Rising, Listed}
-use Rattle.state.proofs.Effects.{factsIn-cons, factsIn-none, Putting}
+use Rattle.state.proofs.Effects.{factsIn-cons, factsIn-none, Walking}
 use Rattle.state.proofs.Loading.{Over, getD-zeros}
 
 -- each fact of a list set in turn
@@ -63,19 +63,19 @@ pub record Renewing (task : List ℕ) (i : ℕ) (ns₀ ns : List ℕ) (k : ℕ) 
 pub renewing-start : (task : List ℕ) (i : ℕ) (ns₀ : List ℕ) (k : ℕ) → k ≡ cell task (1361 + i) 2 → length ns₀ ≡ 64 → Renewing task i ns₀ ns₀ k
 renewing-start task i ns₀ k e n = record { long₀ = n; long = n; so-far = rw e refl }
 
-module _ (task : List ℕ) (i mode : ℕ) (ms₀ ns₀ : List ℕ) (L : Listed task i) (end k : ℕ) (ms ns : List ℕ) (p : Putting task i mode ms₀ end ms k) (q : Renewing task i ns₀ ns k) where
+module _ (task : List ℕ) (i : ℕ) (L : Listed task i) (end k : ℕ) (ns₀ ns : List ℕ) (w : Walking task i end k) (q : Renewing task i ns₀ ns k) where
   pub renewing-turn : k < end → (f v x : ℕ) → f ≡ getD task k 0 → v ≡ f / 64 → x ≡ f % 64 → Renewing task i ns₀ (set ns v x) (k + 1)
   unfolding setAll factOf
   renewing-turn h f v x ef ev ex = record {
     long₀ = q .long₀;
     long = length-set ns v x ∙ q .long;
-    so-far = q .so-far ∙ rw (factsIn-cons task k (cell task (1361 + i) 3) (omega (arith, p .at-end)) (L .end-below), ex, ev, ef) refl;
+    so-far = q .so-far ∙ rw (factsIn-cons task k (cell task (1361 + i) 3) (omega (arith, w .at-end)) (L .end-below), ex, ev, ef) refl;
   }
 
   pub renewing-end : end ≤ k → valuesOf ns ≡ newer (act (taskIn task) i) (valuesOf ns₀)
   unfolding setAll actionIn
   renewing-end h =
-      let e = factsIn-none task k (cell task (1361 + i) 3) (omega (arith, p .within, p .at-end)) in
+      let e = factsIn-none task k (cell task (1361 + i) 3) (omega (arith, w .within, w .at-end)) in
       ap valuesOf (sym (q .so-far ∙ rw e refl)) ∙ setAll-newer (actionIn task i) ns₀ (L .rises) (q .long₀) ∙ ap (λ (a : Action). newer a (valuesOf ns₀)) (L .states)
 
 -- the initial values: those of the variables below v are set, the others 0
