@@ -18,7 +18,7 @@ use Rattle.planning.specs.Painting.{target, fits, leaves, arcFrom}
 use Rattle.planning.specs.Repair.{usableArc, adjacent}
 use Rattle.planning.proofs.Facts.{_⊆_, has→touches, look-some, holds→sub, sub→holds}
 use Rattle.planning.proofs.Fields.{act-past}
-use Rattle.planning.proofs.Tests.{T→true, F→false, true→T, or-l, or-r, or-cases, and-l, and-r, and-i}
+use Rattle.planning.proofs.Tests.{T→true, F→false, true→T, bool-same, or-l, or-r, or-cases, and-l, and-r, and-i}
 use Rattle.task.specs.Task.{factOf, factsIn}
 use Rattle.state.specs.Sets.{inSet}
 use Rattle.state.proofs.Effects.{factsIn-cons, factsIn-none}

@@ -14,6 +14,7 @@ use Rattle.planning.specs.Newest.{Values, initialValues, newer}
 use Rattle.planning.specs.Repair.{known, everAfter, moves, order, stages, repaired}
 use Rattle.planning.proofs.Facts.{_⊆_}
 use Rattle.planning.proofs.Known.{_≈_, known-start, known-run, everAfter-now}
+use Rattle.planning.proofs.Tests.{bool-same}
 use Rattle.planning.proofs.Repair.{repairFrom, repairFrom-nil, repairFrom-cons}
 use Rattle.planning.proofs.Formed.{Formed}
 use Rattle.state.specs.Sets.{setsOf}

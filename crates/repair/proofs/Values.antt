@@ -1,66 +1,69 @@
--- The present value, the test of black facts, a step that adds nothing.
-use mathlib.Core.Path.{_≡_, refl, sym, fun-ext}
-use mathlib.Core.Logic.{inl, inr}
-use mathlib.Core.Bool.{Bool, true}
-use mathlib.Core.List.{List}
+-- The present value and the test of black facts, by the newest values: those of a black variable are what the red-black state has of it.
+use mathlib.Core.Path.{_≡_, refl, sym, ap, _∙_, fun-ext}
+use mathlib.Core.Bool.{Bool, true, false, not, _&&_, _||_}
+use mathlib.Core.List.{List, [], _∷_}
 use mathlib.Core.Option.{Option, none, some}
-use Prim.Native.Nat.{ℕ, _-_, _<_, _≤_}
+use Prim.Native.Nat.{ℕ, _/_, _%_, _<_, _≤_}
 use native.Mathlib.Omega.{arith}
-use native.Mathlib.Decide.{decLt}
-use lib.Dec.{T}
+use borrow.Author.Tests.{eq-eqb, ne-eqb}
+use lib.Dec.{T, eqb, eqb→eq}
 use lib.ListN.{getD}
 use Rattle.planning.specs.Basics.{first}
-use Rattle.planning.specs.Record.{Action}
-use Rattle.planning.specs.Runs.{State, relaxed, holds, step}
+use Rattle.planning.specs.Record.{Fact, Task}
+use Rattle.planning.specs.Runs.{State, Mode, count, black}
+use Rattle.planning.specs.Newest.{Values, alone}
 use Rattle.planning.specs.Painting.{orZero}
-use Rattle.planning.specs.Repair.{value}
+use Rattle.planning.specs.Repair.{value, blackMet}
 use Rattle.planning.proofs.Below.{First?, first-is}
-use Rattle.planning.proofs.Facts.{holds→sub}
-use Rattle.planning.proofs.Steps.{step-keep, step-cases}
-use Rattle.planning.proofs.Tests.{true→T}
-use Rattle.state.specs.Sets.{inSet, setsOf, modeOf}
-use Rattle.state.proofs.Members.{inSet-empty}
-use Rattle.paths.proofs.Needing.{bool-same}
-use Rattle.paths.specs.Paths.{Member}
+use Rattle.planning.proofs.Tests.{T→true}
+use Rattle.state.specs.Sets.{valuesOf, inColours}
+use Rattle.state.proofs.Colours.{colour-black}
+use Rattle.repair.specs.Repairs.{Present}
 
--- the least member is the first value
-value-first : (n : ℕ) (p : ℕ → Bool) (r : ℕ) → r < n → T (p r) → ((x : ℕ) → x < r → T (p x) → ⊥) → orZero (first n p) ≡ r
-unfolding orZero
-value-first n p r b h l = go (first n p) (first-is n p)
-  where
-    go : (o : Option ℕ) → First? n p o → orZero o ≡ r
-    go none f = absurd (f r b h)
-    go (some i) f = same (decLt i r) (decLt r i)
-      where
-        same : Dec (i < r) → Dec (r < i) → i ≡ r
-        same (yes q) _ = absurd (l i q (f .passes))
-        same (no _) (yes q) = absurd (f .least r q h)
-        same (no p) (no q) = omega arith
+-- the one value of a set
+module _ (count : ℕ → ℕ) (f : Values) (v : ℕ) where
+  value-is : f v < count v → f v ≡ value count (alone f) v
+  unfolding value orZero alone
+  value-is h = go (first (count v) (λ d. eqb d (f v))) (first-is (count v) (λ d. eqb d (f v)))
+    where
+      go : (o : Option ℕ) → First? (count v) (λ d. eqb d (f v)) o → f v ≡ orZero o
+      go none n = absurd (n (f v) h (rw (eq-eqb (f v) (f v) refl) tt))
+      go (some i) n = sym (eqb→eq i (f v) (n .passes))
 
-value-none : (n : ℕ) (p : ℕ → Bool) → ((x : ℕ) → x < n → T (p x) → ⊥) → orZero (first n p) ≡ 0
-unfolding orZero
-value-none n p l = go (first n p) (first-is n p)
-  where
-    go : (o : Option ℕ) → First? n p o → orZero o ≡ 0
-    go none f = refl
-    go (some i) f = absurd (l i (f .below) (f .passes))
+  value-zero : count v ≤ f v → 0 ≡ value count (alone f) v
+  unfolding value orZero alone
+  value-zero h = go (first (count v) (λ d. eqb d (f v))) (first-is (count v) (λ d. eqb d (f v)))
+    where
+      go : (o : Option ℕ) → First? (count v) (λ d. eqb d (f v)) o → 0 ≡ orZero o
+      go none n = refl
+      go (some i) n = absurd (omega (arith, n .below, eqb→eq i (f v) (n .passes)))
 
-module _ (sets : List ℕ) (v r : ℕ) (count : ℕ → ℕ) (few : count v ≤ 64) (m : Member (getD sets v 0) 0 r) where
-  pub value-is : r < count v → r ≡ value count (setsOf sets) v
-  unfolding value setsOf
-  value-is h = sym (value-first (count v) (inSet (getD sets v 0)) r h (m .member (omega arith)) (λ x b. m .skipped x (omega arith) b))
+-- newest values as numbers in a list
+module _ (t : Task) (ns : List ℕ) (v x : ℕ) (e : x ≡ getD ns v 0) where
+  pub newest-value : x < count t v → x ≡ value (count t) (alone (valuesOf ns)) v
+  unfolding valuesOf
+  newest-value h = e ∙ value-is (count t) (valuesOf ns) v (omega (arith, e))
 
-  pub value-zero : count v ≤ r → 0 ≡ value count (setsOf sets) v
-  unfolding value setsOf
-  value-zero h = sym (value-none (count v) (inSet (getD sets v 0)) (λ x b. m .skipped x (omega arith) (omega arith)))
+  pub newest-none : count t v ≤ x → 0 ≡ value (count t) (alone (valuesOf ns)) v
+  unfolding valuesOf
+  newest-none h = value-zero (count t) (valuesOf ns) v (omega (arith, e))
 
--- no variable acts as black
-pub mode-none : modeOf 0 ≡ relaxed
-unfolding modeOf
-mode-none = fun-ext (λ v. inSet-empty v)
+-- the same of the red-black state, for black variables
+module _ (t : Task) (K : State) (f : Values) where
+  abbrev shown : State
+  shown = inColours (black t) K f
 
--- an action whose effects are held adds nothing
-pub step-held : (a : Action) (K : State) → holds K (a .eff) ≡ true → K ≡ step relaxed a K
-step-held a K e = fun-ext (λ v. fun-ext (λ d. bool-same (K v d) (step relaxed a K v d)
-    (λ h. step-keep relaxed a K v d h (λ z. absurd z))
-    (λ h. elim (step-cases relaxed a K v d h) [ inl x ↦ holds→sub K (a .eff) (true→T (holds K (a .eff)) e) v d x | inr x ↦ x .0 ])))
+  pub present-shown : (v r : ℕ) → T (black t v) → Present t (alone f) v r → Present t shown v r
+  unfolding value
+  present-shown v r b p =
+      let e : (λ d. alone f v d) ≡ (λ d. shown v d) = fun-ext (λ d. sym (colour-black (black t) K f v d (T→true (black t v) b))) in
+      record { of = p .of; is = p .is ∙ ap (λ (s : ℕ → Bool). orZero (first (count t v) s)) e; below = p .below }
+
+  pub met-shown : (w : List Fact) → blackMet (black t) (alone f) w ≡ blackMet (black t) shown w
+  unfolding blackMet
+  met-shown [] = refl
+  met-shown (x ∷ w) = rw (met-shown w) (ap (λ (b : Bool). b && blackMet (black t) shown w) (go (black t (x .var)) refl))
+    where
+      go : (b : Bool) → black t (x .var) ≡ b → (not (black t (x .var)) || alone f (x .var) (x .val)) ≡ (not (black t (x .var)) || shown (x .var) (x .val))
+      go true e = rw (colour-black (black t) K f (x .var) (x .val) e) refl
+      go false e = rw e refl

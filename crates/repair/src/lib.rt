@@ -24,12 +24,12 @@ ghost use Rattle.repair.specs.Answers.{roomIn, Held};
 ghost use Rattle.repair.specs.Counting.{Small, Few, Onward, judgedBy};
 ghost use Rattle.repair.specs.Repairs.{Present, Wanted, Lent, filled, moved, stepsFor, lastMoves, stageOf};
 
-// The present fact of v.
-fn present(task: &[u16], sets: &[u64; 64], v: usize) -> usize
+// The present fact of v, its newest value.
+fn present(task: &[u16], newest: &[u8; 64], v: usize) -> usize
     requires { ⌜ Loaded (now task) × (v < variables (taskIn (now task))) ⌝ }
-    ensures { λ r. ⌜ Present (taskIn (now (task .entry))) (setsOf (now (sets .entry))) v r ⌝ }
+    ensures { λ r. ⌜ Present (taskIn (now (task .entry))) (alone (valuesOf (now (newest .entry)))) v r ⌝ }
 {
-    let x = paths::next_member(sets[v], 0);
+    let x = newest[v] as usize;
     if x < task::count(task, v) {
         64 * v + x
     } else {
@@ -37,39 +37,31 @@ fn present(task: &[u16], sets: &[u64; 64], v: usize) -> usize
     }
 }
 
-// The fact f is black and not held.
-fn unmet(task: &[u16], sets: &[u64; 64], f: usize) -> bool
+// The fact f is black and not the newest value.
+fn unmet(task: &[u16], newest: &[u8; 64], f: usize) -> bool
     requires { ⌜ Loaded (now task) × (f / 64 < variables (taskIn (now task))) ⌝ }
-    ensures { λ r. ⌜ r ≡ (black (taskIn (now (task .entry))) (f / 64) && not (setsOf (now (sets .entry)) (f / 64) (f % 64))) ⌝ }
+    ensures { λ r. ⌜ r ≡ (black (taskIn (now (task .entry))) (f / 64) && not (alone (valuesOf (now (newest .entry))) (f / 64) (f % 64))) ⌝ }
 {
     if task::is_black(task, f / 64) {
-        !state::holds(sets, f)
+        newest[f / 64] != (f % 64) as u8
     } else {
         false
     }
 }
 
-// The black facts of the list are held.
-fn black_met(task: &[u16], sets: &[u64; 64], facts: &[u16]) -> bool
+// The black facts of the list are newest values.
+fn black_met(task: &[u16], newest: &[u8; 64], facts: &[u16]) -> bool
     requires { ⌜ Loaded (now task) × Wanted (taskIn (now task)) (now facts) ⌝ }
-    ensures { λ r. ⌜ r ≡ blackMet (black (taskIn (now (task .entry)))) (setsOf (now (sets .entry))) (factsOf (now (facts .entry))) ⌝ }
+    ensures { λ r. ⌜ r ≡ blackMet (black (taskIn (now (task .entry)))) (alone (valuesOf (now (newest .entry)))) (factsOf (now (facts .entry))) ⌝ }
 {
     let mut k: usize = 0;
     while k < facts.len() {
-        if unmet(task, sets, lists::wide(facts[k])) {
+        if unmet(task, newest, lists::wide(facts[k])) {
             return false;
         }
         k += 1;
     }
     true
-}
-
-// Each effect of action i is held.
-fn has_effects(task: &[u16], sets: &[u64; 64], i: usize) -> bool
-    requires { ⌜ Loaded (now task) × (i < actions (taskIn (now task))) ⌝ }
-    ensures { λ r. ⌜ r ≡ holds (setsOf (now (sets .entry))) (act (taskIn (now (task .entry))) i .eff) ⌝ }
-{
-    state::all_hold(sets, task, task::eff_start(task, i), task::eff_end(task, i))
 }
 
 // The passes of the black variables in their order: moves for the wanted facts, in the front of a list.

@@ -5,20 +5,21 @@ use Prim.Native.Nat.{_-_, _≤_}
 use native.Mathlib.Omega.{arith}
 use lib.ListN.{length}
 use Rattle.planning.specs.Runs.{black}
+use Rattle.planning.specs.Newest.{alone}
 use Rattle.planning.specs.Repair.{blackMet}
 use Rattle.task.specs.Task.{factsIn, taskIn}
-use Rattle.state.specs.Sets.{setsOf}
+use Rattle.state.specs.Sets.{valuesOf}
 use Rattle.passes.proofs.Holding.{met-fails, met-passes, met-end}
 use Rattle.repair.proofs.black_met.Statement.{statement}
 use Rattle.repair.proofs.black_met.Tie as tie
 
 abbrev Inv-loop : tie.InvT-loop
-Inv-loop task sets facts k₀ k =
+Inv-loop task newest facts k₀ k =
     (k ≤ length facts)
-    × (blackMet (black (taskIn task)) (setsOf sets) (factsIn facts 0 (length facts)) ≡ blackMet (black (taskIn task)) (setsOf sets) (factsIn facts k (length facts)))
+    × (blackMet (black (taskIn task)) (alone (valuesOf newest)) (factsIn facts 0 (length facts)) ≡ blackMet (black (taskIn task)) (alone (valuesOf newest)) (factsIn facts k (length facts)))
 
 abbrev μ-loop : tie.MeasureT-loop
-μ-loop task sets facts k₀ k = length facts - k
+μ-loop task newest facts k₀ k = length facts - k
 
 abbrev start-of : tie.At-loop Inv-loop μ-loop → tie.Start Inv-loop μ-loop
 start-of h = h .before .before .before
