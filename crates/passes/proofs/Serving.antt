@@ -8,7 +8,7 @@ use native.Mathlib.Numerals.{add-one}
 use native.Mathlib.Omega.{arith}
 use lib.ListN.{length, getD, take, drop, length-append}
 use lib.Seq.{drop-cons, drop-length, length-take-le, getD-take}
-use Rattle.planning.specs.Record.{Fact, Action, Task}
+use Rattle.planning.specs.Record.{Fact, Task}
 use Rattle.planning.specs.Runs.{State, look, act}
 use Rattle.planning.specs.Repair.{toward, after, pass}
 use Rattle.state.specs.Sets.{Asked}
