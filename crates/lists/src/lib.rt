@@ -91,6 +91,20 @@ pub fn copy(from: &[u16], to: &mut [u16])
     }
 }
 
+// The first n entries at the very end, from the last to the first, as both places may overlap; the answer is where they start.
+pub fn to_end(d: &mut [u16], n: usize) -> usize
+    requires { ⌜ n ≤ length (now d) ⌝ }
+    ensures { λ r. ⌜ (r ≡ length (now (d .entry)) - n) × (drop r (now (d .exit)) ≡ take n (now (d .entry))) ⌝ }
+{
+    let from = d.len() - n;
+    let mut k = n;
+    while k > 0 {
+        k -= 1;
+        d[from + k] = d[k];
+    }
+    from
+}
+
 // The result in the front of the plan list and 65,535 behind it; 65,535 throughout where it is longer than the capacity.
 pub fn lay(list: &[u16], plan: &mut [u16]) -> Checked
     ensures { λ r. ⌜ (checkOf r ≡ roomCheck (length (now (list .entry))) (capacity (length (now (plan .entry))))) × (now (plan .exit) ≡ laid (length (now (plan .entry))) (now (list .entry))) ⌝ }

@@ -32,6 +32,9 @@ pub asked-is : (o : Option ℕ) (d : ℕ) → Asked o d → askedBy d ≡ o
 asked-is none d e = asked-none d (omega arith)
 asked-is (some x) d e = asked-some d (omega (arith, e .0, e .1)) ∙ ap some (e .0)
 
+pub asked-as : (t : Task) (v k i d : ℕ) → k ≡ i → Asked (look (act t k .pre) v) d → Asked (look (act t i .pre) v) d
+asked-as t v k i d e q = subst (λ (x : ℕ). Asked (look (act t x .pre) v) d) e q
+
 pub after-some : (c d : ℕ) → d < 64 → d ≡ after c (askedBy d)
 unfolding after
 after-some c d h = rw (asked-some d h) refl

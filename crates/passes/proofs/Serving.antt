@@ -1,14 +1,14 @@
--- A pass over a list where no entry needs the variable leaves it as it is; else the list is rebuilt and copied back.
+-- A pass over a list where no entry needs the variable leaves it as it is; else the list is moved to the end first.
 use mathlib.Core.Path.{_≡_, refl, sym, ap, _∙_, subst}
 use mathlib.Core.Bool.{Bool, true, false}
 use mathlib.Core.List.{List, [], _∷_, _++_}
 use mathlib.Core.Option.{Option, none, some}
-use Prim.Native.Nat.{ℕ, _+_, _-_, _<_, _≤_}
+use Prim.Native.Nat.{ℕ, _+_, _<_, _≤_}
 use native.Mathlib.Numerals.{add-one}
 use native.Mathlib.Omega.{arith}
 use lib.ListN.{length, getD, take, drop, length-append}
-use lib.Seq.{drop-cons, drop-length, length-take-le, getD-take, take-at}
-use Rattle.planning.specs.Record.{Fact, Action, Task}
+use lib.Seq.{drop-cons, drop-length, length-take-le, getD-take}
+use Rattle.planning.specs.Record.{Fact, Task}
 use Rattle.planning.specs.Runs.{State, look, act}
 use Rattle.planning.specs.Repair.{toward, after, pass}
 use Rattle.state.specs.Sets.{Asked}
@@ -16,7 +16,7 @@ use Rattle.paths.specs.Paths.{pathsOf, Put}
 use Rattle.paths.specs.declared.Written.{Written}
 use Rattle.paths.specs.declared.Written.the-variants.{Upto, Long}
 use Rattle.passes.specs.Passes.{askedBy, passOf, unasked}
-use Rattle.passes.proofs.Putting.{asked-is, put-as}
+use Rattle.passes.proofs.Putting.{asked-is, asked-as}
 
 -- one entry more
 module _ (t : Task) (v i d : ℕ) (l : List ℕ) (q : Asked (look (act t i .pre) v) d) where
@@ -43,7 +43,7 @@ module _ (t : Task) (v : ℕ) (list : List ℕ) (e k : ℕ) (h : k < e) (b : e �
 
   module _ (i d : ℕ) (ei : i ≡ getD list k 0) (q : Asked (look (act t i .pre) v) d) where
     asked-here : Asked (look (act t (getD list k 0) .pre) v) d
-    asked-here = subst (λ (x : ℕ). Asked (look (act t x .pre) v) d) ei q
+    asked-here = asked-as t v i (getD list k 0) d ei q
 
     pub idle-no : d < 64 → unasked t v (drop k (take e list)) ≡ false
     idle-no l = ap (unasked t v) entry ∙ unasked-no t v (getD list k 0) d (drop (k + 1) (take e list)) asked-here l
@@ -87,28 +87,11 @@ module _ (t : Task) (K : State) (v c : ℕ) (plan : List ℕ) (e : ℕ) (w : Lis
       go (Upto y) p = (omega (arith, long, p .0), p .1, p .2 ∙ sym whole)
       go Long p = omega (arith, long, p)
 
--- the list is rebuilt in the work list
-pub record Rebuilt (t : Task) (K : State) (v c : ℕ) (plan : List ℕ) (e : ℕ) (w : List Fact) (work work′ : List ℕ) (r : Written) : Type 0 where
-  pub same : length work ≡ length plan
-  pub long : length work′ ≡ length work
-  pub put : Put work work′ 0 (passOf t K v c (take e plan) w) r
-
-module _ {t : Task} {K : State} {v c : ℕ} {plan : List ℕ} {e : ℕ} {w : List Fact} {work work′ : List ℕ} {r : Written} (R : Rebuilt t K v c plan e w work work′ r) where
-  pub served-long : r ≡ Long → length plan < 0 + length (passOf t K v c (take e plan) w)
-  served-long z = let y = put-as work work′ 0 (passOf t K v c (take e plan) w) r Long z (R .put) in omega (arith, y, R .same)
-
-  module _ (n : ℕ) (z : r ≡ Upto n) where
-    told : Put work work′ 0 (passOf t K v c (take e plan) w) (Upto n)
-    told = put-as work work′ 0 (passOf t K v c (take e plan) w) r (Upto n) z (R .put)
-
-    pub served-fits : (n ≤ length work′) × (length (take n work′) ≤ length plan)
-    served-fits =
-        let f : n ≤ length work′ = omega (arith, told .1, R .long) in
-        (f, omega (arith, length-take-le n work′ f, told .1, R .same))
-
-    pub served-copied : (plan′ : List ℕ) → plan′ ≡ take n work′ ++ drop (length (take n work′)) plan → Put plan plan′ 0 (passOf t K v c (take e plan) w) (Upto n)
-    served-copied plan′ ep = (
-      told .0,
-      omega (arith, told .1, R .same),
-      rw ep (take-at (take n work′) (drop (length (take n work′)) plan) n (length-take-le n work′ (served-fits .0))) ∙ told .2,
-    )
+-- the pass over the same list, moved to place j of another list, is the pass
+pub served-moved : (t : Task) (K : State) (v c : ℕ) (plan : List ℕ) (e : ℕ) (w : List Fact) (moved : List ℕ) (j : ℕ) → length moved ≡ length plan → drop j moved ≡ take e plan
+    → (plan′ : List ℕ) (r : Written) → Put moved plan′ 0 (passOf t K v c (drop j moved) w) r → Put plan plan′ 0 (passOf t K v c (take e plan) w) r
+served-moved t K v c plan e w moved j n q plan′ r p = go r (subst (λ (l : List ℕ). Put moved plan′ 0 (passOf t K v c l w) r) q p)
+  where
+    go : (r : Written) → Put moved plan′ 0 (passOf t K v c (take e plan) w) r → Put plan plan′ 0 (passOf t K v c (take e plan) w) r
+    go (Upto y) p = (p .0, omega (arith, p .1), p .2)
+    go Long p = omega (arith, p)

@@ -5,14 +5,14 @@ ghost use mathlib.Core.Path.{_≡_};
 ghost use mathlib.Core.Bool.{not, _&&_};
 ghost use Prim.Native.Nat.{_/_, _%_, _<_, _≤_};
 ghost use lib.Dec.{T};
-ghost use lib.ListN.{length, take};
+ghost use lib.ListN.{length, take, drop};
 ghost use Rattle.planning.specs.Runs.{relaxed, step, actions, count, act, black};
 ghost use Rattle.planning.specs.Repair.{toward, after, blackMet};
 ghost use Rattle.task.specs.Task.{taskIn, Loaded};
 ghost use Rattle.task.specs.Links.{Prepared};
 ghost use Rattle.state.specs.Sets.{setsOf, modeOf};
 ghost use Rattle.paths.specs.Paths.{pathsOf, Memo, memoLength, Covers, Put};
-ghost use Rattle.passes.specs.Passes.{askedBy, passOf, served, unasked, factsOf, Fitting, Entries, Blank, Behind};
+ghost use Rattle.passes.specs.Passes.{askedBy, served, unasked, factsOf, Fitting, Entries, Blank, Behind};
 
 // The memo with no row in it.
 pub fn forget(memo: &mut [u16])
@@ -109,38 +109,41 @@ pub fn push(w: Written, i: u16, list: &mut [u16]) -> Written
     Written::Upto(e + 1)
 }
 
-// The pass for v, whose value is c, over the list, into another one.
+// The pass for the variable of fact f, its present one, over the entries of the plan from place `at` on, into its front. A path is lent
+// the part before the entry that it leads to, so that nothing unread is overwritten.
 fn pass(
     task: &[u16],
     ever: &[u64; 64],
     memo: &mut [u16],
-    v: usize,
-    start: usize,
-    list: &[u16],
-    wanted: &[u16],
-    out: &mut [u16],
+    f: usize,
+    want: &[u16],
+    plan: &mut [u16],
+    at: usize,
 ) -> Written
-    requires { ⌜ Prepared (now task) × T (black (taskIn (now task)) v) × Memo (taskIn (now task)) (setsOf (now ever)) (now memo) ⌝ }
-    requires { ⌜ (start < count (taskIn (now task)) v) × Entries (taskIn (now task)) (now list) × Fitting (taskIn (now task)) (factsOf (now wanted)) ⌝ }
-    ensures { λ r. ⌜ Put (now (out .entry)) (now (out .exit)) 0 (passOf (taskIn (now (task .entry))) (setsOf (now (ever .entry))) v start (now (list .entry)) (factsOf (now (wanted .entry)))) r ⌝ }
+    requires { ⌜ Prepared (now task) × T (black (taskIn (now task)) (f / 64)) × Memo (taskIn (now task)) (setsOf (now ever)) (now memo) ⌝ }
+    requires { ⌜ (f % 64 < count (taskIn (now task)) (f / 64)) × Fitting (taskIn (now task)) (factsOf (now want)) ⌝ }
+    requires { ⌜ (at ≤ length (now plan)) × Entries (taskIn (now task)) (drop at (now plan)) ⌝ }
+    ensures { λ r. ⌜ Put (now (plan .entry)) (now (plan .exit)) 0 (served (taskIn (now (task .entry))) (setsOf (now (ever .entry))) f (drop at (now (plan .entry))) (factsOf (now (want .entry)))) r ⌝ }
     ensures { λ _. ⌜ Memo (taskIn (now (task .entry))) (setsOf (now (ever .entry))) (now (memo .exit)) ⌝ }
 {
-    let mut c = start;
+    let v = f / 64;
+    let mut c = f % 64;
     let mut e: usize = 0;
-    let mut j: usize = 0;
-    while j < list.len() {
-        let i = list[j];
+    let mut j = at;
+    while j < plan.len() {
+        let i = plan[j];
         let d = paths::need(task, lists::wide(i), v);
-        let w = push(lead_to(task, ever, memo, v, c, d, out, e), i, out);
+        let w = lead_to(task, ever, memo, v, c, d, &mut plan[..j], e);
         let Written::Upto(x) = w else {
             return Written::Long;
         };
-        e = x;
+        plan[x] = i;
+        e = x + 1;
         c = next_value(c, d);
         j += 1;
     }
-    let d = state::asked(wanted, 0, wanted.len(), v);
-    lead_to(task, ever, memo, v, c, d, out, e)
+    let d = state::asked(want, 0, want.len(), v);
+    lead_to(task, ever, memo, v, c, d, plan, e)
 }
 
 // No entry of the list before place e needs a value of v.
@@ -159,7 +162,7 @@ fn idle(task: &[u16], v: usize, list: &[u16], e: usize) -> bool
 }
 
 // The pass for the variable of fact f, its present one, over the list in front of place e. Where no entry needs the variable, the path
-// is written behind the list; else the list is rebuilt in the work list and copied back.
+// is written behind the list; else the list is moved to the end of the plan, and the pass goes over it there.
 pub fn serve(
     task: &[u16],
     ever: &[u64; 64],
@@ -168,24 +171,18 @@ pub fn serve(
     want: &[u16],
     plan: &mut [u16],
     e: usize,
-    work: &mut [u16],
 ) -> Written
     requires { ⌜ Prepared (now task) × T (black (taskIn (now task)) (f / 64)) × Memo (taskIn (now task)) (setsOf (now ever)) (now memo) ⌝ }
     requires { ⌜ (f % 64 < count (taskIn (now task)) (f / 64)) × Fitting (taskIn (now task)) (factsOf (now want)) ⌝ }
-    requires { ⌜ (e ≤ length (now plan)) × (length (now work) ≡ length (now plan)) × Entries (taskIn (now task)) (take e (now plan)) ⌝ }
+    requires { ⌜ (e ≤ length (now plan)) × Entries (taskIn (now task)) (take e (now plan)) ⌝ }
     ensures { λ r. ⌜ Put (now (plan .entry)) (now (plan .exit)) 0 (served (taskIn (now (task .entry))) (setsOf (now (ever .entry))) f (take e (now (plan .entry))) (factsOf (now (want .entry)))) r ⌝ }
     ensures { λ _. ⌜ Memo (taskIn (now (task .entry))) (setsOf (now (ever .entry))) (now (memo .exit)) ⌝ }
 {
     let v = f / 64;
-    let c = f % 64;
     if idle(task, v, plan, e) {
         let d = state::asked(want, 0, want.len(), v);
-        return lead_to(task, ever, memo, v, c, d, plan, e);
+        return lead_to(task, ever, memo, v, f % 64, d, plan, e);
     }
-    let w = pass(task, ever, memo, v, c, &plan[..e], want, work);
-    let Written::Upto(n) = w else {
-        return Written::Long;
-    };
-    lists::copy(&work[..n], plan);
-    Written::Upto(n)
+    let at = lists::to_end(plan, e);
+    pass(task, ever, memo, f, want, plan, at)
 }

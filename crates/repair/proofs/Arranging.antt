@@ -17,7 +17,7 @@ use Rattle.paths.specs.declared.Written.{Written}
 use Rattle.paths.specs.declared.Written.the-variants.{Upto, Long}
 use Rattle.passes.specs.Passes.{factsOf}
 use Rattle.passes.proofs.Putting.{pre-fitting, put-as}
-use Rattle.repair.specs.Repairs.{Wanted, Lent, filled, moved, stepsFor, lastMoves, stageOf}
+use Rattle.repair.specs.Repairs.{Wanted, filled, moved, stepsFor, lastMoves, stageOf}
 
 pub moves-none : (t : Task) (K s : State) (w : List Fact) (plan : List ℕ) (a : ℕ) → blackMet (black t) s w ≡ true → a ≤ length plan → Put plan plan a (moved t K s w) (Upto a)
 unfolding moved
@@ -61,13 +61,6 @@ module _ {t : Task} {K s : State} {w : List Fact} {plan : List ℕ} {a : ℕ} {y
         let rest : drop a (take a plan ++ behind) ≡ behind = drop-at (take a plan) behind a f in
         let kept = take-append-le n ys (drop (length plan - a) (drop a plan)) (omega (arith, told .1, P .long)) in
         (omega (arith, told .0, ap length moved-is), moves-fit, take-add a n (take a plan ++ behind) ∙ rw (front, rest, kept, told .2, moved-is) refl)
-
--- the parts of both lists from place a on
-pub parts-lent : (plan work : List ℕ) (a k j : ℕ) → Lent plan work a → k ≡ length plan - a → j ≡ length work - a → Lent (take k (drop a plan)) (take j (drop a work)) 0
-parts-lent plan work a k j L ek ej =
-    let p : length (take k (drop a plan)) ≡ k = length-take-le k (drop a plan) (omega (arith, length-drop a plan)) in
-    let w : length (take j (drop a work)) ≡ j = length-take-le j (drop a work) (omega (arith, length-drop a work)) in
-    record { same = omega (arith, p, w, L .same); within = omega arith }
 
 drop-take : (l : List ℕ) (a b : ℕ) → a ≤ b → b ≤ length l → drop a (take b l) ≡ take (b - a) (drop a l)
 drop-take l a b h n =

@@ -26,7 +26,7 @@ use Rattle.answers.specs.Plans.{answerOf}
 use Rattle.repair.specs.Answers.{Held}
 use Rattle.repair.specs.declared.Counts.{Counts}
 use Rattle.repair.specs.Counting.{judgedBy}
-use Rattle.repair.specs.Repairs.{Wanted, Lent, moved}
+use Rattle.repair.specs.Repairs.{Wanted, moved}
 use Rattle.repair.proofs.Below.{entries-all}
 use Rattle.repair.proofs.Counting.{Counted, counted-verdict}
 use Rattle.repair.proofs.Repairing.{Repairing, repairing-whole}
@@ -59,14 +59,11 @@ module _ (plan work : List ℕ) (less room : ℕ) (ea : less ≡ min (length pla
   unfolding capacityOf
   room-is = eb ∙ ap capacity ea
 
-  pub room-bounds : (room ≤ length plan) × (room ≤ length work) × (room ≤ 32768)
-  room-bounds = let c = capacity-le less in (omega (arith, c), omega (arith, c), omega (arith, c))
+  pub room-bounds : (room ≤ length plan) × (room ≤ 32768)
+  room-bounds = let c = capacity-le less in (omega (arith, c), omega (arith, c))
 
   pub front-length : length (take room plan) ≡ room
   front-length = length-take-le room plan (room-bounds .0)
-
-  pub fronts-lent : Lent (take room plan) (take room work) 0
-  fronts-lent = record { same = length-take-le room work (room-bounds .1) ∙ sym front-length; within = omega arith }
 
 -- the list l in the front of the plan list d: the answer, or 11
 module _ (t : Task) (l d : List ℕ) (room : ℕ) (r : Planned) where
@@ -85,8 +82,8 @@ pub held-front : (t : Task) (l ys rest : List ℕ) (n : ℕ) → n ≡ length ys
 held-front t l ys rest n en room e r H = rw (← e) (record { says = H .says; fills = λ b. take-append-le (length l) ys rest (omega (arith, en)) ∙ H .fills b })
 
 -- the repair where every step is taken and every stage placed
-pub repairing-held : {t : Task} {l₀ plan₀ plan memo work sets ever : List ℕ} {f : Values} {c : Counts} {a j : ℕ}
-    → Repairing t l₀ plan₀ plan memo work sets ever f c a j → Formed t → c .steps ≡ a → length l₀ < j
+pub repairing-held : {t : Task} {l₀ plan₀ plan memo sets ever : List ℕ} {f : Values} {c : Counts} {a j : ℕ}
+    → Repairing t l₀ plan₀ plan memo sets ever f c a j → Formed t → c .steps ≡ a → length l₀ < j
     → (r : Planned) → answerOf r ≡ done (judgedBy (holds (alone f) (goals t)) c) → Held t (repaired t l₀) plan (length plan₀) r
 repairing-held {t = t} {l₀ = l₀} {plan₀ = plan₀} {plan = plan} {f = f} {c = c} {a = a} G F k h r e =
     let whole = repairing-whole G k h in

@@ -20,27 +20,25 @@ use Rattle.passes.proofs.Putting.{put-as}
 use Rattle.repair.specs.Repairs.{Present, fillFrom, filled}
 use Rattle.repair.proofs.Below.{pass-entries, order-at}
 
-pub record Filling (t : Task) (K s : State) (vs : List ℕ) (w : List Fact) (plan₀ plan memo work : List ℕ) (e p : ℕ) : Type 0 where
+pub record Filling (t : Task) (K s : State) (vs : List ℕ) (w : List Fact) (plan₀ plan memo : List ℕ) (e p : ℕ) : Type 0 where
   pub within : e ≤ length plan₀
   pub long : length plan ≡ length plan₀
   pub rows : Memo t K memo
-  pub work-long : length work ≡ length plan₀
   pub place : p ≤ length vs
   pub entries : Entries t (take e plan)
   pub so-far : fillFrom t K s vs [] w ≡ fillFrom t K s (drop p vs) (take e plan) w
 
-pub filling-start : (t : Task) (K s : State) (vs : List ℕ) (w : List Fact) (plan memo work : List ℕ) → Memo t K memo → length work ≡ length plan → Filling t K s vs w plan plan memo work 0 0
-filling-start t K s vs w plan memo work m n = record {
+pub filling-start : (t : Task) (K s : State) (vs : List ℕ) (w : List Fact) (plan memo : List ℕ) → Memo t K memo → Filling t K s vs w plan plan memo 0 0
+filling-start t K s vs w plan memo m = record {
   within = omega arith;
   long = refl;
   rows = m;
-  work-long = n;
   place = omega arith;
   entries = λ k b. absurd (omega arith);
   so-far = refl;
 }
 
-module _ {t : Task} {K s : State} {vs : List ℕ} {w : List Fact} {plan₀ plan memo work : List ℕ} {e p : ℕ} (G : Filling t K s vs w plan₀ plan memo work e p) where
+module _ {t : Task} {K s : State} {vs : List ℕ} {w : List Fact} {plan₀ plan memo : List ℕ} {e p : ℕ} (G : Filling t K s vs w plan₀ plan memo e p) where
   -- one variable: the pass from its present fact f
   module _ (h : p < length vs) (v f : ℕ) (ev : v ≡ getD vs p 0) (F : Present t s v f) (plan′ : List ℕ) (r : Written) (q : Put plan plan′ 0 (served t K f (take e plan) w) r) where
     abbrev passed : List ℕ
@@ -56,14 +54,13 @@ module _ {t : Task} {K s : State} {vs : List ℕ} {w : List Fact} {plan₀ plan 
         let y = put-as plan plan′ 0 passed r Long z q in
         rw (← o) (omega (arith, y, G .long, ap length (G .so-far ∙ filled-next), fill-grows (act t) (pathsOf t K) (value (count t) s) (drop (p + 1) vs) passed w))
 
-    pub filling-turn : (memo′ work′ : List ℕ) (x : ℕ) → r ≡ Upto x → length plan′ ≡ length plan → Memo t K memo′ → length work′ ≡ length work → Filling t K s vs w plan₀ plan′ memo′ work′ x (p + 1)
-    filling-turn memo′ work′ x z l m n =
+    pub filling-turn : (memo′ : List ℕ) (x : ℕ) → r ≡ Upto x → length plan′ ≡ length plan → Memo t K memo′ → Filling t K s vs w plan₀ plan′ memo′ x (p + 1)
+    filling-turn memo′ x z l m =
         let y = put-as plan plan′ 0 passed r (Upto x) z q in
         record {
           within = omega (arith, y .1, G .long);
           long = l ∙ G .long;
           rows = m;
-          work-long = n ∙ G .work-long;
           place = omega arith;
           entries = rw (y .2) (pass-entries t K (f / 64) (f % 64) (take e plan) w (G .entries));
           so-far = G .so-far ∙ filled-next ∙ rw (y .2) refl;

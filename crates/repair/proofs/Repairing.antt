@@ -25,7 +25,7 @@ use Rattle.passes.specs.Passes.{Entries, Blank}
 use Rattle.passes.proofs.Putting.{put-as, blank-memo}
 use Rattle.repair.specs.declared.Counts.{Counts}
 use Rattle.repair.specs.Counting.{Onward, Small, Few}
-use Rattle.repair.specs.Repairs.{Lent, filled, moved, stageOf}
+use Rattle.repair.specs.Repairs.{filled, moved, stageOf}
 use Rattle.repair.proofs.Below.{stage-entries, append-entries}
 use Rattle.repair.proofs.Counting.{Counted, counted-none, counted-few, counted-behind}
 
@@ -76,12 +76,11 @@ module _ (t : Task) (l : List ℕ) (j : ℕ) (s ever : State) where
       let e : j ≡ suc (length l) = omega arith in
       rw (e, drop-length l) refl
 
-pub record Repairing (t : Task) (l₀ plan₀ plan memo work sets ever : List ℕ) (f : Values) (c : Counts) (a j : ℕ) : Type 0 where
+pub record Repairing (t : Task) (l₀ plan₀ plan memo sets ever : List ℕ) (f : Values) (c : Counts) (a j : ℕ) : Type 0 where
   pub held : State
   pub within : a ≤ length plan₀
   pub long : length plan ≡ length plan₀
   pub rows : Memo t (setsOf ever) memo
-  pub work-long : length work ≡ length plan₀
   pub place : j ≤ length l₀ + 1
   pub taken : c .steps ≤ a
   pub entries : Entries t (take a plan)
@@ -91,15 +90,14 @@ pub record Repairing (t : Task) (l₀ plan₀ plan memo work sets ever : List �
   pub so-far :
       repaired t l₀ ≡ take a plan ++ leftOf t l₀ j (run (act t) (black t) (slice (c .steps) a plan) (setsOf sets)) (everAfter (act t) (black t) (slice (c .steps) a plan) (setsOf sets) held)
 
-pub repairing-start : (t : Task) (l₀ plan memo work sets ever : List ℕ) (f : Values) → Blank memo → Lent plan work 0
-    → setsOf sets ≡ initial t → setsOf ever ≡ initial t → f ≡ initialValues t → Repairing t l₀ plan plan memo work sets ever f (record { steps = 0; runs = 0; cost = 0 }) 0 0
+pub repairing-start : (t : Task) (l₀ plan memo sets ever : List ℕ) (f : Values) → Blank memo
+    → setsOf sets ≡ initial t → setsOf ever ≡ initial t → f ≡ initialValues t → Repairing t l₀ plan plan memo sets ever f (record { steps = 0; runs = 0; cost = 0 }) 0 0
 unfolding repaired stages leftOf runBy everAfter
-repairing-start t l₀ plan memo work sets ever f B L es ee ef = record {
+repairing-start t l₀ plan memo sets ever f B es ee ef = record {
   held = initial t;
   within = omega arith;
   long = refl;
   rows = blank-memo t (setsOf ever) memo B;
-  work-long = L .same;
   place = omega arith;
   taken = omega arith;
   entries = λ k h. absurd (omega arith);
@@ -109,16 +107,16 @@ repairing-start t l₀ plan memo work sets ever f B L es ee ef = record {
   so-far = rw es refl;
 }
 
-module _ {t : Task} {l₀ plan₀ plan memo work sets ever : List ℕ} {f : Values} {c : Counts} {a j : ℕ} (G : Repairing t l₀ plan₀ plan memo work sets ever f c a j) where
-  pub repairing-lent : Lent plan work a
-  repairing-lent = record { same = omega (arith, G .work-long, G .long); within = omega (arith, G .within, G .long) }
+module _ {t : Task} {l₀ plan₀ plan memo sets ever : List ℕ} {f : Values} {c : Counts} {a j : ℕ} (G : Repairing t l₀ plan₀ plan memo sets ever f c a j) where
+  pub repairing-within : a ≤ length plan
+  repairing-within = omega (arith, G .within, G .long)
 
   pub repairing-few : Formed t → length plan₀ ≤ 32768 → Few c
   repairing-few F h = counted-few F (G .counts) (omega (arith, length-take-le (c .steps) plan (omega (arith, G .taken, G .within, G .long)), G .taken, G .within))
 
   whole-length : (l : List ℕ) → repaired t l₀ ≡ take a plan ++ l → length (repaired t l₀) ≡ a + length l
   whole-length l e =
-      let taken : length (take a plan) ≡ a = length-take-le a plan (omega (arith, G .within, G .long)) in
+      let taken : length (take a plan) ≡ a = length-take-le a plan repairing-within in
       ap length e ∙ length-append (take a plan) l ∙ ap (λ (x : ℕ). x + length l) taken
 
   -- every step placed is taken
@@ -133,18 +131,15 @@ module _ {t : Task} {l₀ plan₀ plan memo work sets ever : List ℕ} {f : Valu
 
   -- a step is left: it is the action i
   module _ (k : c .steps < a) (i : ℕ) (ei : i ≡ getD plan (c .steps) 0) where
-    bound : a ≤ length plan
-    bound = omega (arith, G .within, G .long)
-
     pub repairing-below : i < actions t
-    repairing-below = rw (ei, ← getD-take a plan (c .steps) 0 k) (G .entries (c .steps) (omega (arith, length-take-le a plan bound)))
+    repairing-below = rw (ei, ← getD-take a plan (c .steps) 0 k) (G .entries (c .steps) (omega (arith, length-take-le a plan repairing-within)))
 
     pub repairing-small : Formed t → length plan₀ ≤ 32768 → Small c
     repairing-small F h = record { few = repairing-few F h; more = omega (arith, k, G .within) }
 
     pub repairing-step : Formed t → (memo′ sets′ ever′ : List ℕ) (f′ : Values) (c′ : Counts) (m : Mode) → m ≡ black t → Memo t (setsOf ever′) memo′
         → setsOf sets′ ≡ step m (act t i) (setsOf sets) → setsOf ever′ ≡ step relaxed (act t i) (setsOf ever) → Onward (act t i) f c c′ → f′ ≡ newer (act t i) f
-        → Repairing t l₀ plan₀ plan memo′ work sets′ ever′ f′ c′ a j
+        → Repairing t l₀ plan₀ plan memo′ sets′ ever′ f′ c′ a j
     unfolding runBy everAfter
     repairing-step F memo′ sets′ ever′ f′ c′ m em rows′ es ee O ef =
         let now : setsOf sets′ ≡ step (black t) (act t i) (setsOf sets) = es ∙ rw em refl in
@@ -152,13 +147,12 @@ module _ {t : Task} {l₀ plan₀ plan memo work sets ever : List ℕ} {f : Valu
         let later = known-run (act t) (black t) (i ∷ []) (setsOf sets) (G .held) (G .below) in
         let same = same-facts (run (act t) relaxed (i ∷ []) (known (black t) (setsOf sets) (G .held))) (known (black t) (run (act t) (black t) (i ∷ []) (setsOf sets)) held′) later in
         let more : take (c .steps + 1) plan ≡ take (c .steps) plan ++ (i ∷ []) = rw (add-one (c .steps), ei) (take-suc plan (c .steps) 0 (omega arith)) in
-        let cut : slice (c .steps) a plan ≡ i ∷ slice (c .steps + 1) a plan = rw (add-one (c .steps), ei) (slice-cons (c .steps) a plan 0 k bound) in
+        let cut : slice (c .steps) a plan ≡ i ∷ slice (c .steps + 1) a plan = rw (add-one (c .steps), ei) (slice-cons (c .steps) a plan 0 k repairing-within) in
         record {
           held = held′;
           within = G .within;
           long = G .long;
           rows = rows′;
-          work-long = G .work-long;
           place = G .place;
           taken = omega (arith, O .steps, k);
           entries = G .entries;
@@ -169,17 +163,17 @@ module _ {t : Task} {l₀ plan₀ plan memo work sets ever : List ℕ} {f : Valu
         }
 
 -- the steps of stage j were written; of the relaxed plan the part `rest` was handed on
-pub record Arranged (t : Task) (l₀ plan₀ plan memo work sets ever : List ℕ) (f : Values) (c : Counts) (a j : ℕ) (rest plan′ : List ℕ) (r : Written) : Type 0 where
-  pub start : Repairing t l₀ plan₀ plan memo work sets ever f c a j
+pub record Arranged (t : Task) (l₀ plan₀ plan memo sets ever : List ℕ) (f : Values) (c : Counts) (a j : ℕ) (rest plan′ : List ℕ) (r : Written) : Type 0 where
+  pub start : Repairing t l₀ plan₀ plan memo sets ever f c a j
   pub taken : c .steps ≡ a
   pub here : j ≤ length l₀
   pub part : rest ≡ drop j l₀
   pub long : length plan′ ≡ length plan
   pub put : Put plan plan′ a (stageOf t (setsOf ever) (setsOf sets) rest) r
 
-module _ {t : Task} {l₀ plan₀ plan memo work sets ever : List ℕ} {f : Values} {c : Counts} {a j : ℕ} {rest plan′ : List ℕ} {r : Written}
-    (R : Arranged t l₀ plan₀ plan memo work sets ever f c a j rest plan′ r) where
-  abbrev G : Repairing t l₀ plan₀ plan memo work sets ever f c a j
+module _ {t : Task} {l₀ plan₀ plan memo sets ever : List ℕ} {f : Values} {c : Counts} {a j : ℕ} {rest plan′ : List ℕ} {r : Written}
+    (R : Arranged t l₀ plan₀ plan memo sets ever f c a j rest plan′ r) where
+  abbrev G : Repairing t l₀ plan₀ plan memo sets ever f c a j
   G = R .start
 
   abbrev steps : List ℕ
@@ -205,7 +199,7 @@ module _ {t : Task} {l₀ plan₀ plan memo work sets ever : List ℕ} {f : Valu
     bounds = (omega (arith, told .0), omega (arith, told .1, R .long))
 
     front-long : length (take a plan) ≡ a
-    front-long = length-take-le a plan (omega (arith, G .within, G .long))
+    front-long = length-take-le a plan (repairing-within G)
 
     part-is : slice a x plan′ ≡ steps
     part-is = rw (told .2) (drop-at (take a plan) steps a front-long)
@@ -228,14 +222,12 @@ module _ {t : Task} {l₀ plan₀ plan memo work sets ever : List ℕ} {f : Valu
     pub repairing-fits : x ≤ length plan₀
     repairing-fits = omega (arith, told .1, G .long)
 
-    pub repairing-turn : Entries t rest → (memo′ work′ : List ℕ) → Memo t (setsOf ever) memo′ → length work′ ≡ length work
-        → Repairing t l₀ plan₀ plan′ memo′ work′ sets ever f c x (j + 1)
-    repairing-turn en memo′ work′ rows′ lw = record {
+    pub repairing-turn : Entries t rest → (memo′ : List ℕ) → Memo t (setsOf ever) memo′ → Repairing t l₀ plan₀ plan′ memo′ sets ever f c x (j + 1)
+    repairing-turn en memo′ rows′ = record {
       held = G .held;
       within = repairing-fits;
       long = R .long ∙ G .long;
       rows = rows′;
-      work-long = lw ∙ G .work-long;
       place = omega (arith, R .here);
       taken = omega (arith, R .taken, bounds);
       entries = rw (told .2) (append-entries t (take a plan) steps (G .entries) (stage-entries t (setsOf ever) (setsOf sets) rest en));

@@ -2,7 +2,7 @@
 use mathlib.Core.Path.{_≡_}
 use mathlib.Core.Bool.{true, false}
 use mathlib.Core.List.{List, [], _∷_, _++_}
-use Prim.Native.Nat.{ℕ, _/_, _%_, _<_, _≤_}
+use Prim.Native.Nat.{ℕ, _/_, _%_, _<_}
 use lib.ListN.{length, getD}
 use Rattle.planning.specs.Record.{Fact, Task}
 use Rattle.planning.specs.Runs.{State, variables, count, act, black, goals}
@@ -20,11 +20,6 @@ pub record Present (t : Task) (s : State) (v r : ℕ) : Type 0 where
 pub record Wanted (t : Task) (facts : List ℕ) : Type 0 where
   pub inside : (k : ℕ) → k < length facts → getD facts k 0 / 64 < variables t
   pub fitting : Fitting t (factsOf facts)
-
--- two lists of one length, and a place in them
-pub record Lent (plan work : List ℕ) (at : ℕ) : Type 0 where
-  pub same : length work ≡ length plan
-  pub within : at ≤ length plan
 
 -- the passes of the variables vs over the list l
 abbrev pub fillFrom : Task → State → State → List ℕ → List ℕ → List Fact → List ℕ

@@ -1,6 +1,5 @@
-// The repair of a relaxed plan. Steps so far stand in the front of the plan list, the moves under construction behind them;
-// a pass that rebuilds the moves does so in the work list. Passes only insert and applying only appends, so as soon as steps and moves do
-// not fit, the whole plan does not.
+// The repair of a relaxed plan. Steps so far stand in the front of the plan list, the moves under construction behind them, and a pass
+// works in the same place. Passes only insert and applying only appends, so as soon as steps and moves do not fit, the whole plan does not.
 use answers::Planned;
 use answers::Refusal;
 use paths::Written;
@@ -22,7 +21,7 @@ ghost use Rattle.passes.specs.Passes.{factsOf, Entries, Blank};
 ghost use Rattle.answers.specs.Plans.{answerOf};
 ghost use Rattle.repair.specs.Answers.{roomIn, Held};
 ghost use Rattle.repair.specs.Counting.{Small, Few, Onward, judgedBy};
-ghost use Rattle.repair.specs.Repairs.{Present, Wanted, Lent, filled, moved, stepsFor, lastMoves, stageOf};
+ghost use Rattle.repair.specs.Repairs.{Present, Wanted, filled, moved, stepsFor, lastMoves, stageOf};
 
 // The present fact of v, its newest value.
 fn present(task: &[u16], newest: &[u8; 64], v: usize) -> usize
@@ -72,9 +71,8 @@ fn fill(
     memo: &mut [u16],
     wanted: &[u16],
     plan: &mut [u16],
-    work: &mut [u16],
 ) -> Written
-    requires { ⌜ Prepared (now task) × Wanted (taskIn (now task)) (now wanted) × Lent (now plan) (now work) 0 ⌝ }
+    requires { ⌜ Prepared (now task) × Wanted (taskIn (now task)) (now wanted) ⌝ }
     requires { ⌜ Memo (taskIn (now task)) (setsOf (now ever)) (now memo) ⌝ }
     ensures { λ r. ⌜ Put (now (plan .entry)) (now (plan .exit)) 0 (filled (taskIn (now (task .entry))) (setsOf (now (ever .entry))) (setsOf (now (sets .entry))) (factsOf (now (wanted .entry)))) r ⌝ }
     ensures { λ _. ⌜ Memo (taskIn (now (task .entry))) (setsOf (now (ever .entry))) (now (memo .exit)) ⌝ }
@@ -85,7 +83,7 @@ fn fill(
     while p < n {
         let v = task::order_at(task, p);
         let f = present(task, sets, v);
-        let w = passes::serve(task, ever, memo, f, wanted, plan, e, work);
+        let w = passes::serve(task, ever, memo, f, wanted, plan, e);
         let Written::Upto(x) = w else {
             return Written::Long;
         };
@@ -104,9 +102,8 @@ fn moves(
     wanted: &[u16],
     plan: &mut [u16],
     at: usize,
-    work: &mut [u16],
 ) -> Written
-    requires { ⌜ Prepared (now task) × Wanted (taskIn (now task)) (now wanted) × Lent (now plan) (now work) at ⌝ }
+    requires { ⌜ Prepared (now task) × Wanted (taskIn (now task)) (now wanted) × (at ≤ length (now plan)) ⌝ }
     requires { ⌜ Memo (taskIn (now task)) (setsOf (now ever)) (now memo) ⌝ }
     ensures { λ r. ⌜ Put (now (plan .entry)) (now (plan .exit)) at (moved (taskIn (now (task .entry))) (setsOf (now (ever .entry))) (setsOf (now (sets .entry))) (factsOf (now (wanted .entry)))) r ⌝ }
     ensures { λ _. ⌜ Memo (taskIn (now (task .entry))) (setsOf (now (ever .entry))) (now (memo .exit)) ⌝ }
@@ -114,15 +111,7 @@ fn moves(
     if black_met(task, sets, wanted) {
         return Written::Upto(at);
     }
-    let w = fill(
-        task,
-        sets,
-        ever,
-        memo,
-        wanted,
-        &mut plan[at..],
-        &mut work[at..],
-    );
+    let w = fill(task, sets, ever, memo, wanted, &mut plan[at..]);
     let Written::Upto(n) = w else {
         return Written::Long;
     };
@@ -138,9 +127,8 @@ fn arrange(
     i: u16,
     plan: &mut [u16],
     at: usize,
-    work: &mut [u16],
 ) -> Written
-    requires { ⌜ Prepared (now task) × (i < actions (taskIn (now task))) × Lent (now plan) (now work) at ⌝ }
+    requires { ⌜ Prepared (now task) × (i < actions (taskIn (now task))) × (at ≤ length (now plan)) ⌝ }
     requires { ⌜ Memo (taskIn (now task)) (setsOf (now ever)) (now memo) ⌝ }
     ensures { λ r. ⌜ Put (now (plan .entry)) (now (plan .exit)) at (stepsFor (taskIn (now (task .entry))) (setsOf (now (ever .entry))) (setsOf (now (sets .entry))) i) r ⌝ }
     ensures { λ _. ⌜ Memo (taskIn (now (task .entry))) (setsOf (now (ever .entry))) (now (memo .exit)) ⌝ }
@@ -148,7 +136,7 @@ fn arrange(
     let k = lists::wide(i);
     let from = task::pre_start(task, k);
     let to = task::eff_start(task, k);
-    let w = moves(task, sets, ever, memo, &task[from..to], plan, at, work);
+    let w = moves(task, sets, ever, memo, &task[from..to], plan, at);
     passes::push(w, i, plan)
 }
 
@@ -160,9 +148,8 @@ fn finish(
     memo: &mut [u16],
     plan: &mut [u16],
     at: usize,
-    work: &mut [u16],
 ) -> Written
-    requires { ⌜ Prepared (now task) × Lent (now plan) (now work) at ⌝ }
+    requires { ⌜ Prepared (now task) × (at ≤ length (now plan)) ⌝ }
     requires { ⌜ Memo (taskIn (now task)) (setsOf (now ever)) (now memo) ⌝ }
     ensures { λ r. ⌜ Put (now (plan .entry)) (now (plan .exit)) at (lastMoves (taskIn (now (task .entry))) (setsOf (now (ever .entry))) (setsOf (now (sets .entry)))) r ⌝ }
     ensures { λ _. ⌜ Memo (taskIn (now (task .entry))) (setsOf (now (ever .entry))) (now (memo .exit)) ⌝ }
@@ -170,7 +157,7 @@ fn finish(
     let goals = Goals::load(task);
     let facts = goals.facts;
     let count = goals.count;
-    moves(task, sets, ever, memo, &facts[..count], plan, at, work)
+    moves(task, sets, ever, memo, &facts[..count], plan, at)
 }
 
 // The steps of the next stage, where a part of the relaxed plan is left: those for its first entry, or the moves for the goals.
@@ -182,17 +169,16 @@ fn stage(
     left: &[u16],
     plan: &mut [u16],
     at: usize,
-    work: &mut [u16],
 ) -> Written
-    requires { ⌜ Prepared (now task) × Entries (taskIn (now task)) (now left) × Lent (now plan) (now work) at ⌝ }
+    requires { ⌜ Prepared (now task) × Entries (taskIn (now task)) (now left) × (at ≤ length (now plan)) ⌝ }
     requires { ⌜ Memo (taskIn (now task)) (setsOf (now ever)) (now memo) ⌝ }
     ensures { λ r. ⌜ Put (now (plan .entry)) (now (plan .exit)) at (stageOf (taskIn (now (task .entry))) (setsOf (now (ever .entry))) (setsOf (now (sets .entry))) (now (left .entry))) r ⌝ }
     ensures { λ _. ⌜ Memo (taskIn (now (task .entry))) (setsOf (now (ever .entry))) (now (memo .exit)) ⌝ }
 {
     if left.len() == 0 {
-        return finish(task, sets, ever, memo, plan, at, work);
+        return finish(task, sets, ever, memo, plan, at);
     }
-    arrange(task, sets, ever, memo, left[0], plan, at, work)
+    arrange(task, sets, ever, memo, left[0], plan, at)
 }
 
 // What is counted along a list: its steps, those that run for real, the cost.
@@ -253,14 +239,8 @@ fn too_long(room: usize) -> Planned
 
 // The repair from the initial state in one pass: where every step placed is taken the next stage is placed behind them, else one
 // step is taken. The state's step stands last in the turn: the compiler then copies the state twice for it, elsewhere three times.
-fn repair_from(
-    task: &[u16],
-    memo: &mut [u16],
-    list: &[u16],
-    plan: &mut [u16],
-    work: &mut [u16],
-) -> Planned
-    requires { ⌜ Prepared (now task) × Entries (taskIn (now task)) (now list) × Blank (now memo) × Lent (now plan) (now work) 0 × (length (now plan) ≤ 32768) ⌝ }
+fn repair_from(task: &[u16], memo: &mut [u16], list: &[u16], plan: &mut [u16]) -> Planned
+    requires { ⌜ Prepared (now task) × Entries (taskIn (now task)) (now list) × Blank (now memo) × (length (now plan) ≤ 32768) ⌝ }
     ensures { λ r. ⌜ Held (taskIn (now (task .entry))) (repaired (taskIn (now (task .entry))) (now (list .entry))) (now (plan .exit)) (length (now (plan .entry))) r ⌝ }
 {
     let paint = state::painted(task);
@@ -280,7 +260,7 @@ fn repair_from(
             if j > list.len() {
                 return verdict(task, &s.newest, c);
             }
-            let w = stage(task, &s.sets, &ever.sets, memo, &list[j..], plan, at, work);
+            let w = stage(task, &s.sets, &ever.sets, memo, &list[j..], plan, at);
             let Written::Upto(x) = w else {
                 return too_long(plan.len());
             };
@@ -300,18 +280,12 @@ fn repair_from(
 
 // The repair of a relaxed plan, in the front of the plan list: its steps, its cost, those that run for real, and whether it is a plan in a
 // real run; 11 if it is longer than the capacity.
-pub fn repair(task: &[u16], relaxed: &[u16], plan: &mut [u16], work: &mut [u16]) -> Planned
+pub fn repair(task: &[u16], relaxed: &[u16], plan: &mut [u16], work: &[u16]) -> Planned
     requires { ⌜ Prepared (now task) × Entries (taskIn (now task)) (now relaxed) ⌝ }
     ensures { λ r. ⌜ Held (taskIn (now (task .entry))) (repaired (taskIn (now (task .entry))) (now (relaxed .entry))) (now (plan .exit)) (roomIn (now (plan .entry)) (now (work .entry))) r ⌝ }
 {
     let room = lists::capacity(lists::lesser(plan.len(), work.len()));
     let mut memo = [0u16; paths::MEMO];
     passes::forget(&mut memo);
-    repair_from(
-        task,
-        &mut memo,
-        relaxed,
-        &mut plan[..room],
-        &mut work[..room],
-    )
+    repair_from(task, &mut memo, relaxed, &mut plan[..room])
 }

@@ -14,7 +14,7 @@ abbrev wide-of : tie.After-eff-start → tie.After-wide
 wide-of c = c .before .before
 
 abbrev start-of : tie.After-wide → tie.Start
-start-of c = c .before .before .before .before .before
+start-of c = c .before .before .before .before
 
 bounds : (c : tie.After-eff-start) → (c .before .pre-start .result ≤ c .eff-start .result) × (c .eff-start .result ≤ length (start-of (wide-of c) .args .task .now))
 bounds c =
@@ -45,7 +45,7 @@ part-moves-end c = omega (arith, bounds (c .before))
 
 moves-requires : tie.Need-moves-requires
 moves-requires c κs =
-    let e = c .before .before .before .before in
+    let e = c .before .before .before in
     let k = wide-of e in
     let p = start-of k .pre in
     ((p .0 .0, part-wanted _ (p .0 .0 .loaded) _ _ _ _ (k .wide .ensures) (p .0 .1) (e .before .pre-start .ensures) (e .eff-start .ensures), p .0 .2), p .1)
@@ -59,13 +59,10 @@ same-length c = search needs
 same-length-2 : tie.Need-same-length-2
 same-length-2 c = search needs
 
-same-length-3 : tie.Need-same-length-3
-same-length-3 c = search needs
-
 returns : tie.Need-returns
 returns c =
-    let m = c .before .before .before .before .before .before .before .before .before .before in
-    let e = m .before .before .before .before .before in
+    let m = c .before .before .before .before .before .before .before .before in
+    let e = m .before .before .before .before in
     let k = wide-of e in
     let s = start-of k in
     let a = s .args in
@@ -73,7 +70,7 @@ returns c =
     let put = moves-pre (a .task .now) (s .pre .0 .0 .loaded) _ _ _ _ (k .wide .ensures) (s .pre .0 .1) (e .before .pre-start .ensures) (e .eff-start .ensures)
     (setsOf (a .ever .now)) (setsOf (a .sets .now)) (a .plan .now) _ (a .at) (m .moves .result) (m .moves .ensures .0) in (
       c .before .before .push .ensures (a .plan .now) (a .at) (moved t (setsOf (a .ever .now)) (setsOf (a .sets .now)) (act t (a .i) .pre))
-          (c .before .before .before .before .before .before .before .plan .given) put,
+          (c .before .before .before .before .before .plan .given) put,
       m .moves .ensures .1,
     )
 
@@ -92,5 +89,4 @@ arrange-spec =
     push-requires
     same-length
     same-length-2
-    same-length-3
     returns)

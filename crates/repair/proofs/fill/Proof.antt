@@ -18,23 +18,23 @@ use Rattle.repair.proofs.fill.Statement.{statement}
 use Rattle.repair.proofs.fill.Tie as tie
 
 abbrev Inv-loop : tie.InvT-loop
-Inv-loop task sets ever memo₀ wanted plan₀ work₀ n e₀ p₀ memo plan work e p = Filling (taskIn task) (setsOf ever) (setsOf sets) (orderIn task) (factsOf wanted) plan₀ plan memo work e p
+Inv-loop task sets ever memo₀ wanted plan₀ n e₀ p₀ memo plan e p = Filling (taskIn task) (setsOf ever) (setsOf sets) (orderIn task) (factsOf wanted) plan₀ plan memo e p
 
 abbrev μ-loop : tie.MeasureT-loop
-μ-loop task sets ever memo₀ wanted plan₀ work₀ n e₀ p₀ memo plan work e p = n - p
+μ-loop task sets ever memo₀ wanted plan₀ n e₀ p₀ memo plan e p = n - p
 
 -- the points of a turn, from the last to the first
 abbrev serve-of : tie.After-known-told Inv-loop μ-loop → tie.After-serve Inv-loop μ-loop
-serve-of c = c .before .before .before .before .before .before .before .before .before
+serve-of c = c .before .before .before .before .before .before .before
 
 abbrev present-of : tie.After-serve Inv-loop μ-loop → tie.After-present Inv-loop μ-loop
-present-of c = c .before .before .before .before
+present-of c = c .before .before .before
 
 abbrev head-of : tie.After-present Inv-loop μ-loop → tie.At-loop Inv-loop μ-loop
 head-of c = c .before .before .before
 
 abbrev start-of : tie.At-loop Inv-loop μ-loop → tie.Start Inv-loop μ-loop
-start-of h = h .before .before .before .before .before .before .before
+start-of h = h .before .before .before .before .before .before
 
 abbrev left-by : tie.After-serve Inv-loop μ-loop → List ℕ
 left-by c = c .serve .last .1 .1 .1 .1 .1 .0
@@ -46,10 +46,10 @@ painted : (c : tie.After-order-at Inv-loop μ-loop) → let t = taskIn (start-of
 painted c = order-black _ _ (start-of (c .before .before) .pre .0 .0 .ordered) _ (within (c .before)) _ (c .order-at .ensures)
 
 ordered-requires : tie.Need-ordered-requires Inv-loop μ-loop
-ordered-requires c κs = c .before .before .before .before .before .pre .0 .0
+ordered-requires c κs = c .before .before .before .before .pre .0 .0
 
 loop-holds : tie.Need-loop-holds Inv-loop μ-loop
-loop-holds c = let p = c .before .before .before .before .before .before .pre in filling-start _ _ _ _ _ _ _ _ (p .1) (p .0 .2 .same)
+loop-holds c = filling-start _ _ _ _ _ _ _ (c .before .before .before .before .before .pre .1)
 
 order-at-requires : tie.Need-order-at-requires Inv-loop μ-loop
 order-at-requires c κs = (start-of (c .before) .pre .0 .0, within c)
@@ -59,14 +59,14 @@ present-requires c κs = (start-of (c .before .before) .pre .0 .0 .loaded, paint
 
 serve-requires : tie.Need-serve-requires Inv-loop μ-loop
 serve-requires c κs =
-    let v = c .before .before .before in
+    let v = c .before .before in
     let h = head-of v in
     let s = start-of h in
     let t = taskIn (s .args .task .now) in
     let i = h .loop .inv in
     let F = v .present .ensures in (
       (s .pre .0 .0, rw (F .of) (painted (v .before) .1), i .rows),
-      ((rw (F .of) (F .below), s .pre .0 .1 .fitting), (omega (arith, i .within, i .long), omega (arith, i .work-long, i .long), i .entries)),
+      ((rw (F .of) (F .below), s .pre .0 .1 .fitting), (omega (arith, i .within, i .long), i .entries)),
     )
 
 enum-known-w : tie.Need-enum-known-w Inv-loop μ-loop
@@ -77,22 +77,17 @@ enum-told c = search needs
 
 same-length : tie.Need-same-length Inv-loop μ-loop
 same-length c =
-    let d = c .before .before .before .before .before .before .before .before in
+    let d = c .before .before .before .before .before .before in
     d .serve .ensures .1 .long ∙ sym (start-of (head-of (present-of d)) .pre .1 .long)
 
 same-length-2 : tie.Need-same-length-2 Inv-loop μ-loop
 same-length-2 c =
-    let h = head-of (present-of (c .before .before .before .before .before .before .before .before)) in
-    c .before .before .before .before .before .plan .given ∙ h .loop .inv .long
-
-same-length-3 : tie.Need-same-length-3 Inv-loop μ-loop
-same-length-3 c =
-    let h = head-of (present-of (c .before .before .before .before .before .before .before .before)) in
-    c .before .before .before .work .given ∙ h .loop .inv .work-long ∙ sym (start-of h .pre .0 .2 .same)
+    let h = head-of (present-of (c .before .before .before .before .before .before)) in
+    c .before .before .before .plan .given ∙ h .loop .inv .long
 
 returns : tie.Need-returns Inv-loop μ-loop
 returns c =
-    let d = c .before .before .before .before .before .before .before .before in
+    let d = c .before .before .before .before .before .before in
     let v = present-of d in
     let h = head-of v in (
       filling-long (h .loop .inv) (within (v .before .before)) _ _ (v .before .order-at .ensures) (v .present .ensures) (left-by d) (d .serve .result) (d .serve .ensures .0) (c .enum-told .given .1)
@@ -114,16 +109,13 @@ loop-again c =
     let d = serve-of c in
     let v = present-of d in
     filling-turn (head-of v .loop .inv) (within (v .before .before)) _ _ (v .before .order-at .ensures) (v .present .ensures) (left-by d) (d .serve .result) (d .serve .ensures .0)
-    _ _ _ (c .before .w .given .1) (c .before .before .before .before .before .before .plan .given) (d .serve .ensures .1) (c .before .before .before .before .work .given)
+    _ _ (c .before .w .given .1) (c .before .before .before .before .plan .given) (d .serve .ensures .1)
+
+same-length-3 : tie.Need-same-length-3 Inv-loop μ-loop
+same-length-3 c = let h = c .before in h .loop .inv .rows .long ∙ sym (start-of h .pre .1 .long)
 
 same-length-4 : tie.Need-same-length-4 Inv-loop μ-loop
-same-length-4 c = let h = c .before in h .loop .inv .rows .long ∙ sym (start-of h .pre .1 .long)
-
-same-length-5 : tie.Need-same-length-5 Inv-loop μ-loop
-same-length-5 c = c .before .loop .inv .long
-
-same-length-6 : tie.Need-same-length-6 Inv-loop μ-loop
-same-length-6 c = let h = c .before in h .loop .inv .work-long ∙ sym (start-of h .pre .0 .2 .same)
+same-length-4 c = c .before .loop .inv .long
 
 returns-2 : tie.Need-returns-2 Inv-loop μ-loop
 returns-2 c =
@@ -145,12 +137,10 @@ fill-spec =
     enum-told
     same-length
     same-length-2
-    same-length-3
     returns
     add-p
     loop-less
     loop-again
+    same-length-3
     same-length-4
-    same-length-5
-    same-length-6
     returns-2)

@@ -11,7 +11,7 @@ use Rattle.repair.proofs.finish.Statement.{statement}
 use Rattle.repair.proofs.finish.Tie as tie
 
 abbrev start-of : tie.After-load → tie.Start
-start-of c = c .before .before .before .before .before
+start-of c = c .before .before .before .before
 
 few : (c : tie.After-load) → c .load .result .count ≤ length (c .load .result .facts)
 few c =
@@ -29,7 +29,7 @@ slice-aggregate-moves c = sym (length-take-le _ _ (few (c .before .before .befor
 
 moves-requires : tie.Need-moves-requires
 moves-requires c κs =
-    let l = c .before .before .before .before .before in
+    let l = c .before .before .before .before in
     let p = start-of l .pre in
     ((p .0 .0, goals-wanted (taskIn (start-of l .args .task .now)) (p .0 .0 .loaded .formed) (l .load .result) (l .load .ensures) (few l), p .0 .1), p .1)
 
@@ -39,13 +39,10 @@ same-length c = search needs
 same-length-2 : tie.Need-same-length-2
 same-length-2 c = search needs
 
-same-length-3 : tie.Need-same-length-3
-same-length-3 c = search needs
-
 returns : tie.Need-returns
 returns c =
-    let m = c .before .before .before .before .before .before in
-    let l = m .before .before .before .before .before .before in
+    let m = c .before .before .before .before in
+    let l = m .before .before .before .before .before in
     let s = start-of l in
     let a = s .args in (
       goals-moves (taskIn (a .task .now)) (s .pre .0 .0 .loaded .formed) (l .load .result) (l .load .ensures) (few l)
@@ -63,5 +60,4 @@ finish-spec =
     moves-requires
     same-length
     same-length-2
-    same-length-3
     returns)

@@ -1,20 +1,20 @@
 use borrow.Author.Needs.{needs}
 use mathlib.Core.List.{List}
-use mathlib.Core.Path.{refl, sym, _∙_}
+use mathlib.Core.Path.{sym, _∙_}
 use Prim.Native.Nat.{ℕ, _-_}
 use native.Mathlib.Omega.{arith}
 use Rattle.task.specs.Task.{taskIn}
 use Rattle.state.specs.Sets.{setsOf}
 use Rattle.passes.specs.Passes.{factsOf}
-use Rattle.repair.proofs.Arranging.{Passed, moves-none, moves-long, moves-some, moves-fit, parts-lent}
+use Rattle.repair.proofs.Arranging.{Passed, moves-none, moves-long, moves-some, moves-fit}
 use Rattle.repair.proofs.moves.Statement.{statement}
 use Rattle.repair.proofs.moves.Tie as tie
 
 abbrev met-of : tie.After-fill → tie.Else1
-met-of c = c .before .before .before .before
+met-of c = c .before .before .before
 
 abbrev start-of : tie.Else1 → tie.Start
-start-of c = c .before .before .before .before .before .before .before
+start-of c = c .before .before .before .before .before .before
 
 abbrev fill-of : tie.After-plan → tie.After-fill
 fill-of c = c .before .before .before
@@ -27,17 +27,17 @@ passed : (c : tie.After-plan) → let f = fill-of c in let a = start-of (met-of 
 passed c =
     let f = fill-of c in
     let b = met-of f in
-    record { unmet = sym (b .before .black-met .ensures) ∙ b .if1 .left; within = start-of b .pre .0 .2 .within; long = c .plan .given .0; put = f .fill .ensures .0 }
+    record { unmet = sym (b .before .black-met .ensures) ∙ b .if1 .left; within = start-of b .pre .0 .2; long = c .plan .given .0; put = f .fill .ensures .0 }
 
 black-met-requires : tie.Need-black-met-requires
-black-met-requires c κs = let p = c .before .before .before .before .before .pre .0 in (p .0 .loaded, p .1)
+black-met-requires c κs = let p = c .before .before .before .before .pre .0 in (p .0 .loaded, p .1)
 
 returns : tie.Need-returns
 returns c =
-    let s = c .before .before .before .before .before .before .before in
+    let s = c .before .before .before .before .before .before in
     let a = s .args in (
       moves-none (taskIn (a .task .now)) (setsOf (a .ever .now)) (setsOf (a .sets .now)) (factsOf (a .wanted .now)) (a .plan .now) (a .at) (sym (c .before .black-met .ensures) ∙ c .if1 .taken)
-          (s .pre .0 .2 .within),
+          (s .pre .0 .2),
       s .pre .1,
     )
 
@@ -53,22 +53,10 @@ part-fill-start c = search needs
 part-fill-end : tie.Need-part-fill-end
 part-fill-end c = search needs
 
-mul-fill-2 : tie.Need-mul-fill-2
-mul-fill-2 c = search needs
-
-sub-fill-2 : tie.Need-sub-fill-2
-sub-fill-2 c = search needs
-
-part-fill-start-2 : tie.Need-part-fill-start-2
-part-fill-start-2 c = search needs
-
-part-fill-end-2 : tie.Need-part-fill-end-2
-part-fill-end-2 c = search needs
-
 fill-requires : tie.Need-fill-requires
 fill-requires c κs =
-    let p = start-of (c .before .before .before) .pre in
-    ((p .0 .0, p .0 .1, parts-lent _ _ _ _ _ (p .0 .2) refl refl), p .1)
+    let p = start-of (c .before .before) .pre in
+    ((p .0 .0, p .0 .1), p .1)
 
 enum-known-w : tie.Need-enum-known-w
 enum-known-w c = search needs
@@ -82,31 +70,25 @@ same-length c = search needs
 same-length-2 : tie.Need-same-length-2
 same-length-2 c = search needs
 
-same-length-3 : tie.Need-same-length-3
-same-length-3 c = search needs
-
 returns-2 : tie.Need-returns-2
 returns-2 c =
-    let p = c .before .before .before .before .before in
+    let p = c .before .before .before in
     (moves-long (passed p) (c .enum-told .given .1), fill-of p .fill .ensures .1)
 
-add-t14 : tie.Need-add-t14
-add-t14 c =
-    let p = c .before .before .before .before .before .before in
+add-t13 : tie.Need-add-t13
+add-t13 c =
+    let p = c .before .before .before .before in
     omega (arith, start-of (met-of (fill-of p)) .good, moves-fit (passed p) _ (c .before .w .given .1))
+
+same-length-3 : tie.Need-same-length-3
+same-length-3 c = search needs
 
 same-length-4 : tie.Need-same-length-4
 same-length-4 c = search needs
 
-same-length-5 : tie.Need-same-length-5
-same-length-5 c = search needs
-
-same-length-6 : tie.Need-same-length-6
-same-length-6 c = search needs
-
 returns-3 : tie.Need-returns-3
 returns-3 c =
-    let p = c .before .before .before .before .before .before in
+    let p = c .before .before .before .before in
     (moves-some (passed p) _ (c .before .w .given .1), fill-of p .fill .ensures .1)
 
 pub moves-spec : {M : Type 1} → statement M
@@ -119,19 +101,13 @@ moves-spec =
     sub-fill
     part-fill-start
     part-fill-end
-    mul-fill-2
-    sub-fill-2
-    part-fill-start-2
-    part-fill-end-2
     fill-requires
     enum-known-w
     enum-told
     same-length
     same-length-2
-    same-length-3
     returns-2
-    add-t14
+    add-t13
+    same-length-3
     same-length-4
-    same-length-5
-    same-length-6
     returns-3)

@@ -14,29 +14,29 @@ use Rattle.task.specs.Task.{taskIn}
 use Rattle.state.specs.Sets.{setsOf, valuesOf}
 use Rattle.paths.specs.Paths.{Memo}
 use Rattle.repair.proofs.Values.{mode-none, step-held}
-use Rattle.repair.proofs.Repairing.{Repairing, repairing-start, repairing-lent, repairing-few, repairing-small, repairing-below, repairing-step}
+use Rattle.repair.proofs.Repairing.{Repairing, repairing-start, repairing-within, repairing-few, repairing-small, repairing-below, repairing-step}
 use Rattle.repair.proofs.Repairing.{Arranged, repairing-long, repairing-fits, repairing-turn, stages-fewer, steps-fewer, rest-is, rest-entries}
 use Rattle.repair.proofs.Ending.{repairing-held, held-long}
 use Rattle.repair.proofs.repair_from.Statement.{statement}
 use Rattle.repair.proofs.repair_from.Tie as tie
 
 abbrev Inv-loop : tie.InvT-loop
-Inv-loop task memo₀ relaxed plan₀ work₀ paint needs s₀ ever₀ c₀ at₀ j₀ memo plan work s ever c at j =
-    Repairing (taskIn task) relaxed plan₀ plan memo work (s .sets) (ever .sets) (valuesOf (s .newest)) c at j
+Inv-loop task memo₀ relaxed plan₀ paint needs s₀ ever₀ c₀ at₀ j₀ memo plan s ever c at j =
+    Repairing (taskIn task) relaxed plan₀ plan memo (s .sets) (ever .sets) (valuesOf (s .newest)) c at j
 
 abbrev μ-loop : tie.MeasureT-loop
-μ-loop task memo₀ relaxed plan₀ work₀ paint needs s₀ ever₀ c₀ at₀ j₀ memo plan work s ever c at j =
+μ-loop task memo₀ relaxed plan₀ paint needs s₀ ever₀ c₀ at₀ j₀ memo plan s ever c at j =
     (length relaxed + 1 - j) * (length plan₀ + 1) + (at - c .steps)
 
 -- the points of a turn, from the last to the first
 abbrev start-of : tie.At-loop Inv-loop μ-loop → tie.Start Inv-loop μ-loop
-start-of h = h .before .before .before .before .before .before .before .before .before
+start-of h = h .before .before .before .before .before .before .before .before
 
 abbrev stage-of : tie.After-plan Inv-loop μ-loop → tie.After-stage Inv-loop μ-loop
 stage-of c = c .before .before .before
 
 abbrev again-of : tie.After-stage Inv-loop μ-loop → tie.Else2 Inv-loop μ-loop
-again-of c = c .before .before .before .before .before .before .before .before .before
+again-of c = c .before .before .before .before .before .before .before .before
 
 abbrev left-by : tie.After-stage Inv-loop μ-loop → List ℕ
 left-by c = c .stage .last .1 .1 .1 .1 .1 .0
@@ -61,7 +61,7 @@ abbrev learnt-of : Last → tie.Joined3 Inv-loop μ-loop
 learnt-of c = c .before .before .before .before
 
 arranged : (c : tie.After-plan Inv-loop μ-loop) → let d = stage-of c in let e = again-of d in let h = e .before .before in let a = start-of h .args in let l = h .loop in
-    Arranged (taskIn (a .task .now)) (a .list .now) (a .plan .now) (l .plan) (l .memo) (l .work) (l .s .sets) (l .ever .sets) (valuesOf (l .s .newest)) (l .c) (l .at) (l .j)
+    Arranged (taskIn (a .task .now)) (a .list .now) (a .plan .now) (l .plan) (l .memo) (l .s .sets) (l .ever .sets) (valuesOf (l .s .newest)) (l .c) (l .at) (l .j)
     (take (length (a .list .now) - l .j) (drop (l .j) (a .list .now))) (left-by d) (d .stage .result)
 arranged c =
     let d = stage-of c in
@@ -97,25 +97,24 @@ learnt c =
     ]
 
 painted-requires : tie.Need-painted-requires Inv-loop μ-loop
-painted-requires c κs = c .before .before .before .before .before .pre .0 .loaded
+painted-requires c κs = c .before .before .before .before .pre .0 .loaded
 
 needs-requires : tie.Need-needs-requires Inv-loop μ-loop
-needs-requires c κs = c .before .before .before .before .before .before .pre .0 .loaded
+needs-requires c κs = c .before .before .before .before .before .pre .0 .loaded
 
 initial-requires : tie.Need-initial-requires Inv-loop μ-loop
-initial-requires c κs = c .before .before .before .before .before .before .before .pre .0 .loaded
+initial-requires c κs = c .before .before .before .before .before .before .pre .0 .loaded
 
 loop-holds : tie.Need-loop-holds Inv-loop μ-loop
 loop-holds c =
-    let p = c .before .before .before .before .before .before .before .before .pre in
     let e = c .initial .ensures in
-    repairing-start _ _ _ _ _ _ _ _ (p .2) (p .3) (e .0) (e .0) (e .1)
+    repairing-start _ _ _ _ _ _ _ (c .before .before .before .before .before .before .before .pre .2) (e .0) (e .0) (e .1)
 
 verdict-requires : tie.Need-verdict-requires Inv-loop μ-loop
 verdict-requires c κs =
     let h = c .before .before .before .before in
     let p = start-of h .pre in
-    (p .0 .loaded, repairing-few (h .loop .inv) (p .0 .loaded .formed) (p .4))
+    (p .0 .loaded, repairing-few (h .loop .inv) (p .0 .loaded .formed) (p .3))
 
 same-length : tie.Need-same-length Inv-loop μ-loop
 same-length c =
@@ -124,11 +123,6 @@ same-length c =
 
 same-length-2 : tie.Need-same-length-2 Inv-loop μ-loop
 same-length-2 c = c .before .before .before .before .before .loop .inv .long
-
-same-length-3 : tie.Need-same-length-3 Inv-loop μ-loop
-same-length-3 c =
-    let h = c .before .before .before .before .before in
-    h .loop .inv .work-long ∙ sym (start-of h .pre .3 .same)
 
 returns : tie.Need-returns Inv-loop μ-loop
 returns c =
@@ -152,10 +146,10 @@ part-stage-end c = omega (arith, c .before .before .before .before .before .if2 
 
 stage-requires : tie.Need-stage-requires Inv-loop μ-loop
 stage-requires c κs =
-    let e = c .before .before .before .before .before .before .before .before in
+    let e = c .before .before .before .before .before .before .before in
     let h = e .before .before in
     let p = start-of h .pre in
-    ((p .0, rest-entries (start-of h .args .list .now) (h .loop .j) (omega (arith, e .if2 .left)) (taskIn (start-of h .args .task .now)) (p .1), repairing-lent (h .loop .inv)), h .loop .inv .rows)
+    ((p .0, rest-entries (start-of h .args .list .now) (h .loop .j) (omega (arith, e .if2 .left)) (taskIn (start-of h .args .task .now)) (p .1), repairing-within (h .loop .inv)), h .loop .inv .rows)
 
 enum-known-w : tie.Need-enum-known-w Inv-loop μ-loop
 enum-known-w c = search needs
@@ -165,51 +159,46 @@ enum-told c = search needs
 
 too-long-requires : tie.Need-too-long-requires Inv-loop μ-loop
 too-long-requires c κs =
-    let p = c .before .before .before .before .before in
+    let p = c .before .before .before in
     let h = again-of (stage-of p) .before .before in
-    omega (arith, p .plan .given, h .loop .inv .long, start-of h .pre .4)
+    omega (arith, p .plan .given, h .loop .inv .long, start-of h .pre .3)
+
+same-length-3 : tie.Need-same-length-3 Inv-loop μ-loop
+same-length-3 c =
+    let d = stage-of (c .before .before .before .before) in
+    d .stage .ensures .1 .long ∙ sym (start-of (again-of d .before .before) .pre .2 .long)
 
 same-length-4 : tie.Need-same-length-4 Inv-loop μ-loop
 same-length-4 c =
-    let d = stage-of (c .before .before .before .before .before .before) in
-    d .stage .ensures .1 .long ∙ sym (start-of (again-of d .before .before) .pre .2 .long)
-
-same-length-5 : tie.Need-same-length-5 Inv-loop μ-loop
-same-length-5 c =
-    let p = c .before .before .before .before .before .before in
+    let p = c .before .before .before .before in
     p .plan .given ∙ again-of (stage-of p) .before .before .loop .inv .long
-
-same-length-6 : tie.Need-same-length-6 Inv-loop μ-loop
-same-length-6 c =
-    let h = again-of (stage-of (c .before .before .before .before .before .before)) .before .before in
-    c .before .before .before .before .work .given ∙ h .loop .inv .work-long ∙ sym (start-of h .pre .3 .same)
 
 returns-2 : tie.Need-returns-2 Inv-loop μ-loop
 returns-2 c =
-    let p = c .before .before .before .before .before .before in
+    let p = c .before .before .before .before in
     let h = again-of (stage-of p) .before .before in
     held-long _ _ _ _ _ (c .too-long .ensures ∙ ap (refused 11) (p .plan .given ∙ h .loop .inv .long)) (repairing-long (arranged p) (c .before .enum-told .given .1))
 
 add-j : tie.Need-add-j Inv-loop μ-loop
 add-j c =
-    let e = again-of (stage-of (c .before .before .before .before .before .before)) in
+    let e = again-of (stage-of (c .before .before .before .before)) in
     omega (arith, e .if2 .left, start-of (e .before .before) .good)
 
 loop-less : tie.Need-loop-less Inv-loop μ-loop
 loop-less c =
-    let p = c .before .before .before .before .before .before in
+    let p = c .before .before .before .before in
     let e = again-of (stage-of p) in
     stages-fewer _ _ _ _ _ _ (omega (arith, e .if2 .left)) (repairing-fits (arranged p) _ (c .before .w .given .1))
 
 loop-again : tie.Need-loop-again Inv-loop μ-loop
 loop-again c =
-    let p = c .before .before .before .before .before .before in
+    let p = c .before .before .before .before in
     let d = stage-of p in
     let e = again-of d in
     let h = e .before .before in
     let a = start-of h in
-    repairing-turn (arranged p) _ (c .before .w .given .1) (rest-entries (a .args .list .now) (h .loop .j) (omega (arith, e .if2 .left)) (taskIn (a .args .task .now)) (a .pre .1)) _ _
-    (d .stage .ensures .1) (c .before .before .before .before .work .given)
+    repairing-turn (arranged p) _ (c .before .w .given .1) (rest-entries (a .args .list .now) (h .loop .j) (omega (arith, e .if2 .left)) (taskIn (a .args .task .now)) (a .pre .1)) _
+    (d .stage .ensures .1)
 
 mul-wide : tie.Need-mul-wide Inv-loop μ-loop
 mul-wide c =
@@ -243,7 +232,7 @@ counted-requires c κs =
     let w = wide-of (c .before .before .before) in
     let h = head-of w in
     let p = start-of h .pre in
-    (p .0 .loaded, below w, repairing-small (h .loop .inv) (less w) _ (w .wide .ensures) (p .0 .loaded .formed) (p .4))
+    (p .0 .loaded, below w, repairing-small (h .loop .inv) (less w) _ (w .wide .ensures) (p .0 .loaded .formed) (p .3))
 
 step-requires-2 : tie.Need-step-requires-2 Inv-loop μ-loop
 step-requires-2 c κs = let w = wide-of (c .before .before .before .before) in (start-of (head-of w) .pre .0 .loaded, below w)
@@ -272,7 +261,6 @@ repair-from-spec =
     verdict-requires
     same-length
     same-length-2
-    same-length-3
     returns
     mul-stage
     sub-stage
@@ -282,9 +270,8 @@ repair-from-spec =
     enum-known-w
     enum-told
     too-long-requires
+    same-length-3
     same-length-4
-    same-length-5
-    same-length-6
     returns-2
     add-j
     loop-less

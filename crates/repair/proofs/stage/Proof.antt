@@ -6,7 +6,7 @@ use Rattle.repair.proofs.stage.Statement.{statement}
 use Rattle.repair.proofs.stage.Tie as tie
 
 finish-requires : tie.Need-finish-requires
-finish-requires c κs = let p = c .before .before .before .before .before .before .before .before .before .pre in ((p .0 .0, p .0 .2), p .1)
+finish-requires c κs = let p = c .before .before .before .before .before .before .before .pre in ((p .0 .0, p .0 .2), p .1)
 
 same-length : tie.Need-same-length
 same-length c = search needs
@@ -14,13 +14,10 @@ same-length c = search needs
 same-length-2 : tie.Need-same-length-2
 same-length-2 c = search needs
 
-same-length-3 : tie.Need-same-length-3
-same-length-3 c = search needs
-
 returns : tie.Need-returns
 returns c =
-    let f = c .before .before .before .before .before .before in
-    let t = f .before .before .before .before in
+    let f = c .before .before .before .before in
+    let t = f .before .before .before in
     (stage-last _ _ _ _ (t .if1 .taken) _ _ _ (f .finish .result) (f .finish .ensures .0), f .finish .ensures .1)
 
 shared-slice-read-arrange : tie.Need-shared-slice-read-arrange
@@ -28,23 +25,20 @@ shared-slice-read-arrange c = omega (arith, c .before .before .if1 .left)
 
 arrange-requires : tie.Need-arrange-requires
 arrange-requires c κs =
-    let e = c .before .before .before .before in
-    let p = e .before .before .before .before .before .before .pre in
+    let e = c .before .before .before in
+    let p = e .before .before .before .before .before .pre in
     ((p .0 .0, p .0 .1 0 (omega (arith, e .if1 .left)), p .0 .2), p .1)
+
+same-length-3 : tie.Need-same-length-3
+same-length-3 c = search needs
 
 same-length-4 : tie.Need-same-length-4
 same-length-4 c = search needs
 
-same-length-5 : tie.Need-same-length-5
-same-length-5 c = search needs
-
-same-length-6 : tie.Need-same-length-6
-same-length-6 c = search needs
-
 returns-2 : tie.Need-returns-2
 returns-2 c =
-    let a = c .before .before .before .before .before .before in
-    let e = a .before .before .before .before .before in
+    let a = c .before .before .before .before in
+    let e = a .before .before .before .before in
     (stage-first _ _ _ _ (e .if1 .left) _ _ _ (a .arrange .result) (a .arrange .ensures .0), a .arrange .ensures .1)
 
 pub stage-spec : {M : Type 1} → statement M
@@ -54,11 +48,9 @@ stage-spec =
     finish-requires
     same-length
     same-length-2
-    same-length-3
     returns
     shared-slice-read-arrange
     arrange-requires
+    same-length-3
     same-length-4
-    same-length-5
-    same-length-6
     returns-2)
