@@ -82,8 +82,8 @@ pub held-front : (t : Task) (l ys rest : List ℕ) (n : ℕ) → n ≡ length ys
 held-front t l ys rest n en room e r H = rw (← e) (record { says = H .says; fills = λ b. take-append-le (length l) ys rest (omega (arith, en)) ∙ H .fills b })
 
 -- the repair where every step is taken and every stage placed
-pub repairing-held : {t : Task} {l₀ plan₀ plan memo sets ever : List ℕ} {f : Values} {c : Counts} {a j : ℕ}
-    → Repairing t l₀ plan₀ plan memo sets ever f c a j → Formed t → c .steps ≡ a → length l₀ < j
+pub repairing-held : {t : Task} {l₀ plan₀ plan memo sets : List ℕ} {f : Values} {c : Counts} {a j : ℕ}
+    → Repairing t l₀ plan₀ plan memo sets f c a j → Formed t → c .steps ≡ a → length l₀ < j
     → (r : Planned) → answerOf r ≡ done (judgedBy (holds (alone f) (goals t)) c) → Held t (repaired t l₀) plan (length plan₀) r
 repairing-held {t = t} {l₀ = l₀} {plan₀ = plan₀} {plan = plan} {f = f} {c = c} {a = a} G F k h r e =
     let whole = repairing-whole G k h in

@@ -1,6 +1,7 @@
--- The repair in the middle. Of the steps placed, the first ones are taken: state, newest values and counts are those behind them, and
--- what is left is the repair of the rest of the relaxed plan from the state behind the others. The facts held ever, which the code keeps,
--- are those of R and B (`knows`): the definition's `ever` is whatever it is, and the code needs only what is known of it.
+-- The repair in the middle. Of the steps placed, the first ones are taken: state and counts are those behind them, and what is left is the
+-- repair of the rest of the relaxed plan from the state behind the others. The code keeps the facts held ever and the newest values, which
+-- show the red-black state; the facts held ever are those of R and B (`knows`): the definition's `ever` is whatever it is, and the code needs
+-- only what is known of it.
 use mathlib.Core.Path.{_≡_, refl, sym, ap, _∙_, subst, fun-ext}
 use mathlib.Core.List.{List, [], _∷_, _++_, append-nil, append-assoc}
 use Prim.Native.Nat.{ℕ, zero, suc, _+_, _-_, _*_, _<_, _≤_}
@@ -9,15 +10,16 @@ use native.Mathlib.Omega.{arith}
 use lib.ListN.{length, getD, take, drop, length-append, length-drop}
 use lib.Seq.{slice, slice-cons, slice-empty, drop-cons, drop-length, drop-at, take-at, take-take, take-suc, take-all, getD-take, getD-drop, length-take-le}
 use Rattle.planning.specs.Record.{Fact, Task}
-use Rattle.planning.specs.Runs.{State, Mode, step, relaxed, run, runBy, initial, goals, actions, count, act, black}
+use Rattle.planning.specs.Runs.{State, step, relaxed, run, runBy, initial, goals, variables, actions, count, act, black}
 use Rattle.planning.specs.Newest.{Values, initialValues, newer}
 use Rattle.planning.specs.Repair.{known, everAfter, moves, order, stages, repaired}
 use Rattle.planning.proofs.Facts.{_⊆_}
 use Rattle.planning.proofs.Known.{_≈_, known-start, known-run, everAfter-now}
 use Rattle.planning.proofs.Tests.{bool-same}
 use Rattle.planning.proofs.Repair.{repairFrom, repairFrom-nil, repairFrom-cons}
-use Rattle.planning.proofs.Formed.{Formed}
-use Rattle.state.specs.Sets.{setsOf}
+use Rattle.planning.proofs.Formed.{Formed, sorted-func}
+use Rattle.state.specs.Sets.{setsOf, inColours}
+use Rattle.state.proofs.Colours.{colours-step, colours-initial}
 use Rattle.paths.specs.Paths.{Memo, Put}
 use Rattle.paths.specs.declared.Written.{Written}
 use Rattle.paths.specs.declared.Written.the-variants.{Upto, Long}
@@ -76,38 +78,44 @@ module _ (t : Task) (l : List ℕ) (j : ℕ) (s ever : State) where
       let e : j ≡ suc (length l) = omega arith in
       rw (e, drop-length l) refl
 
-pub record Repairing (t : Task) (l₀ plan₀ plan memo sets ever : List ℕ) (f : Values) (c : Counts) (a j : ℕ) : Type 0 where
+-- the red-black state that the code's lists show
+abbrev shown : Task → List ℕ → Values → State
+shown t sets f = inColours (black t) (setsOf sets) f
+
+pub record Repairing (t : Task) (l₀ plan₀ plan memo sets : List ℕ) (f : Values) (c : Counts) (a j : ℕ) : Type 0 where
   pub held : State
   pub within : a ≤ length plan₀
   pub long : length plan ≡ length plan₀
-  pub rows : Memo t (setsOf ever) memo
+  pub rows : Memo t (setsOf sets) memo
   pub place : j ≤ length l₀ + 1
   pub taken : c .steps ≤ a
   pub entries : Entries t (take a plan)
-  pub below : setsOf sets ⊆ held
-  pub knows : known (black t) (setsOf sets) held ≡ setsOf ever
+  pub below : shown t sets f ⊆ held
+  pub knows : known (black t) (shown t sets f) held ≡ setsOf sets
   pub counts : Counted t (take (c .steps) plan) f c
   pub so-far :
-      repaired t l₀ ≡ take a plan ++ leftOf t l₀ j (run (act t) (black t) (slice (c .steps) a plan) (setsOf sets)) (everAfter (act t) (black t) (slice (c .steps) a plan) (setsOf sets) held)
+      repaired t l₀ ≡ take a plan ++ leftOf t l₀ j (run (act t) (black t) (slice (c .steps) a plan) (shown t sets f)) (everAfter (act t) (black t) (slice (c .steps) a plan) (shown t sets f) held)
 
-pub repairing-start : (t : Task) (l₀ plan memo sets ever : List ℕ) (f : Values) → Blank memo
-    → setsOf sets ≡ initial t → setsOf ever ≡ initial t → f ≡ initialValues t → Repairing t l₀ plan plan memo sets ever f (record { steps = 0; runs = 0; cost = 0 }) 0 0
+pub repairing-start : (t : Task) (l₀ plan memo sets : List ℕ) (f : Values) → Blank memo → setsOf sets ≡ initial t → f ≡ initialValues t
+    → Repairing t l₀ plan plan memo sets f (record { steps = 0; runs = 0; cost = 0 }) 0 0
 unfolding repaired stages leftOf runBy everAfter
-repairing-start t l₀ plan memo sets ever f B es ee ef = record {
-  held = initial t;
-  within = omega arith;
-  long = refl;
-  rows = blank-memo t (setsOf ever) memo B;
-  place = omega arith;
-  taken = omega arith;
-  entries = λ k h. absurd (omega arith);
-  below = rw es (λ v d h. h);
-  knows = rw (es, ee) (sym (same-facts (initial t) (known (black t) (initial t) (initial t)) (known-start (black t) (initial t))));
-  counts = counted-none t f ef;
-  so-far = rw es refl;
-}
+repairing-start t l₀ plan memo sets f B es ef =
+    let e : shown t sets f ≡ initial t = rw (es, ef) (colours-initial t) in
+    record {
+      held = initial t;
+      within = omega arith;
+      long = refl;
+      rows = blank-memo t (setsOf sets) memo B;
+      place = omega arith;
+      taken = omega arith;
+      entries = λ k h. absurd (omega arith);
+      below = rw e (λ v d h. h);
+      knows = rw (e, es) (sym (same-facts (initial t) (known (black t) (initial t) (initial t)) (known-start (black t) (initial t))));
+      counts = counted-none t f ef;
+      so-far = rw e refl;
+    }
 
-module _ {t : Task} {l₀ plan₀ plan memo sets ever : List ℕ} {f : Values} {c : Counts} {a j : ℕ} (G : Repairing t l₀ plan₀ plan memo sets ever f c a j) where
+module _ {t : Task} {l₀ plan₀ plan memo sets : List ℕ} {f : Values} {c : Counts} {a j : ℕ} (G : Repairing t l₀ plan₀ plan memo sets f c a j) where
   pub repairing-within : a ≤ length plan
   repairing-within = omega (arith, G .within, G .long)
 
@@ -121,13 +129,13 @@ module _ {t : Task} {l₀ plan₀ plan memo sets ever : List ℕ} {f : Values} {
 
   -- every step placed is taken
   module _ (k : c .steps ≡ a) where
-    so-far′ : repaired t l₀ ≡ take a plan ++ leftOf t l₀ j (setsOf sets) (G .held)
+    so-far′ : repaired t l₀ ≡ take a plan ++ leftOf t l₀ j (shown t sets f) (G .held)
     unfolding runBy everAfter
     so-far′ = G .so-far ∙ rw (k, slice-empty a plan) refl
 
     -- and every stage placed
     pub repairing-whole : length l₀ < j → take a plan ≡ repaired t l₀
-    repairing-whole h = sym (so-far′ ∙ ap (λ (l : List ℕ). take a plan ++ l) (left-none t l₀ j (setsOf sets) (G .held) h (G .place)) ∙ append-nil (take a plan))
+    repairing-whole h = sym (so-far′ ∙ ap (λ (l : List ℕ). take a plan ++ l) (left-none t l₀ j (shown t sets f) (G .held) h (G .place)) ∙ append-nil (take a plan))
 
   -- a step is left: it is the action i
   module _ (k : c .steps < a) (i : ℕ) (ei : i ≡ getD plan (c .steps) 0) where
@@ -137,15 +145,15 @@ module _ {t : Task} {l₀ plan₀ plan memo sets ever : List ℕ} {f : Values} {
     pub repairing-small : Formed t → length plan₀ ≤ 32768 → Small c
     repairing-small F h = record { few = repairing-few F h; more = omega (arith, k, G .within) }
 
-    pub repairing-step : Formed t → (memo′ sets′ ever′ : List ℕ) (f′ : Values) (c′ : Counts) (m : Mode) → m ≡ black t → Memo t (setsOf ever′) memo′
-        → setsOf sets′ ≡ step m (act t i) (setsOf sets) → setsOf ever′ ≡ step relaxed (act t i) (setsOf ever) → Onward (act t i) f c c′ → f′ ≡ newer (act t i) f
-        → Repairing t l₀ plan₀ plan memo′ sets′ ever′ f′ c′ a j
+    pub repairing-step : Formed t → (memo′ sets′ : List ℕ) (f′ : Values) (c′ : Counts) → Memo t (setsOf sets′) memo′
+        → setsOf sets′ ≡ step relaxed (act t i) (setsOf sets) → Onward (act t i) f c c′ → f′ ≡ newer (act t i) f → Repairing t l₀ plan₀ plan memo′ sets′ f′ c′ a j
     unfolding runBy everAfter
-    repairing-step F memo′ sets′ ever′ f′ c′ m em rows′ es ee O ef =
-        let now : setsOf sets′ ≡ step (black t) (act t i) (setsOf sets) = es ∙ rw em refl in
-        let held′ = everAfter (act t) (black t) (i ∷ []) (setsOf sets) (G .held) in
-        let later = known-run (act t) (black t) (i ∷ []) (setsOf sets) (G .held) (G .below) in
-        let same = same-facts (run (act t) relaxed (i ∷ []) (known (black t) (setsOf sets) (G .held))) (known (black t) (run (act t) (black t) (i ∷ []) (setsOf sets)) held′) later in
+    repairing-step F memo′ sets′ f′ c′ rows′ es O ef =
+        let effects = sorted-func (variables t) (count t) 0 (act t i .eff) (F .eff-sorted i) in
+        let now : shown t sets′ f′ ≡ step (black t) (act t i) (shown t sets f) = rw (es, ef) (colours-step (black t) (act t i) effects (setsOf sets) f) in
+        let held′ = everAfter (act t) (black t) (i ∷ []) (shown t sets f) (G .held) in
+        let later = known-run (act t) (black t) (i ∷ []) (shown t sets f) (G .held) (G .below) in
+        let same = same-facts (run (act t) relaxed (i ∷ []) (known (black t) (shown t sets f) (G .held))) (known (black t) (run (act t) (black t) (i ∷ []) (shown t sets f)) held′) later in
         let more : take (c .steps + 1) plan ≡ take (c .steps) plan ++ (i ∷ []) = rw (add-one (c .steps), ei) (take-suc plan (c .steps) 0 (omega arith)) in
         let cut : slice (c .steps) a plan ≡ i ∷ slice (c .steps + 1) a plan = rw (add-one (c .steps), ei) (slice-cons (c .steps) a plan 0 k repairing-within) in
         record {
@@ -156,35 +164,35 @@ module _ {t : Task} {l₀ plan₀ plan memo sets ever : List ℕ} {f : Values} {
           place = G .place;
           taken = omega (arith, O .steps, k);
           entries = G .entries;
-          below = rw now (everAfter-now (act t) (black t) (i ∷ []) (setsOf sets) (G .held) (G .below));
-          knows = rw now (sym same ∙ rw (G .knows) (sym ee));
+          below = rw now (everAfter-now (act t) (black t) (i ∷ []) (shown t sets f) (G .held) (G .below));
+          knows = rw now (sym same ∙ rw (G .knows) (sym es));
           counts = subst (λ (l : List ℕ). Counted t l f′ c′) (sym (ap (λ (n : ℕ). take n plan) (O .steps) ∙ more)) (counted-behind F (G .counts) i c′ f′ O ef);
           so-far = G .so-far ∙ rw (O .steps, cut, now) refl;
         }
 
 -- the steps of stage j were written; of the relaxed plan the part `rest` was handed on
-pub record Arranged (t : Task) (l₀ plan₀ plan memo sets ever : List ℕ) (f : Values) (c : Counts) (a j : ℕ) (rest plan′ : List ℕ) (r : Written) : Type 0 where
-  pub start : Repairing t l₀ plan₀ plan memo sets ever f c a j
+pub record Arranged (t : Task) (l₀ plan₀ plan memo sets : List ℕ) (f : Values) (c : Counts) (a j : ℕ) (rest plan′ : List ℕ) (r : Written) : Type 0 where
+  pub start : Repairing t l₀ plan₀ plan memo sets f c a j
   pub taken : c .steps ≡ a
   pub here : j ≤ length l₀
   pub part : rest ≡ drop j l₀
   pub long : length plan′ ≡ length plan
-  pub put : Put plan plan′ a (stageOf t (setsOf ever) (setsOf sets) rest) r
+  pub put : Put plan plan′ a (stageOf t (setsOf sets) (shown t sets f) rest) r
 
-module _ {t : Task} {l₀ plan₀ plan memo sets ever : List ℕ} {f : Values} {c : Counts} {a j : ℕ} {rest plan′ : List ℕ} {r : Written}
-    (R : Arranged t l₀ plan₀ plan memo sets ever f c a j rest plan′ r) where
-  abbrev G : Repairing t l₀ plan₀ plan memo sets ever f c a j
+module _ {t : Task} {l₀ plan₀ plan memo sets : List ℕ} {f : Values} {c : Counts} {a j : ℕ} {rest plan′ : List ℕ} {r : Written}
+    (R : Arranged t l₀ plan₀ plan memo sets f c a j rest plan′ r) where
+  abbrev G : Repairing t l₀ plan₀ plan memo sets f c a j
   G = R .start
 
   abbrev steps : List ℕ
-  steps = stageOf t (setsOf ever) (setsOf sets) rest
+  steps = stageOf t (setsOf sets) (shown t sets f) rest
 
   abbrev next : List ℕ
-  next = behind t rest (run (act t) (black t) steps (setsOf sets)) (everAfter (act t) (black t) steps (setsOf sets) (G .held))
+  next = behind t rest (run (act t) (black t) steps (shown t sets f)) (everAfter (act t) (black t) steps (shown t sets f) (G .held))
 
   so-far″ : repaired t l₀ ≡ take a plan ++ (steps ++ next)
   so-far″ = so-far′ G (R .taken) ∙ ap (λ (l : List ℕ). take a plan ++ l)
-      (left-here t l₀ j (setsOf sets) (G .held) (R .here) ∙ rw (← (R .part)) (rest-stage t (setsOf ever) (setsOf sets) (G .held) (G .knows) rest))
+      (left-here t l₀ j (shown t sets f) (G .held) (R .here) ∙ rw (← (R .part)) (rest-stage t (setsOf sets) (shown t sets f) (G .held) (G .knows) rest))
 
   pub repairing-long : r ≡ Long → length plan₀ < length (repaired t l₀)
   repairing-long q =
@@ -211,18 +219,18 @@ module _ {t : Task} {l₀ plan₀ plan memo sets ever : List ℕ} {f : Values} {
     front-same = ap (λ (n : ℕ). take n plan) (R .taken) ∙ sym front-is ∙ ap (λ (n : ℕ). take n plan′) (sym (R .taken))
 
     abbrev left : List ℕ → List ℕ
-    left k = leftOf t l₀ (j + 1) (run (act t) (black t) k (setsOf sets)) (everAfter (act t) (black t) k (setsOf sets) (G .held))
+    left k = leftOf t l₀ (j + 1) (run (act t) (black t) k (shown t sets f)) (everAfter (act t) (black t) k (shown t sets f) (G .held))
 
     left-is : left (slice (c .steps) x plan′) ≡ next
     left-is =
-        let s = run (act t) (black t) steps (setsOf sets) in
-        let e = everAfter (act t) (black t) steps (setsOf sets) (G .held) in
+        let s = run (act t) (black t) steps (shown t sets f) in
+        let e = everAfter (act t) (black t) steps (shown t sets f) (G .held) in
         ap left (ap (λ (n : ℕ). slice n x plan′) (R .taken) ∙ part-is) ∙ left-next t l₀ j s e ∙ ap (λ (l : List ℕ). behind t l s e) (sym (R .part))
 
     pub repairing-fits : x ≤ length plan₀
     repairing-fits = omega (arith, told .1, G .long)
 
-    pub repairing-turn : Entries t rest → (memo′ : List ℕ) → Memo t (setsOf ever) memo′ → Repairing t l₀ plan₀ plan′ memo′ sets ever f c x (j + 1)
+    pub repairing-turn : Entries t rest → (memo′ : List ℕ) → Memo t (setsOf sets) memo′ → Repairing t l₀ plan₀ plan′ memo′ sets f c x (j + 1)
     repairing-turn en memo′ rows′ = record {
       held = G .held;
       within = repairing-fits;
@@ -230,7 +238,7 @@ module _ {t : Task} {l₀ plan₀ plan memo sets ever : List ℕ} {f : Values} {
       rows = rows′;
       place = omega (arith, R .here);
       taken = omega (arith, R .taken, bounds);
-      entries = rw (told .2) (append-entries t (take a plan) steps (G .entries) (stage-entries t (setsOf ever) (setsOf sets) rest en));
+      entries = rw (told .2) (append-entries t (take a plan) steps (G .entries) (stage-entries t (setsOf sets) (shown t sets f) rest en));
       below = G .below;
       knows = G .knows;
       counts = subst (λ (l : List ℕ). Counted t l f c) front-same (G .counts);

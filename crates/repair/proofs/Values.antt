@@ -56,7 +56,7 @@ module _ (t : Task) (K : State) (f : Values) where
   pub present-shown : (v r : ℕ) → T (black t v) → Present t (alone f) v r → Present t shown v r
   unfolding value
   present-shown v r b p =
-      let e : (λ d. alone f v d) ≡ (λ d. shown v d) = fun-ext (λ d. sym (colour-black (black t) K f v d (T→true (black t v) b))) in
+      let e : _≡_ {A = ℕ → Bool} (alone f v) (shown v) = fun-ext (λ d. sym (colour-black (black t) K f v d (T→true (black t v) b))) in
       record { of = p .of; is = p .is ∙ ap (λ (s : ℕ → Bool). orZero (first (count t v) s)) e; below = p .below }
 
   pub met-shown : (w : List Fact) → blackMet (black t) (alone f) w ≡ blackMet (black t) shown w

@@ -7,6 +7,8 @@ use lib.ListN.{length, getD}
 use Rattle.planning.specs.Record.{Fact, Task}
 use Rattle.planning.specs.Runs.{State, variables, count, act, black, goals}
 use Rattle.planning.specs.Repair.{order, fill, value, blackMet}
+use Rattle.task.specs.Task.{taskIn}
+use Rattle.state.specs.Sets.{setsOf, valuesOf, inColours}
 use Rattle.paths.specs.Paths.{pathsOf}
 use Rattle.passes.specs.Passes.{factsOf, Fitting}
 
@@ -45,3 +47,22 @@ lastMoves t K s = moved t K s (goals t)
 unfoldable pub stageOf : Task → State → State → List ℕ → List ℕ
 stageOf t K s [] = lastMoves t K s
 stageOf t K s (i ∷ l) = stepsFor t K s i
+
+-- the same by the lists that the code has: the task, the facts held ever, the newest values, from which the state is shown
+abbrev pub shownBy : List ℕ → List ℕ → List ℕ → State
+shownBy task ever newest = inColours (black (taskIn task)) (setsOf ever) (valuesOf newest)
+
+abbrev pub filledIn : List ℕ → List ℕ → List ℕ → List ℕ → List ℕ
+filledIn task ever newest wanted = filled (taskIn task) (setsOf ever) (shownBy task ever newest) (factsOf wanted)
+
+abbrev pub movedIn : List ℕ → List ℕ → List ℕ → List ℕ → List ℕ
+movedIn task ever newest wanted = moved (taskIn task) (setsOf ever) (shownBy task ever newest) (factsOf wanted)
+
+abbrev pub stepsIn : List ℕ → List ℕ → List ℕ → ℕ → List ℕ
+stepsIn task ever newest i = stepsFor (taskIn task) (setsOf ever) (shownBy task ever newest) i
+
+abbrev pub lastIn : List ℕ → List ℕ → List ℕ → List ℕ
+lastIn task ever newest = lastMoves (taskIn task) (setsOf ever) (shownBy task ever newest)
+
+abbrev pub stageIn : List ℕ → List ℕ → List ℕ → List ℕ → List ℕ
+stageIn task ever newest left = stageOf (taskIn task) (setsOf ever) (shownBy task ever newest) left

@@ -21,14 +21,21 @@ ghost use Rattle.passes.specs.Passes.{factsOf, Entries, Blank};
 ghost use Rattle.answers.specs.Plans.{answerOf};
 ghost use Rattle.repair.specs.Answers.{roomIn, Held};
 ghost use Rattle.repair.specs.Counting.{Small, Few, Onward, judgedBy};
-ghost use Rattle.repair.specs.Repairs.{Present, Wanted, filled, moved, stepsFor, lastMoves, stageOf};
+ghost use Rattle.repair.specs.Repairs.{Present, Wanted, filledIn, movedIn, stepsIn, lastIn, stageIn};
+
+// A byte as an index.
+fn wide(x: u8) -> usize
+    ensures { λ r. ⌜ r ≡ x ⌝ }
+{
+    x as usize
+}
 
 // The present fact of v, its newest value.
 fn present(task: &[u16], newest: &[u8; 64], v: usize) -> usize
     requires { ⌜ Loaded (now task) × (v < variables (taskIn (now task))) ⌝ }
     ensures { λ r. ⌜ Present (taskIn (now (task .entry))) (alone (valuesOf (now (newest .entry)))) v r ⌝ }
 {
-    let x = newest[v] as usize;
+    let x = wide(newest[v]);
     if x < task::count(task, v) {
         64 * v + x
     } else {
@@ -42,7 +49,7 @@ fn unmet(task: &[u16], newest: &[u8; 64], f: usize) -> bool
     ensures { λ r. ⌜ r ≡ (black (taskIn (now (task .entry))) (f / 64) && not (alone (valuesOf (now (newest .entry))) (f / 64) (f % 64))) ⌝ }
 {
     if task::is_black(task, f / 64) {
-        newest[f / 64] != (f % 64) as u8
+        (f % 64) as u8 != newest[f / 64]
     } else {
         false
     }
@@ -66,7 +73,7 @@ fn black_met(task: &[u16], newest: &[u8; 64], facts: &[u16]) -> bool
 // The passes of the black variables in their order: moves for the wanted facts, in the front of a list.
 fn fill(
     task: &[u16],
-    sets: &[u64; 64],
+    newest: &[u8; 64],
     ever: &[u64; 64],
     memo: &mut [u16],
     wanted: &[u16],
@@ -74,7 +81,7 @@ fn fill(
 ) -> Written
     requires { ⌜ Prepared (now task) × Wanted (taskIn (now task)) (now wanted) ⌝ }
     requires { ⌜ Memo (taskIn (now task)) (setsOf (now ever)) (now memo) ⌝ }
-    ensures { λ r. ⌜ Put (now (plan .entry)) (now (plan .exit)) 0 (filled (taskIn (now (task .entry))) (setsOf (now (ever .entry))) (setsOf (now (sets .entry))) (factsOf (now (wanted .entry)))) r ⌝ }
+    ensures { λ r. ⌜ Put (now (plan .entry)) (now (plan .exit)) 0 (filledIn (now (task .entry)) (now (ever .entry)) (now (newest .entry)) (now (wanted .entry))) r ⌝ }
     ensures { λ _. ⌜ Memo (taskIn (now (task .entry))) (setsOf (now (ever .entry))) (now (memo .exit)) ⌝ }
 {
     let n = task::ordered(task);
@@ -82,7 +89,7 @@ fn fill(
     let mut p: usize = 0;
     while p < n {
         let v = task::order_at(task, p);
-        let f = present(task, sets, v);
+        let f = present(task, newest, v);
         let w = passes::serve(task, ever, memo, f, wanted, plan, e);
         let Written::Upto(x) = w else {
             return Written::Long;
@@ -96,7 +103,7 @@ fn fill(
 // The moves for the wanted facts, none if the black ones are met: from place `at` on.
 fn moves(
     task: &[u16],
-    sets: &[u64; 64],
+    newest: &[u8; 64],
     ever: &[u64; 64],
     memo: &mut [u16],
     wanted: &[u16],
@@ -105,13 +112,13 @@ fn moves(
 ) -> Written
     requires { ⌜ Prepared (now task) × Wanted (taskIn (now task)) (now wanted) × (at ≤ length (now plan)) ⌝ }
     requires { ⌜ Memo (taskIn (now task)) (setsOf (now ever)) (now memo) ⌝ }
-    ensures { λ r. ⌜ Put (now (plan .entry)) (now (plan .exit)) at (moved (taskIn (now (task .entry))) (setsOf (now (ever .entry))) (setsOf (now (sets .entry))) (factsOf (now (wanted .entry)))) r ⌝ }
+    ensures { λ r. ⌜ Put (now (plan .entry)) (now (plan .exit)) at (movedIn (now (task .entry)) (now (ever .entry)) (now (newest .entry)) (now (wanted .entry))) r ⌝ }
     ensures { λ _. ⌜ Memo (taskIn (now (task .entry))) (setsOf (now (ever .entry))) (now (memo .exit)) ⌝ }
 {
-    if black_met(task, sets, wanted) {
+    if black_met(task, newest, wanted) {
         return Written::Upto(at);
     }
-    let w = fill(task, sets, ever, memo, wanted, &mut plan[at..]);
+    let w = fill(task, newest, ever, memo, wanted, &mut plan[at..]);
     let Written::Upto(n) = w else {
         return Written::Long;
     };
@@ -121,7 +128,7 @@ fn moves(
 // The moves for action i, and the action behind them.
 fn arrange(
     task: &[u16],
-    sets: &[u64; 64],
+    newest: &[u8; 64],
     ever: &[u64; 64],
     memo: &mut [u16],
     i: u16,
@@ -130,20 +137,20 @@ fn arrange(
 ) -> Written
     requires { ⌜ Prepared (now task) × (i < actions (taskIn (now task))) × (at ≤ length (now plan)) ⌝ }
     requires { ⌜ Memo (taskIn (now task)) (setsOf (now ever)) (now memo) ⌝ }
-    ensures { λ r. ⌜ Put (now (plan .entry)) (now (plan .exit)) at (stepsFor (taskIn (now (task .entry))) (setsOf (now (ever .entry))) (setsOf (now (sets .entry))) i) r ⌝ }
+    ensures { λ r. ⌜ Put (now (plan .entry)) (now (plan .exit)) at (stepsIn (now (task .entry)) (now (ever .entry)) (now (newest .entry)) i) r ⌝ }
     ensures { λ _. ⌜ Memo (taskIn (now (task .entry))) (setsOf (now (ever .entry))) (now (memo .exit)) ⌝ }
 {
     let k = lists::wide(i);
     let from = task::pre_start(task, k);
     let to = task::eff_start(task, k);
-    let w = moves(task, sets, ever, memo, &task[from..to], plan, at);
+    let w = moves(task, newest, ever, memo, &task[from..to], plan, at);
     passes::push(w, i, plan)
 }
 
 // The moves for the goals, at the end of the plan.
 fn finish(
     task: &[u16],
-    sets: &[u64; 64],
+    newest: &[u8; 64],
     ever: &[u64; 64],
     memo: &mut [u16],
     plan: &mut [u16],
@@ -151,20 +158,20 @@ fn finish(
 ) -> Written
     requires { ⌜ Prepared (now task) × (at ≤ length (now plan)) ⌝ }
     requires { ⌜ Memo (taskIn (now task)) (setsOf (now ever)) (now memo) ⌝ }
-    ensures { λ r. ⌜ Put (now (plan .entry)) (now (plan .exit)) at (lastMoves (taskIn (now (task .entry))) (setsOf (now (ever .entry))) (setsOf (now (sets .entry)))) r ⌝ }
+    ensures { λ r. ⌜ Put (now (plan .entry)) (now (plan .exit)) at (lastIn (now (task .entry)) (now (ever .entry)) (now (newest .entry))) r ⌝ }
     ensures { λ _. ⌜ Memo (taskIn (now (task .entry))) (setsOf (now (ever .entry))) (now (memo .exit)) ⌝ }
 {
     let goals = Goals::load(task);
     let facts = goals.facts;
     let count = goals.count;
-    moves(task, sets, ever, memo, &facts[..count], plan, at)
+    moves(task, newest, ever, memo, &facts[..count], plan, at)
 }
 
 // The steps of the next stage, where a part of the relaxed plan is left: those for its first entry, or the moves for the goals.
-fn stage(
+fn stage<'a>(
     task: &[u16],
-    sets: &[u64; 64],
-    ever: &[u64; 64],
+    newest: &'a [u8; 64],
+    ever: &'a [u64; 64],
     memo: &mut [u16],
     left: &[u16],
     plan: &mut [u16],
@@ -172,13 +179,13 @@ fn stage(
 ) -> Written
     requires { ⌜ Prepared (now task) × Entries (taskIn (now task)) (now left) × (at ≤ length (now plan)) ⌝ }
     requires { ⌜ Memo (taskIn (now task)) (setsOf (now ever)) (now memo) ⌝ }
-    ensures { λ r. ⌜ Put (now (plan .entry)) (now (plan .exit)) at (stageOf (taskIn (now (task .entry))) (setsOf (now (ever .entry))) (setsOf (now (sets .entry))) (now (left .entry))) r ⌝ }
+    ensures { λ r. ⌜ Put (now (plan .entry)) (now (plan .exit)) at (stageIn (now (task .entry)) (now (ever .entry)) (now (newest .entry)) (now (left .entry))) r ⌝ }
     ensures { λ _. ⌜ Memo (taskIn (now (task .entry))) (setsOf (now (ever .entry))) (now (memo .exit)) ⌝ }
 {
     if left.len() == 0 {
-        return finish(task, sets, ever, memo, plan, at);
+        return finish(task, newest, ever, memo, plan, at);
     }
-    arrange(task, sets, ever, memo, left[0], plan, at)
+    arrange(task, newest, ever, memo, left[0], plan, at)
 }
 
 // What is counted along a list: its steps, those that run for real, the cost.
@@ -238,15 +245,13 @@ fn too_long(room: usize) -> Planned
 }
 
 // The repair from the initial state in one pass: where every step placed is taken the next stage is placed behind them, else one
-// step is taken. The state's step stands last in the turn: the compiler then copies the state twice for it, elsewhere three times.
+// step is taken. Where the effects of its action are held only the newest values step.
 fn repair_from(task: &[u16], memo: &mut [u16], list: &[u16], plan: &mut [u16]) -> Planned
     requires { ⌜ Prepared (now task) × Entries (taskIn (now task)) (now list) × Blank (now memo) × (length (now plan) ≤ 32768) ⌝ }
     ensures { λ r. ⌜ Held (taskIn (now (task .entry))) (repaired (taskIn (now (task .entry))) (now (list .entry))) (now (plan .exit)) (length (now (plan .entry))) r ⌝ }
 {
-    let paint = state::painted(task);
     let needs = paths::needs(task);
     let mut s = State::initial(task);
-    let mut ever = s;
     let mut c = Counts {
         steps: 0,
         runs: 0,
@@ -258,9 +263,9 @@ fn repair_from(task: &[u16], memo: &mut [u16], list: &[u16], plan: &mut [u16]) -
         let k = c.steps;
         if k == at {
             if j > list.len() {
-                return verdict(task, &s.newest, c);
+                return verdict(task, &s.newest.values, c);
             }
-            let w = stage(task, &s.sets, &ever.sets, memo, &list[j..], plan, at);
+            let w = stage(task, &s.newest.values, &s.sets, memo, &list[j..], plan, at);
             let Written::Upto(x) = w else {
                 return too_long(plan.len());
             };
@@ -269,12 +274,14 @@ fn repair_from(task: &[u16], memo: &mut [u16], list: &[u16], plan: &mut [u16]) -
             continue;
         }
         let i = lists::wide(plan[k]);
-        if !has_effects(task, &ever.sets, i) {
-            passes::refresh(task, &ever.sets, memo, i, needs);
-            ever = ever.step(task, i, 0);
+        c = counted(task, &s.newest.values, i, c);
+        if state::has_effects(&s.sets, task, i) {
+            let newest = s.newest;
+            s.newest = newest.step(task, i);
+            continue;
         }
-        c = counted(task, &s.newest, i, c);
-        s = s.step(task, i, paint);
+        passes::refresh(task, &s.sets, memo, i, needs);
+        s = s.step(task, i);
     }
 }
 

@@ -5,7 +5,7 @@ use lib.ListN.{length}
 use Rattle.planning.specs.Runs.{act}
 use Rattle.task.specs.Task.{taskIn}
 use Rattle.state.specs.Sets.{setsOf}
-use Rattle.repair.specs.Repairs.{moved}
+use Rattle.repair.specs.Repairs.{moved, shownBy}
 use Rattle.repair.proofs.Arranging.{pre-bounds, part-wanted, moves-pre}
 use Rattle.repair.proofs.arrange.Statement.{statement}
 use Rattle.repair.proofs.arrange.Tie as tie
@@ -68,8 +68,8 @@ returns c =
     let a = s .args in
     let t = taskIn (a .task .now) in
     let put = moves-pre (a .task .now) (s .pre .0 .0 .loaded) _ _ _ _ (k .wide .ensures) (s .pre .0 .1) (e .before .pre-start .ensures) (e .eff-start .ensures)
-    (setsOf (a .ever .now)) (setsOf (a .sets .now)) (a .plan .now) _ (a .at) (m .moves .result) (m .moves .ensures .0) in (
-      c .before .before .push .ensures (a .plan .now) (a .at) (moved t (setsOf (a .ever .now)) (setsOf (a .sets .now)) (act t (a .i) .pre))
+    (setsOf (a .ever .now)) (shownBy (a .task .now) (a .ever .now) (a .newest .now)) (a .plan .now) _ (a .at) (m .moves .result) (m .moves .ensures .0) in (
+      c .before .before .push .ensures (a .plan .now) (a .at) (moved t (setsOf (a .ever .now)) (shownBy (a .task .now) (a .ever .now) (a .newest .now)) (act t (a .i) .pre))
           (c .before .before .before .before .before .plan .given) put,
       m .moves .ensures .1,
     )

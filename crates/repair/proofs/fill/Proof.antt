@@ -13,15 +13,17 @@ use Rattle.task.specs.Links.{orderIn}
 use Rattle.task.proofs.Reading.{order-length}
 use Rattle.state.specs.Sets.{setsOf}
 use Rattle.passes.specs.Passes.{factsOf}
+use Rattle.repair.specs.Repairs.{Present, shownBy}
+use Rattle.repair.proofs.Values.{present-shown}
 use Rattle.repair.proofs.Filling.{Filling, filling-start, filling-long, filling-turn, filling-end, order-black}
 use Rattle.repair.proofs.fill.Statement.{statement}
 use Rattle.repair.proofs.fill.Tie as tie
 
 abbrev Inv-loop : tie.InvT-loop
-Inv-loop task sets ever memo₀ wanted plan₀ n e₀ p₀ memo plan e p = Filling (taskIn task) (setsOf ever) (setsOf sets) (orderIn task) (factsOf wanted) plan₀ plan memo e p
+Inv-loop task newest ever memo₀ wanted plan₀ n e₀ p₀ memo plan e p = Filling (taskIn task) (setsOf ever) (shownBy task ever newest) (orderIn task) (factsOf wanted) plan₀ plan memo e p
 
 abbrev μ-loop : tie.MeasureT-loop
-μ-loop task sets ever memo₀ wanted plan₀ n e₀ p₀ memo plan e p = n - p
+μ-loop task newest ever memo₀ wanted plan₀ n e₀ p₀ memo plan e p = n - p
 
 -- the points of a turn, from the last to the first
 abbrev serve-of : tie.After-known-told Inv-loop μ-loop → tie.After-serve Inv-loop μ-loop
@@ -44,6 +46,11 @@ within c = omega (arith, c .before .before .ordered .ensures, c .loop-test .take
 
 painted : (c : tie.After-order-at Inv-loop μ-loop) → let t = taskIn (start-of (c .before .before) .args .task .now) in (c .order-at .result < variables t) × T (black t (c .order-at .result))
 painted c = order-black _ _ (start-of (c .before .before) .pre .0 .0 .ordered) _ (within (c .before)) _ (c .order-at .ensures)
+
+-- its present fact, as the red-black state has it
+shown : (c : tie.After-present Inv-loop μ-loop) → let a = start-of (head-of c) .args in
+    Present (taskIn (a .task .now)) (shownBy (a .task .now) (a .ever .now) (a .newest .now)) (c .before .order-at .result) (c .present .result)
+shown c = present-shown _ _ _ _ _ (painted (c .before) .1) (c .present .ensures)
 
 ordered-requires : tie.Need-ordered-requires Inv-loop μ-loop
 ordered-requires c κs = c .before .before .before .before .pre .0 .0
@@ -90,7 +97,7 @@ returns c =
     let d = c .before .before .before .before .before .before in
     let v = present-of d in
     let h = head-of v in (
-      filling-long (h .loop .inv) (within (v .before .before)) _ _ (v .before .order-at .ensures) (v .present .ensures) (left-by d) (d .serve .result) (d .serve .ensures .0) (c .enum-told .given .1)
+      filling-long (h .loop .inv) (within (v .before .before)) _ _ (v .before .order-at .ensures) (shown v) (left-by d) (d .serve .result) (d .serve .ensures .0) (c .enum-told .given .1)
           (start-of h .pre .0 .0 .ordered),
       d .serve .ensures .1,
     )
@@ -108,7 +115,7 @@ loop-again : tie.Need-loop-again Inv-loop μ-loop
 loop-again c =
     let d = serve-of c in
     let v = present-of d in
-    filling-turn (head-of v .loop .inv) (within (v .before .before)) _ _ (v .before .order-at .ensures) (v .present .ensures) (left-by d) (d .serve .result) (d .serve .ensures .0)
+    filling-turn (head-of v .loop .inv) (within (v .before .before)) _ _ (v .before .order-at .ensures) (shown v) (left-by d) (d .serve .result) (d .serve .ensures .0)
     _ _ (c .before .w .given .1) (c .before .before .before .before .plan .given) (d .serve .ensures .1)
 
 same-length-3 : tie.Need-same-length-3 Inv-loop μ-loop

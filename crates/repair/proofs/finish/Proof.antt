@@ -6,6 +6,7 @@ use lib.ListN.{length}
 use lib.Seq.{length-take-le}
 use Rattle.task.specs.Task.{taskIn}
 use Rattle.state.specs.Sets.{setsOf}
+use Rattle.repair.specs.Repairs.{shownBy}
 use Rattle.repair.proofs.Ending.{goals-wanted, goals-moves}
 use Rattle.repair.proofs.finish.Statement.{statement}
 use Rattle.repair.proofs.finish.Tie as tie
@@ -46,7 +47,7 @@ returns c =
     let s = start-of l in
     let a = s .args in (
       goals-moves (taskIn (a .task .now)) (s .pre .0 .0 .loaded .formed) (l .load .result) (l .load .ensures) (few l)
-          (setsOf (a .ever .now)) (setsOf (a .sets .now)) (a .plan .now) _ (a .at) (m .moves .result) (m .moves .ensures .0),
+          (setsOf (a .ever .now)) (shownBy (a .task .now) (a .ever .now) (a .newest .now)) (a .plan .now) _ (a .at) (m .moves .result) (m .moves .ensures .0),
       m .moves .ensures .1,
     )
 

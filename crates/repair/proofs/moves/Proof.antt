@@ -6,6 +6,8 @@ use native.Mathlib.Omega.{arith}
 use Rattle.task.specs.Task.{taskIn}
 use Rattle.state.specs.Sets.{setsOf}
 use Rattle.passes.specs.Passes.{factsOf}
+use Rattle.repair.specs.Repairs.{shownBy}
+use Rattle.repair.proofs.Values.{met-shown}
 use Rattle.repair.proofs.Arranging.{Passed, moves-none, moves-long, moves-some, moves-fit}
 use Rattle.repair.proofs.moves.Statement.{statement}
 use Rattle.repair.proofs.moves.Tie as tie
@@ -23,11 +25,11 @@ abbrev left-by : tie.After-fill → List ℕ
 left-by c = c .fill .last .1 .1 .1 .1 .1 .0
 
 passed : (c : tie.After-plan) → let f = fill-of c in let a = start-of (met-of f) .args in
-    Passed (taskIn (a .task .now)) (setsOf (a .ever .now)) (setsOf (a .sets .now)) (factsOf (a .wanted .now)) (a .plan .now) (a .at) (left-by f) (f .fill .result)
+    Passed (taskIn (a .task .now)) (setsOf (a .ever .now)) (shownBy (a .task .now) (a .ever .now) (a .newest .now)) (factsOf (a .wanted .now)) (a .plan .now) (a .at) (left-by f) (f .fill .result)
 passed c =
     let f = fill-of c in
     let b = met-of f in
-    record { unmet = sym (b .before .black-met .ensures) ∙ b .if1 .left; within = start-of b .pre .0 .2; long = c .plan .given .0; put = f .fill .ensures .0 }
+    record { unmet = sym (b .before .black-met .ensures ∙ met-shown _ _ _ _) ∙ b .if1 .left; within = start-of b .pre .0 .2; long = c .plan .given .0; put = f .fill .ensures .0 }
 
 black-met-requires : tie.Need-black-met-requires
 black-met-requires c κs = let p = c .before .before .before .before .pre .0 in (p .0 .loaded, p .1)
@@ -36,7 +38,7 @@ returns : tie.Need-returns
 returns c =
     let s = c .before .before .before .before .before .before in
     let a = s .args in (
-      moves-none (taskIn (a .task .now)) (setsOf (a .ever .now)) (setsOf (a .sets .now)) (factsOf (a .wanted .now)) (a .plan .now) (a .at) (sym (c .before .black-met .ensures) ∙ c .if1 .taken)
+      moves-none (taskIn (a .task .now)) (setsOf (a .ever .now)) (shownBy (a .task .now) (a .ever .now) (a .newest .now)) (factsOf (a .wanted .now)) (a .plan .now) (a .at) (sym (c .before .black-met .ensures ∙ met-shown _ _ _ _) ∙ c .if1 .taken)
           (s .pre .0 .2),
       s .pre .1,
     )

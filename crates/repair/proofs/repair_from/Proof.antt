@@ -1,19 +1,16 @@
--- Where every step placed is taken, what is left begins with the steps of the next stage; else one more is taken, and state, facts held
--- ever, newest values and counts are those behind it. In the end nothing is left, and the counts are those of the whole repair.
+-- Where every step placed is taken, what is left begins with the steps of the next stage; else one more is taken, and state and counts are
+-- those behind it. In the end nothing is left, and the counts are those of the whole repair.
 use borrow.Author.Needs.{needs}
-use borrow.Author.Tests.{not-false}
 use mathlib.Core.List.{List}
-use mathlib.Core.Logic.{inl, inr}
 use mathlib.Core.Path.{_≡_, sym, ap, _∙_}
 use Prim.Native.Nat.{ℕ, _+_, _-_, _*_, _<_}
 use native.Mathlib.Omega.{arith}
 use lib.ListN.{length, take, drop}
 use Rattle.planning.specs.Basics.{refused}
-use Rattle.planning.specs.Runs.{Mode, relaxed, step, actions, act}
+use Rattle.planning.specs.Runs.{actions}
 use Rattle.task.specs.Task.{taskIn}
-use Rattle.state.specs.Sets.{setsOf, valuesOf}
-use Rattle.paths.specs.Paths.{Memo}
-use Rattle.repair.proofs.Values.{mode-none, step-held}
+use Rattle.state.specs.Sets.{valuesOf}
+use Rattle.state.proofs.Colours.{step-held}
 use Rattle.repair.proofs.Repairing.{Repairing, repairing-start, repairing-within, repairing-few, repairing-small, repairing-below, repairing-step}
 use Rattle.repair.proofs.Repairing.{Arranged, repairing-long, repairing-fits, repairing-turn, stages-fewer, steps-fewer, rest-is, rest-entries}
 use Rattle.repair.proofs.Ending.{repairing-held, held-long}
@@ -21,47 +18,32 @@ use Rattle.repair.proofs.repair_from.Statement.{statement}
 use Rattle.repair.proofs.repair_from.Tie as tie
 
 abbrev Inv-loop : tie.InvT-loop
-Inv-loop task memo₀ relaxed plan₀ paint needs s₀ ever₀ c₀ at₀ j₀ memo plan s ever c at j =
-    Repairing (taskIn task) relaxed plan₀ plan memo (s .sets) (ever .sets) (valuesOf (s .newest)) c at j
+Inv-loop task memo₀ list plan₀ needs s₀ c₀ at₀ j₀ memo plan s c at j = Repairing (taskIn task) list plan₀ plan memo (s .sets) (valuesOf (s .newest .values)) c at j
 
 abbrev μ-loop : tie.MeasureT-loop
-μ-loop task memo₀ relaxed plan₀ paint needs s₀ ever₀ c₀ at₀ j₀ memo plan s ever c at j =
-    (length relaxed + 1 - j) * (length plan₀ + 1) + (at - c .steps)
+μ-loop task memo₀ list plan₀ needs s₀ c₀ at₀ j₀ memo plan s c at j = (length list + 1 - j) * (length plan₀ + 1) + (at - c .steps)
 
 -- the points of a turn, from the last to the first
 abbrev start-of : tie.At-loop Inv-loop μ-loop → tie.Start Inv-loop μ-loop
-start-of h = h .before .before .before .before .before .before .before .before
+start-of h = h .before .before .before .before .before .before .before
 
 abbrev stage-of : tie.After-plan Inv-loop μ-loop → tie.After-stage Inv-loop μ-loop
 stage-of c = c .before .before .before
 
 abbrev again-of : tie.After-stage Inv-loop μ-loop → tie.Else2 Inv-loop μ-loop
-again-of c = c .before .before .before .before .before .before .before .before
+again-of c = c .before .before .before .before .before .before .before
 
 abbrev left-by : tie.After-stage Inv-loop μ-loop → List ℕ
 left-by c = c .stage .last .1 .1 .1 .1 .1 .0
 
-abbrev wide-of : tie.After-has-effects Inv-loop μ-loop → tie.After-wide Inv-loop μ-loop
+abbrev wide-of : tie.After-counted Inv-loop μ-loop → tie.After-wide Inv-loop μ-loop
 wide-of c = c .before .before .before
 
 abbrev head-of : tie.After-wide Inv-loop μ-loop → tie.At-loop Inv-loop μ-loop
 head-of c = c .before .before .before
 
--- a turn that takes a step: its last point, its count, its step, and the point before both
-abbrev Last : Type 0
-Last = tie.After-step2 Inv-loop μ-loop
-
-abbrev counted-of : Last → tie.After-counted Inv-loop μ-loop
-counted-of c = c .before
-
-abbrev step-of : Last → tie.After-step2 Inv-loop μ-loop
-step-of c = c
-
-abbrev learnt-of : Last → tie.Joined3 Inv-loop μ-loop
-learnt-of c = c .before .before .before .before
-
 arranged : (c : tie.After-plan Inv-loop μ-loop) → let d = stage-of c in let e = again-of d in let h = e .before .before in let a = start-of h .args in let l = h .loop in
-    Arranged (taskIn (a .task .now)) (a .list .now) (a .plan .now) (l .plan) (l .memo) (l .s .sets) (l .ever .sets) (valuesOf (l .s .newest)) (l .c) (l .at) (l .j)
+    Arranged (taskIn (a .task .now)) (a .list .now) (a .plan .now) (l .plan) (l .memo) (l .s .sets) (valuesOf (l .s .newest .values)) (l .c) (l .at) (l .j)
     (take (length (a .list .now) - l .j) (drop (l .j) (a .list .now))) (left-by d) (d .stage .result)
 arranged c =
     let d = stage-of c in
@@ -83,32 +65,16 @@ less c = let h = head-of c in omega (arith, c .before .before .if1 .left, h .loo
 below : (c : tie.After-wide Inv-loop μ-loop) → c .wide .result < actions (taskIn (start-of (head-of c) .args .task .now))
 below c = repairing-below (head-of c .loop .inv) (less c) _ (c .wide .ensures)
 
--- the facts held ever and the rows of leads for them, whether or not the action adds a fact
-learnt : (c : tie.Joined3 Inv-loop μ-loop) → let w = wide-of (c .before) in let h = head-of w in let t = taskIn (start-of h .args .task .now) in
-    (setsOf (c .if3 .ever .sets) ≡ step relaxed (act t (w .wide .result)) (setsOf (h .loop .ever .sets))) × Memo t (setsOf (c .if3 .ever .sets)) (c .if3 .memo)
-learnt c =
-    let w = wide-of (c .before) in
-    let h = head-of w in
-    let i = act (taskIn (start-of h .args .task .now)) (w .wide .result) in
-    let K = setsOf (h .loop .ever .sets) in
-    elim (c .if3 .came) [
-      | inl p ↦ (let e : setsOf (p .7 .result .sets) ≡ step relaxed i K = p .7 .ensures .0 ∙ ap (λ (m : Mode). step m i K) mode-none in rw (p .8, p .9) (e, rw e (p .4 .ensures)))
-      | inr p ↦ (let same = step-held i K (sym (c .before .has-effects .ensures) ∙ not-false _ (p .0 .left)) in rw (p .1, p .2) (same, h .loop .inv .rows))
-    ]
-
-painted-requires : tie.Need-painted-requires Inv-loop μ-loop
-painted-requires c κs = c .before .before .before .before .pre .0 .loaded
-
 needs-requires : tie.Need-needs-requires Inv-loop μ-loop
-needs-requires c κs = c .before .before .before .before .before .pre .0 .loaded
+needs-requires c κs = c .before .before .before .before .pre .0 .loaded
 
 initial-requires : tie.Need-initial-requires Inv-loop μ-loop
-initial-requires c κs = c .before .before .before .before .before .before .pre .0 .loaded
+initial-requires c κs = c .before .before .before .before .before .pre .0 .loaded
 
 loop-holds : tie.Need-loop-holds Inv-loop μ-loop
 loop-holds c =
     let e = c .initial .ensures in
-    repairing-start _ _ _ _ _ _ _ (c .before .before .before .before .before .before .before .pre .2) (e .0) (e .0) (e .1)
+    repairing-start _ _ _ _ _ _ (c .before .before .before .before .before .before .pre .2) (e .0) (e .1)
 
 verdict-requires : tie.Need-verdict-requires Inv-loop μ-loop
 verdict-requires c κs =
@@ -132,21 +98,21 @@ returns c =
 
 mul-stage : tie.Need-mul-stage Inv-loop μ-loop
 mul-stage c =
-    let e = c .before .before .before .before .before in
+    let e = c .before .before .before .before in
     omega (arith, e .if2 .left, start-of (e .before .before) .good)
 
 sub-stage : tie.Need-sub-stage Inv-loop μ-loop
-sub-stage c = omega (arith, c .before .before .before .before .before .if2 .left)
+sub-stage c = omega (arith, c .before .before .before .before .if2 .left)
 
 part-stage-start : tie.Need-part-stage-start Inv-loop μ-loop
-part-stage-start c = omega (arith, c .before .before .before .before .before .if2 .left)
+part-stage-start c = omega (arith, c .before .before .before .before .if2 .left)
 
 part-stage-end : tie.Need-part-stage-end Inv-loop μ-loop
-part-stage-end c = omega (arith, c .before .before .before .before .before .if2 .left)
+part-stage-end c = omega (arith, c .before .before .before .before .if2 .left)
 
 stage-requires : tie.Need-stage-requires Inv-loop μ-loop
 stage-requires c κs =
-    let e = c .before .before .before .before .before .before .before in
+    let e = c .before .before .before .before .before .before in
     let h = e .before .before in
     let p = start-of h .pre in
     ((p .0, rest-entries (start-of h .args .list .now) (h .loop .j) (omega (arith, e .if2 .left)) (taskIn (start-of h .args .task .now)) (p .1), repairing-within (h .loop .inv)), h .loop .inv .rows)
@@ -215,38 +181,49 @@ slice-read-wide c =
 wide-requires : tie.Need-wide-requires Inv-loop μ-loop
 wide-requires c κs = search needs
 
-has-effects-requires : tie.Need-has-effects-requires Inv-loop μ-loop
-has-effects-requires c κs = let w = c .before .before in (start-of (head-of w) .pre .0 .loaded, below w)
-
-refresh-requires : tie.Need-refresh-requires Inv-loop μ-loop
-refresh-requires c κs =
-    let w = wide-of (c .before .before .before .before) in
-    let h = head-of w in
-    ((start-of h .pre .0 .loaded, below w, h .before .before .needs .ensures), h .loop .inv .rows)
-
-step-requires : tie.Need-step-requires Inv-loop μ-loop
-step-requires c κs = let w = wide-of (c .before .before .before .before .before .before .before) in (start-of (head-of w) .pre .0 .loaded, below w)
-
 counted-requires : tie.Need-counted-requires Inv-loop μ-loop
 counted-requires c κs =
-    let w = wide-of (c .before .before .before) in
+    let w = c .before .before in
     let h = head-of w in
     let p = start-of h .pre in
     (p .0 .loaded, below w, repairing-small (h .loop .inv) (less w) _ (w .wide .ensures) (p .0 .loaded .formed) (p .3))
 
-step-requires-2 : tie.Need-step-requires-2 Inv-loop μ-loop
-step-requires-2 c κs = let w = wide-of (c .before .before .before .before) in (start-of (head-of w) .pre .0 .loaded, below w)
+has-effects-requires : tie.Need-has-effects-requires Inv-loop μ-loop
+has-effects-requires c κs = let w = wide-of (c .before .before) in (start-of (head-of w) .pre .0 .loaded, below w)
+
+step-requires : tie.Need-step-requires Inv-loop μ-loop
+step-requires c κs = let w = wide-of (c .before .before .before .before .before) in (start-of (head-of w) .pre .0 .loaded, below w)
 
 loop-less-2 : tie.Need-loop-less-2 Inv-loop μ-loop
-loop-less-2 c = steps-fewer _ _ _ _ (less (wide-of (learnt-of c .before))) (counted-of c .counted .ensures .steps)
+loop-less-2 c = let k = c .before .before .before .before .before .before in steps-fewer _ _ _ _ (less (wide-of k)) (k .counted .ensures .steps)
 
 loop-again-2 : tie.Need-loop-again-2 Inv-loop μ-loop
 loop-again-2 c =
-    let l = learnt (learnt-of c) in
-    let w = wide-of (learnt-of c .before) in
+    let k = c .before .before .before .before .before .before in
+    let w = wide-of k in
     let h = head-of w in
-    repairing-step (h .loop .inv) (less w) _ (w .wide .ensures) (start-of h .pre .0 .loaded .formed) _ _ _ _ _ _ (h .before .before .before .painted .ensures)
-    (l .1) (step-of c .step2 .ensures .0) (l .0) (counted-of c .counted .ensures) (step-of c .step2 .ensures .1)
+    let same = step-held _ _ (sym (c .before .before .before .has-effects .ensures) ∙ c .before .before .if3 .taken) in
+    repairing-step (h .loop .inv) (less w) _ (w .wide .ensures) (start-of h .pre .0 .loaded .formed) _ _ _ _ (h .loop .inv .rows) same (k .counted .ensures) (c .step .ensures)
+
+refresh-requires : tie.Need-refresh-requires Inv-loop μ-loop
+refresh-requires c κs =
+    let w = wide-of (c .before .before .before .before .before .before .before) in
+    let h = head-of w in
+    ((start-of h .pre .0 .loaded, below w, h .before .before .needs .ensures), h .loop .inv .rows)
+
+step-requires-2 : tie.Need-step-requires-2 Inv-loop μ-loop
+step-requires-2 c κs = let w = wide-of (c .before .before .before .before .before .before .before .before .before .before) in (start-of (head-of w) .pre .0 .loaded, below w)
+
+loop-less-3 : tie.Need-loop-less-3 Inv-loop μ-loop
+loop-less-3 c = let k = c .before .before .before .before .before .before .before .before .before .before .before in steps-fewer _ _ _ _ (less (wide-of k)) (k .counted .ensures .steps)
+
+loop-again-3 : tie.Need-loop-again-3 Inv-loop μ-loop
+loop-again-3 c =
+    let k = c .before .before .before .before .before .before .before .before .before .before .before in
+    let w = wide-of k in
+    let h = head-of w in
+    repairing-step (h .loop .inv) (less w) _ (w .wide .ensures) (start-of h .pre .0 .loaded .formed) _ _ _ _ (rw (c .step2 .ensures .0) (c .before .before .before .refresh .ensures)) (c .step2 .ensures .0)
+    (k .counted .ensures) (c .step2 .ensures .1)
 
 pub repair-from-spec : {M : Type 1} → statement M
 repair-from-spec =
@@ -254,7 +231,6 @@ repair-from-spec =
     (tie.spec
     Inv-loop
     μ-loop
-    painted-requires
     needs-requires
     initial-requires
     loop-holds
@@ -279,10 +255,12 @@ repair-from-spec =
     mul-wide
     slice-read-wide
     wide-requires
-    has-effects-requires
-    refresh-requires
-    step-requires
     counted-requires
-    step-requires-2
+    has-effects-requires
+    step-requires
     loop-less-2
-    loop-again-2)
+    loop-again-2
+    refresh-requires
+    step-requires-2
+    loop-less-3
+    loop-again-3)
