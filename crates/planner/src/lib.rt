@@ -21,7 +21,7 @@ ghost use Rattle.repair.specs.Answers.{roomIn};
 ghost use Rattle.planner.specs.Drafts.{Drafted, Sourced, Painted, Called};
 
 // The repair of a relaxed plan in the front of the plan list; 11 if it is longer than the capacity.
-fn draft(task: &[u16], list: &[u16], plan: &mut [u16], work: &mut [u16]) -> Planned
+fn draft(task: &[u16], list: &[u16], plan: &mut [u16], work: &[u16]) -> Planned
     requires { ⌜ Prepared (now task) × (isPlan (taskIn (now task)) relaxed (now list) ≡ true) ⌝ }
     ensures { λ r. ⌜ Drafted (taskIn (now (task .entry))) [] (now (list .entry)) (roomIn (now (plan .entry)) (now (work .entry))) (now (plan .exit)) r ⌝ }
 {
@@ -29,13 +29,7 @@ fn draft(task: &[u16], list: &[u16], plan: &mut [u16], work: &mut [u16]) -> Plan
 }
 
 // The relaxed plan is the caller's list where it is given, checked by 13 and 9, else the task's own, or 10.
-fn plan_prepared(
-    task: &[u16],
-    given: bool,
-    list: &[u16],
-    plan: &mut [u16],
-    work: &mut [u16],
-) -> Planned
+fn plan_prepared(task: &[u16], given: bool, list: &[u16], plan: &mut [u16], work: &[u16]) -> Planned
     requires { ⌜ Prepared (now task) ⌝ }
     ensures { λ r. ⌜ Sourced given (taskIn (now (task .entry))) (now (list .entry)) (roomIn (now (plan .entry)) (now (work .entry))) (now (plan .exit)) r ⌝ }
 {
@@ -61,7 +55,7 @@ fn plan_loaded(
     given: bool,
     list: &[u16],
     plan: &mut [u16],
-    work: &mut [u16],
+    work: &[u16],
 ) -> Planned
     requires { ⌜ Loaded (now task) ⌝ }
     ensures { λ r. ⌜ Painted given (taskIn (now (task .entry))) (now (list .entry)) (roomIn (now (plan .entry)) (now (work .entry))) (now (plan .exit)) r ⌝ }
@@ -74,13 +68,7 @@ fn plan_loaded(
 }
 
 // The task of a small record is small, so that little has to be cleared.
-fn plan_accepted(
-    bytes: &[u8],
-    given: bool,
-    list: &[u16],
-    plan: &mut [u16],
-    work: &mut [u16],
-) -> Planned
+fn plan_accepted(bytes: &[u8], given: bool, list: &[u16], plan: &mut [u16], work: &[u16]) -> Planned
     requires { ⌜ recordCheck (now bytes) ≡ none ⌝ }
     ensures { λ r. ⌜ Called given (now (bytes .entry)) (now (list .entry)) (roomIn (now (plan .entry)) (now (work .entry))) (now (plan .exit)) r ⌝ }
 {
@@ -95,13 +83,7 @@ fn plan_accepted(
 }
 
 // The record's checks, then the rest.
-fn plan_checked(
-    bytes: &[u8],
-    given: bool,
-    list: &[u16],
-    plan: &mut [u16],
-    work: &mut [u16],
-) -> Planned
+fn plan_checked(bytes: &[u8], given: bool, list: &[u16], plan: &mut [u16], work: &[u16]) -> Planned
     ensures { λ r. ⌜ Called given (now (bytes .entry)) (now (list .entry)) (roomIn (now (plan .entry)) (now (work .entry))) (now (plan .exit)) r ⌝ }
 {
     let c = record::check(bytes);

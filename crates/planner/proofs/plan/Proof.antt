@@ -1,7 +1,5 @@
 use mathlib.Core.List.{[]}
-use mathlib.Core.Path.{ap, _∙_}
 use lib.ListN.{length}
-use Rattle.planning.specs.Calls.{workList}
 use Rattle.planner.proofs.Settled.{plan-settled}
 use Rattle.planner.proofs.Drafts.{plan-called}
 use borrow.Author.Needs.{needs}
@@ -25,13 +23,13 @@ same-length-2 c = search needs
 
 returns : tie.Need-returns
 returns c =
-    let a = c .before .before .before .before .before .before .before .before .before .before .before .before .before .before .before .before .before .before .args in
+    let a = c .before .before .before .before .before .before .before .before .before .before .before .before .before .before .before .before .args in
     let n = length (a .plan .now) in
     let w = length (a .work .now) in
-    let D = plan-called (a .bytes .now) [] n w _ _ (c .before .before .before .before .before .before .before .before .before .before .before .plan-checked .ensures) in
+    let D = plan-called (a .bytes .now) [] n w _ _ (c .before .before .before .before .before .before .before .before .before .plan-checked .ensures) in
     let E = c .before .before .before .before .finish .ensures in
-    let S = plan-settled (a .bytes .now) n w _ (c .before .before .before .before .before .before .before .before .before .before .plan .given) _ D _ (E .0) in
-    (D .answer, (S .0, (E .1 ∙ ap workList (c .before .before .before .before .before .before .before .before .work .given), (S .1, S .2))))
+    let S = plan-settled (a .bytes .now) n w _ (c .before .before .before .before .before .before .before .before .plan .given) _ D _ (E .0) in
+    (D .answer, (S .0, (E .1, (S .1, S .2))))
 
 pub plan-spec : {M : Type 1} → statement M
 plan-spec =

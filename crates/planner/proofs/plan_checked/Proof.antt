@@ -17,13 +17,10 @@ enum-told : tie.Need-enum-told
 enum-told c = search needs
 
 plan-accepted-requires : tie.Need-plan-accepted-requires
-plan-accepted-requires c κs = passed-by _ _ (c .before .before .enum-told .given .1) (c .before .before .before .before .check .ensures)
+plan-accepted-requires c κs = passed-by _ _ (c .before .enum-told .given .1) (c .before .before .before .check .ensures)
 
 same-length : tie.Need-same-length
 same-length c = search needs
-
-same-length-2 : tie.Need-same-length-2
-same-length-2 c = search needs
 
 returns : tie.Need-returns
 returns c = search needs
@@ -42,6 +39,5 @@ plan-checked-spec =
     enum-told
     plan-accepted-requires
     same-length
-    same-length-2
     returns
     returns-2)

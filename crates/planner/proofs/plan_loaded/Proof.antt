@@ -29,7 +29,7 @@ returns c =
     (refused-by _ _ _ _ (c .before .enum-told2 .given .1) (c .refusal-in .ensures) (c .before .before .before .before .before .prepare .ensures .answer))
 
 plan-prepared-requires : tie.Need-plan-prepared-requires
-plan-prepared-requires c κs = c .before .before .before .before .before .before .before .prepare .ensures .prepared (passed-by _ _ (c .before .before .before .enum-told .given .1) refl)
+plan-prepared-requires c κs = c .before .before .before .before .before .before .prepare .ensures .prepared (passed-by _ _ (c .before .before .enum-told .given .1) refl)
 
 same-length-2 : tie.Need-same-length-2
 same-length-2 c = search needs
@@ -37,16 +37,13 @@ same-length-2 c = search needs
 same-length-3 : tie.Need-same-length-3
 same-length-3 c = search needs
 
-same-length-4 : tie.Need-same-length-4
-same-length-4 c = search needs
-
 returns-2 : tie.Need-returns-2
 unfolding paintingCheck
 returns-2 c =
-    let at-prepare = c .before .before .before .before .before .before .before .before .before .before .before .before in
+    let at-prepare = c .before .before .before .before .before .before .before .before .before in
     let at-start = at-prepare .before .before .before .before .before .before in
     painted (at-start .args .given) (taskIn (at-start .args .task .now)) _ (at-prepare .prepare .ensures .same) _ _ _ _
-    (passed-by _ _ (c .before .before .before .before .before .before .before .before .enum-told .given .1) (at-prepare .prepare .ensures .answer)) (c .before .before .before .before .plan-prepared .ensures)
+    (passed-by _ _ (c .before .before .before .before .before .enum-told .given .1) (at-prepare .prepare .ensures .answer)) (c .before .before .plan-prepared .ensures)
 
 pub plan-loaded-spec : {M : Type 1} → statement M
 plan-loaded-spec =
@@ -61,5 +58,4 @@ plan-loaded-spec =
     plan-prepared-requires
     same-length-2
     same-length-3
-    same-length-4
     returns-2)

@@ -38,27 +38,24 @@ returns c =
 
 draft-requires : tie.Need-draft-requires
 draft-requires c κs =
-    let t = taskIn (c .before .before .before .before .before .before .before .before .before .before .args .task .now) in
-    let p = passed _ _ _ _ (c .before .before .enum-told .given .1) (c .before .before .before .before .check-relaxed .ensures) .0 in (
-      c .before .before .before .before .before .before .before .before .before .before .pre,
+    let t = taskIn (c .before .before .before .before .before .before .before .before .before .args .task .now) in
+    let p = passed _ _ _ _ (c .before .enum-told .given .1) (c .before .before .before .check-relaxed .ensures) .0 in (
+      c .before .before .before .before .before .before .before .before .before .pre,
       relaxedCheck-none t
-          (c .before .before .before .before .before .before .before .before .before .before .args .list .now) (inOrder-passed _ p .1 .0),
+          (c .before .before .before .before .before .before .before .before .before .args .list .now) (inOrder-passed _ p .1 .0),
     )
 
 same-length : tie.Need-same-length
 same-length c = search needs
 
-same-length-2 : tie.Need-same-length-2
-same-length-2 c = search needs
-
 returns-2 : tie.Need-returns-2
 returns-2 c =
-    let t = taskIn (c .before .before .before .before .before .before .before .before .before .before .before .before .before .before .before .args .task .now) in
-    let l = c .before .before .before .before .before .before .before .before .before .before .before .before .before .before .before .args .list .now in
-    let p = passed _ _ _ _ (c .before .before .before .before .before .before .before .enum-told .given .1)
-    (c .before .before .before .before .before .before .before .before .before .check-relaxed .ensures) .0 in
-    sourced t l _ _ _ _ _ (given-source t l _ (c .before .before .before .before .before .before .before .before .before .before .if1 .taken))
-    (given-check t l _ (c .before .before .before .before .before .before .before .before .before .before .if1 .taken) ∙ p) (c .before .before .before .before .draft .ensures)
+    let t = taskIn (c .before .before .before .before .before .before .before .before .before .before .before .before .args .task .now) in
+    let l = c .before .before .before .before .before .before .before .before .before .before .before .before .args .list .now in
+    let p = passed _ _ _ _ (c .before .before .before .before .enum-told .given .1)
+    (c .before .before .before .before .before .before .check-relaxed .ensures) .0 in
+    sourced t l _ _ _ _ _ (given-source t l _ (c .before .before .before .before .before .before .before .if1 .taken))
+    (given-check t l _ (c .before .before .before .before .before .before .before .if1 .taken) ∙ p) (c .before .before .draft .ensures)
 
 relaxed-plan-requires : tie.Need-relaxed-plan-requires
 relaxed-plan-requires c κs = search needs
@@ -98,28 +95,25 @@ slice-aggregate-draft c = sym (length-take-le _ _ (omega (arith, found (c .befor
 
 draft-requires-2 : tie.Need-draft-requires-2
 draft-requires-2 c κs =
-    let t = taskIn (c .before .before .before .before .before .before .before .before .before .before .before .before .before .args .task .now) in
-    let F = found (c .before .before .before) in (
-      c .before .before .before .before .before .before .before .before .before .before .before .before .before .pre,
+    let t = taskIn (c .before .before .before .before .before .before .before .before .before .before .before .before .args .task .now) in
+    let F = found (c .before .before) in (
+      c .before .before .before .before .before .before .before .before .before .before .before .before .pre,
       rw (F .front .list)
-          (relaxedPlan-is-plan t (c .before .before .before .before .before .before .before .before .before .before .before .before .before .pre .loaded .formed) (F .solved)),
+          (relaxedPlan-is-plan t (c .before .before .before .before .before .before .before .before .before .before .before .before .pre .loaded .formed) (F .solved)),
     )
 
-same-length-3 : tie.Need-same-length-3
-same-length-3 c = search needs
-
-same-length-4 : tie.Need-same-length-4
-same-length-4 c = search needs
+same-length-2 : tie.Need-same-length-2
+same-length-2 c = search needs
 
 returns-4 : tie.Need-returns-4
 returns-4 c =
-    let t = taskIn (c .before .before .before .before .before .before .before .before .before .before .before .before .before .before .before .before .before .before .args .task .now) in
-    let l = c .before .before .before .before .before .before .before .before .before .before .before .before .before .before .before .before .before .before .args .list .now in
-    let F = found (c .before .before .before .before .before .before .before .before) in
+    let t = taskIn (c .before .before .before .before .before .before .before .before .before .before .before .before .before .before .before .args .task .now) in
+    let l = c .before .before .before .before .before .before .before .before .before .before .before .before .before .before .before .args .list .now in
+    let F = found (c .before .before .before .before .before) in
     sourced t l _ _ _ _ _ (F .front .list ∙ own-source t l _
-    (c .before .before .before .before .before .before .before .before .before .before .before .before .before .if1 .left))
-    (own-check t l _ (c .before .before .before .before .before .before .before .before .before .before .before .before .before .if1 .left) ∙ found-check t
-    (F .solved)) (c .before .before .before .before .draft2 .ensures)
+    (c .before .before .before .before .before .before .before .before .before .before .if1 .left))
+    (own-check t l _ (c .before .before .before .before .before .before .before .before .before .before .if1 .left) ∙ found-check t
+    (F .solved)) (c .before .before .draft2 .ensures)
 
 pub plan-prepared-spec : {M : Type 1} → statement M
 plan-prepared-spec =
@@ -132,7 +126,6 @@ plan-prepared-spec =
     returns
     draft-requires
     same-length
-    same-length-2
     returns-2
     relaxed-plan-requires
     enum-known-k
@@ -143,6 +136,5 @@ plan-prepared-spec =
     array-share-prefix-relaxed
     slice-aggregate-draft
     draft-requires-2
-    same-length-3
-    same-length-4
+    same-length-2
     returns-4)

@@ -1,6 +1,4 @@
-use mathlib.Core.Path.{ap, _∙_}
 use lib.ListN.{length}
-use Rattle.planning.specs.Calls.{workList}
 use Rattle.planner.proofs.Settled.{repair-settled}
 use Rattle.planner.proofs.Drafts.{repair-called}
 use borrow.Author.Needs.{needs}
@@ -21,13 +19,13 @@ same-length-2 c = search needs
 
 returns : tie.Need-returns
 returns c =
-    let a = c .before .before .before .before .before .before .before .before .before .before .before .before .before .before .before .before .before .before .args in
+    let a = c .before .before .before .before .before .before .before .before .before .before .before .before .before .before .before .before .args in
     let n = length (a .plan .now) in
     let w = length (a .work .now) in
-    let D = repair-called (a .bytes .now) (a .list .now) n w _ _ (c .before .before .before .before .before .before .before .before .before .before .before .plan-checked .ensures) in
+    let D = repair-called (a .bytes .now) (a .list .now) n w _ _ (c .before .before .before .before .before .before .before .before .before .plan-checked .ensures) in
     let E = c .before .before .before .before .finish .ensures in
-    let S = repair-settled (a .bytes .now) (a .list .now) n w _ (c .before .before .before .before .before .before .before .before .before .before .plan .given) _ D _ (E .0) in
-    (D .answer, (S .0, (E .1 ∙ ap workList (c .before .before .before .before .before .before .before .before .work .given), S .1)))
+    let S = repair-settled (a .bytes .now) (a .list .now) n w _ (c .before .before .before .before .before .before .before .before .plan .given) _ D _ (E .0) in
+    (D .answer, (S .0, (E .1, S .1)))
 
 pub repair-spec : {M : Type 1} → statement M
 repair-spec =
