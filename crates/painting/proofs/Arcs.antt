@@ -8,7 +8,7 @@ use native.Mathlib.Omega.{arith}
 use native.Mathlib.Decide.{ℕ-discrete}
 use lib.Dec.{T, eqb}
 use Rattle.planning.specs.Basics.{Refusal, Check, someBelow, first, refuseAt, andThen}
-use Rattle.planning.specs.Record.{Task}
+use Rattle.planning.specs.Record.{Fact, Task}
 use Rattle.planning.specs.Runs.{State, has, look, variables, actions, act, black, count}
 use Rattle.planning.specs.Painting.{blackArc, onCycle, cyclic, lacksReturn, unreturned, acyclicCheck, returnCheck}
 use Rattle.planning.proofs.Below.{First?, first-is}
@@ -23,11 +23,12 @@ use Rattle.state.specs.Sets.{setsOf, Asked}
 use Rattle.graph.specs.Graph.{Ordered}
 use Rattle.graph.proofs.Searches.{some-found, some-lacks, Searched, searched-start, searched-turn, searched-hit, searched-end}
 use Rattle.painting.specs.Chains.{Acyclic, Linked}
-use Rattle.painting.specs.Returns.{markAll, marked, Unmarked, returned, unreturnedFrom, arcsBy, lacksBy, lacks, Lacking}
+use Rattle.painting.specs.Returns.{markAll, marked, Unmarked, returned, unreturnedFrom, arcsBy, lacksBy, lacks, Ready}
 use Rattle.painting.specs.Answers.{Readied}
-use Rattle.painting.proofs.Chains.{Move, NoMove, acyclic-relinked, ordered-chained, ordered-relinked}
+use Rattle.painting.proofs.Chains.{Move, acyclic-relinked, ordered-chained, ordered-relinked}
 use Rattle.painting.proofs.Marks.{Allows, marks-allow, unmarked-all, unmarked-more}
-use Rattle.painting.proofs.Returns.{has-right, facts-small, lacks-is, lacks-none}
+use Rattle.painting.proofs.Keeping.{ready-more}
+use Rattle.painting.proofs.Returns.{has-right, facts-small, lacks-is}
 
 -- the fact of the same variable with the value d
 module _ (f d : ℕ) (b : d < 64) where
@@ -83,57 +84,60 @@ module _ (t : Task) (m : State) (i v e d : ℕ) (q : Asked (look (act t i .pre) 
       go none q = absurd (omega arith)
       go (some x) q = rw (q .0) refl
 
-  pub asked-all : 64 ≤ d → (n : ℕ) → n ≡ count t v → unreturnedFrom t m v e 0 (n - 0) ≡ lacksBy t m i v e
+  pub asked-any : 64 ≤ d → unreturnedFrom t m v e 0 (count t v) ≡ lacksBy t m i v e
   unfolding lacksBy
-  asked-all l n y = let z : n - 0 ≡ count t v = omega arith in rw z (go (look (act t i .pre) v) q)
+  asked-any l = go (look (act t i .pre) v) q
     where
       go : (o : Option ℕ) → Asked o d → unreturnedFrom t m v e 0 (count t v) ≡ arcsBy o t m v e
       go none q = refl
       go (some x) q = absurd (omega (arith, q .0, q .1))
 
+pub all-values : (t : Task) (m : State) (v e n : ℕ) → n ≡ count t v → unreturnedFrom t m v e 0 (n - 0) ≡ unreturnedFrom t m v e 0 (count t v)
+all-values t m v e n y = let z : n - 0 ≡ count t v = omega arith in rw z refl
+
 pub few-values : (t : Task) → Formed t → (v n : ℕ) → n ≡ count t v → n ≤ 64
 few-values t F v n e = omega (arith, F .count-max v)
 
--- one action
-module _ (t : Task) (F : Formed t) (i : ℕ) (h : i < actions t) (marks : List ℕ) (U : Unmarked i marks) where
-  pub lacking-none : NoMove (black t) (act t i .eff) → Lacking t i marks false
-  lacking-none n = record { answer = sym (lacks-none t F i n); unmarked = unmarked-more i marks U }
+-- one action, which marks its facts with 2 × i
+module _ (t : Task) (F : Formed t) (i : ℕ) (h : i < actions t) (marks : List ℕ) (U : Unmarked (2 * i) marks) (f : ℕ) (K : Move (black t) (act t i .eff) f) where
+  small : 2 * i < 65535
+  small = omega (arith, F .actions-max)
 
-  pub lacking-move : cyclic t ≡ none → (f : ℕ) → Move (black t) (act t i .eff) f → (marks′ : List ℕ) → marks′ ≡ markAll i f (act t i .pre ++ act t i .eff) marks
-      → (r : Bool) → r ≡ lacksBy t (marked i marks′) i (f / 64) (f % 64) → Lacking t i marks′ r
-  lacking-move Y f K marks′ same r er = record {
-    answer = er ∙ lacks-is t F i (f / 64) (f % 64) (marked i marks′) (K .states) allows h Y (K .on);
-    unmarked = rw same (unmarked-all i f (K .small) (act t i .pre ++ act t i .eff) marks (facts-small t F i) (unmarked-more i marks U));
-  }
-    where
-      states : T (has (act t i .pre ++ act t i .eff) (f / 64) (f % 64))
-      states = has-right (act t i .pre) (act t i .eff) (f / 64) (f % 64) (K .states)
+  module _ (marks′ : List ℕ) (fs : List Fact) (all : fs ≡ act t i .pre ++ act t i .eff) (same : marks′ ≡ markAll (2 * i) f fs marks) where
+    pub lacking-unmarked : Unmarked (2 * i + 1) marks′
+    lacking-unmarked = rw (same, all) (unmarked-all (2 * i) f (act t i .pre ++ act t i .eff) marks (facts-small t F i) (unmarked-more (2 * i) (2 * i + 1) marks U (omega arith)))
 
-      allows : Allows (f / 64) (f % 64) (act t i .pre ++ act t i .eff) (marked i marks′)
-      allows = rw same (marks-allow i f (act t i .pre ++ act t i .eff) marks (K .small) (facts-small t F i) (omega (arith, F .actions-max)) U states)
+    pub lacking-move : cyclic t ≡ none → lacksBy t (marked (2 * i) marks′) i (f / 64) (f % 64) ≡ lacks t i
+    lacking-move Y = lacks-is t F i (f / 64) (f % 64) (marked (2 * i) marks′) (K .states) allows h Y (K .on)
+      where
+        states : T (has (act t i .pre ++ act t i .eff) (f / 64) (f % 64))
+        states = has-right (act t i .pre) (act t i .eff) (f / 64) (f % 64) (K .states)
+
+        allows : Allows (f / 64) (f % 64) (act t i .pre ++ act t i .eff) (marked (2 * i) marks′)
+        allows = rw (same, all) (marks-allow (2 * i) f (act t i .pre ++ act t i .eff) marks (facts-small t F i) small U (K .small) states)
 
 -- all actions in turn
-pub record Scanning (t : Task) (n : ℕ) (marks : List ℕ) (i : ℕ) : Type 0 where
-  pub unmarked : Unmarked i marks
+pub record Scanning (t : Task) (n : ℕ) (marks kept : List ℕ) (i : ℕ) : Type 0 where
+  pub ready : Ready t (2 * i) marks kept
   pub searched : Searched n (lacks t) i
 
 module _ (t : Task) (n : ℕ) (e : n ≡ actions t) where
-  pub scanning-start : (marks : List ℕ) → Unmarked 0 marks → Scanning t n marks 0
-  scanning-start marks U = record { unmarked = U; searched = searched-start n (lacks t) }
+  pub scanning-start : (marks kept : List ℕ) → Ready t 0 marks kept → Scanning t n marks kept 0
+  scanning-start marks kept R = record { ready = R; searched = searched-start n (lacks t) }
 
   all-actions : first n (lacks t) ≡ unreturned t
   unfolding unreturned lacks
   all-actions = rw e refl
 
-  module _ (marks : List ℕ) (i : ℕ) (S : Scanning t n marks i) (r : Bool) (marks′ : List ℕ) (A : Lacking t i marks′ r) (h : i < n) where
-    pub scanning-turn : r ≡ false → Scanning t n marks′ (i + 1)
-    scanning-turn z = record { unmarked = A .unmarked; searched = searched-turn n (lacks t) i (S .searched) h (sym (A .answer) ∙ z) }
+  module _ (marks kept : List ℕ) (i : ℕ) (S : Scanning t n marks kept i) (r : Bool) (answer : r ≡ lacks t i) (h : i < n) where
+    pub scanning-turn : r ≡ false → (marks′ kept′ : List ℕ) → Ready t (2 * i + 2) marks′ kept′ → Scanning t n marks′ kept′ (i + 1)
+    scanning-turn z marks′ kept′ R = record { ready = ready-more t (2 * i + 2) (2 * (i + 1)) marks′ kept′ R (omega arith); searched = searched-turn n (lacks t) i (S .searched) h (sym answer ∙ z) }
 
     pub scanning-hit : r ≡ true → some i ≡ unreturned t
-    scanning-hit z = searched-hit n (lacks t) i (S .searched) h (sym (A .answer) ∙ z) ∙ all-actions
+    scanning-hit z = searched-hit n (lacks t) i (S .searched) h (sym answer ∙ z) ∙ all-actions
 
-  pub scanning-end : (marks : List ℕ) (i : ℕ) → Scanning t n marks i → n ≤ i → none ≡ unreturned t
-  scanning-end marks i S h = searched-end n (lacks t) i (S .searched) h ∙ all-actions
+  pub scanning-end : (marks kept : List ℕ) (i : ℕ) → Scanning t n marks kept i → n ≤ i → none ≡ unreturned t
+  scanning-end marks kept i S h = searched-end n (lacks t) i (S .searched) h ∙ all-actions
 
 -- what was found is below the count
 pub first-below : (n : ℕ) (p : ℕ → Bool) (i : ℕ) → first n p ≡ some i → i < n

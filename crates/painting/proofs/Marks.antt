@@ -29,11 +29,11 @@ pub place-other : (f g : ℕ) → (g / 64 ≡ f / 64 → ⊥) → place f g ≡ 
 unfolding place
 place-other f g n = rw (ne-eqb (g / 64) (f / 64) n) refl
 
-place-small : (f g : ℕ) → f < 4096 → g < 4096 → place f g < 4096
-place-small f g a b = go (ℕ-discrete (g / 64) (f / 64))
+place-small : (f g : ℕ) → g < 4096 → place f g < 4096
+place-small f g b = go (ℕ-discrete (g / 64) (f / 64))
   where
     go : Dec (g / 64 ≡ f / 64) → place f g < 4096
-    go (yes e) = rw (place-own f g e) a
+    go (yes e) = rw (place-own f g e) (omega arith)
     go (no n) = rw (place-other f g n) b
 
 -- the loop: marks so far with those of the facts from place k on are the marks of all
@@ -46,8 +46,8 @@ module _ (fs : List Fact) (task : List ℕ) (b f i : ℕ) (marks₀ : List ℕ) 
   marking-start k F e = record { facts = F; so-far = ap (λ (gs : List Fact). markAll i f gs marks₀) (sym e) }
 
   module _ (marks : List ℕ) (k : ℕ) (M : Marking fs task b f i marks₀ marks k) where
-    pub marking-small : k < b → f < 4096 → (g p : ℕ) → g ≡ getD task k 0 → p ≡ place f g → p < 4096
-    marking-small h l g p e q = rw q (place-small f g l (omega (arith, M .facts .small k (omega arith) h)))
+    pub marking-small : k < b → (g p : ℕ) → g ≡ getD task k 0 → p ≡ place f g → p < 4096
+    marking-small h g p e q = rw q (place-small f g (omega (arith, M .facts .small k (omega arith) h)))
 
     pub marking-turn : k < b → (g p : ℕ) → g ≡ getD task k 0 → p ≡ place f g → Marking fs task b f i marks₀ (set marks p i) (k + 1)
     unfolding markAll factOf
@@ -70,7 +70,7 @@ placed : ℕ → List Fact → ℕ → Bool
 placed f [] p = false
 placed f (g ∷ gs) p = eqb p (place f (64 * g .var + g .val)) || placed f gs p
 
-module _ (i f : ℕ) (l : f < 4096) where
+module _ (i f : ℕ) where
   unmarked-set : (marks : List ℕ) (p : ℕ) → p < 4096 → Unmarked (i + 1) marks → Unmarked (i + 1) (set marks p i)
   unmarked-set marks p b U = record {
     long = length-set marks p i ∙ U .long;
@@ -85,7 +85,7 @@ module _ (i f : ℕ) (l : f < 4096) where
   unfolding markAll
   unmarked-all [] marks S U = U
   unmarked-all (g ∷ gs) marks S U = unmarked-all gs (set marks (place f (64 * g .var + g .val)) i) (S .2)
-      (unmarked-set marks (place f (64 * g .var + g .val)) (place-small f (64 * g .var + g .val) l (omega (arith, S .0, S .1))) U)
+      (unmarked-set marks (place f (64 * g .var + g .val)) (place-small f (64 * g .var + g .val) (omega (arith, S .0, S .1))) U)
 
   marks-at : (fs : List Fact) (marks : List ℕ) → Small fs → length marks ≡ 4096 → (p : ℕ) → eqb (getD (markAll i f fs marks) p 0) i ≡ (placed f fs p || eqb (getD marks p 0) i)
   unfolding markAll placed
@@ -102,7 +102,7 @@ module _ (i f : ℕ) (l : f < 4096) where
 
       go : Dec (p ≡ q) → (placed f gs p || eqb (getD (set marks q i) p 0) i) ≡ ((eqb p q || placed f gs p) || eqb (getD marks p 0) i)
       go (yes e) =
-          let b : q < length marks = omega (arith, n, place-small f (64 * g .var + g .val) l (omega (arith, S .0, S .1))) in
+          let b : q < length marks = omega (arith, n, place-small f (64 * g .var + g .val) (omega (arith, S .0, S .1))) in
           rw (e, getD-set-same marks q i 0 b, eq-eqb q q refl) (hit (eqb i i) (placed f gs q) (eqb (getD marks q 0) i) (eq-eqb i i refl))
       go (no e) = rw (ne-eqb p q e, getD-set-other marks q p i 0 e) refl
 
@@ -141,55 +141,60 @@ pub record Allows (v e : ℕ) (fs : List Fact) (m : State) : Type 0 where
   pub other : (u x : ℕ) → u ≢ v → T (has fs u x) → T (m u x)
   pub others : (u x : ℕ) → u < 64 → x < 64 → u ≢ v → T (m u x) → T (has fs u x)
 
-pub marks-allow : (i f : ℕ) (fs : List Fact) (marks : List ℕ) → f < 4096 → Small fs → i < 65535 → Unmarked i marks → T (has fs (f / 64) (f % 64))
-    → Allows (f / 64) (f % 64) fs (marked i (markAll i f fs marks))
-unfolding marked
-marks-allow i f fs marks l S b U h = record {
-  own = mark-of (f / 64) (f % 64) (subst (λ (p : ℕ). T (placed f fs p)) own-place (placed-intro f fs (f / 64) (f % 64) h));
-  only = λ x c t. only-own x c (find (f / 64) x (omega arith) c t);
-  other = λ u x n g. mark-of u x (subst (λ (p : ℕ). T (placed f fs p)) (place-other f (64 * u + x) (λ e. n (away u x (small-has fs S u x g .1) e))) (placed-intro f fs u x g));
-  others = λ u x ub c n t. found u x c n (placed-elim f fs (64 * u + x) (find u x ub c t));
-}
-  where
-    own-place : place f (64 * (f / 64) + f % 64) ≡ 64 * (f / 64) + f % 64
-    own-place = let q : 64 * (f / 64) + f % 64 ≡ f = omega arith in rw q (place-own f f refl)
+module _ (i f : ℕ) (fs : List Fact) (marks : List ℕ) (S : Small fs) (b : i < 65535) (U : Unmarked i marks) where
+  -- nothing was marked i before
+  fresh : (p : ℕ) → p < 4096 → T (eqb (getD marks p 0) i) → ⊥
+  fresh p c t = let q = eqb→eq (getD marks p 0) i t in elim (U .before p c) [ inl k ↦ omega arith | inr k ↦ omega arith ]
 
-    away : (u x : ℕ) → x < 64 → (64 * u + x) / 64 ≡ f / 64 → u ≡ f / 64
-    away u x c e = omega arith
+  find : (u x : ℕ) → u < 64 → x < 64 → T (marked i (markAll i f fs marks) u x) → T (placed f fs (64 * u + x))
+  unfolding marked
+  find u x ub xb t = elim (or-cases (placed f fs (64 * u + x)) (eqb (getD marks (64 * u + x) 0) i) (subst T (marks-at i f fs marks S (U .long) (64 * u + x)) t)) [
+    | inl k ↦ k
+    | inr k ↦ absurd (fresh (64 * u + x) (omega arith) k)
+  ]
 
-    mark-of : (u x : ℕ) → T (placed f fs (64 * u + x)) → T (eqb (getD (markAll i f fs marks) (64 * u + x) 0) i)
-    mark-of u x t = subst T (sym (marks-at i f l fs marks S (U .long) (64 * u + x))) (or-l (placed f fs (64 * u + x)) (eqb (getD marks (64 * u + x) 0) i) t)
+  -- on variables other than that of f the facts themselves are marked
+  pub marks-others : (u x : ℕ) → u < 64 → x < 64 → u ≢ f / 64 → T (marked i (markAll i f fs marks) u x) → T (has fs u x)
+  marks-others u x ub c n t = found (placed-elim f fs (64 * u + x) (find u x ub c t))
+    where
+      found : (w : ℕ) × (y : ℕ) × T (has fs w y) × (64 * u + x ≡ place f (64 * w + y)) → T (has fs u x)
+      found r = pick (ℕ-discrete ((64 * r .0 + r .1) / 64) (f / 64))
+        where
+          pick : Dec ((64 * r .0 + r .1) / 64 ≡ f / 64) → T (has fs u x)
+          pick (yes e) = absurd (n (omega (arith, r .3, place-own f (64 * r .0 + r .1) e)))
+          pick (no e) =
+              let b = small-has fs S (r .0) (r .1) (r .2) in
+              let p : r .0 ≡ u = omega (arith, b .1, r .3, place-other f (64 * r .0 + r .1) e) in
+              let q : r .1 ≡ x = omega (arith, b .1, r .3, place-other f (64 * r .0 + r .1) e) in
+              subst (λ (z : ℕ). T (has fs u z)) q (subst (λ (z : ℕ). T (has fs z (r .1))) p (r .2))
 
-    -- nothing was marked i before
-    fresh : (p : ℕ) → p < 4096 → T (eqb (getD marks p 0) i) → ⊥
-    fresh p c t = let q = eqb→eq (getD marks p 0) i t in elim (U .before p c) [ inl k ↦ omega arith | inr k ↦ omega arith ]
+  pub marks-allow : f < 4096 → T (has fs (f / 64) (f % 64)) → Allows (f / 64) (f % 64) fs (marked i (markAll i f fs marks))
+  unfolding marked
+  marks-allow l h = record {
+    own = mark-of (f / 64) (f % 64) (subst (λ (p : ℕ). T (placed f fs p)) own-place (placed-intro f fs (f / 64) (f % 64) h));
+    only = λ x c t. only-own x c (find (f / 64) x (omega arith) c t);
+    other = λ u x n g. mark-of u x (subst (λ (p : ℕ). T (placed f fs p)) (place-other f (64 * u + x) (λ e. n (away u x (small-has fs S u x g .1) e))) (placed-intro f fs u x g));
+    others = marks-others;
+  }
+    where
+      own-place : place f (64 * (f / 64) + f % 64) ≡ 64 * (f / 64) + f % 64
+      own-place = let q : 64 * (f / 64) + f % 64 ≡ f = omega arith in rw q (place-own f f refl)
 
-    find : (u x : ℕ) → u < 64 → x < 64 → T (eqb (getD (markAll i f fs marks) (64 * u + x) 0) i) → T (placed f fs (64 * u + x))
-    find u x ub xb t = elim (or-cases (placed f fs (64 * u + x)) (eqb (getD marks (64 * u + x) 0) i) (subst T (marks-at i f l fs marks S (U .long) (64 * u + x)) t)) [
-      | inl k ↦ k
-      | inr k ↦ absurd (fresh (64 * u + x) (omega arith) k)
-    ]
+      away : (u x : ℕ) → x < 64 → (64 * u + x) / 64 ≡ f / 64 → u ≡ f / 64
+      away u x c e = omega arith
 
-    only-own : (x : ℕ) → x < 64 → T (placed f fs (64 * (f / 64) + x)) → x ≡ f % 64
-    only-own x c t = go (placed-elim f fs (64 * (f / 64) + x) t)
-      where
-        go : (u : ℕ) × (y : ℕ) × T (has fs u y) × (64 * (f / 64) + x ≡ place f (64 * u + y)) → x ≡ f % 64
-        go r = pick (ℕ-discrete ((64 * r .0 + r .1) / 64) (f / 64))
-          where
-            pick : Dec ((64 * r .0 + r .1) / 64 ≡ f / 64) → x ≡ f % 64
-            pick (yes e) = omega (arith, r .3, place-own f (64 * r .0 + r .1) e)
-            pick (no e) = absurd (e (omega (arith, r .3, place-other f (64 * r .0 + r .1) e)))
+      mark-of : (u x : ℕ) → T (placed f fs (64 * u + x)) → T (eqb (getD (markAll i f fs marks) (64 * u + x) 0) i)
+      mark-of u x t = subst T (sym (marks-at i f fs marks S (U .long) (64 * u + x))) (or-l (placed f fs (64 * u + x)) (eqb (getD marks (64 * u + x) 0) i) t)
 
-    found : (u x : ℕ) → x < 64 → u ≢ f / 64 → (w : ℕ) × (y : ℕ) × T (has fs w y) × (64 * u + x ≡ place f (64 * w + y)) → T (has fs u x)
-    found u x c n r = pick (ℕ-discrete ((64 * r .0 + r .1) / 64) (f / 64))
-      where
-        pick : Dec ((64 * r .0 + r .1) / 64 ≡ f / 64) → T (has fs u x)
-        pick (yes e) = absurd (n (omega (arith, r .3, place-own f (64 * r .0 + r .1) e)))
-        pick (no e) =
-            let b = small-has fs S (r .0) (r .1) (r .2) in
-            let p : r .0 ≡ u = omega (arith, b .1, r .3, place-other f (64 * r .0 + r .1) e) in
-            let q : r .1 ≡ x = omega (arith, b .1, r .3, place-other f (64 * r .0 + r .1) e) in
-            subst (λ (z : ℕ). T (has fs u z)) q (subst (λ (z : ℕ). T (has fs z (r .1))) p (r .2))
+      only-own : (x : ℕ) → x < 64 → T (placed f fs (64 * (f / 64) + x)) → x ≡ f % 64
+      only-own x c t = go (placed-elim f fs (64 * (f / 64) + x) t)
+        where
+          go : (u : ℕ) × (y : ℕ) × T (has fs u y) × (64 * (f / 64) + x ≡ place f (64 * u + y)) → x ≡ f % 64
+          go r = pick (ℕ-discrete ((64 * r .0 + r .1) / 64) (f / 64))
+            where
+              pick : Dec ((64 * r .0 + r .1) / 64 ≡ f / 64) → x ≡ f % 64
+              pick (yes e) = omega (arith, r .3, place-own f (64 * r .0 + r .1) e)
+              pick (no e) = absurd (e (omega (arith, r .3, place-other f (64 * r .0 + r .1) e)))
 
 -- at the start nothing is marked
 pub unmarked-start : Unmarked 0 (replicate 4096 65535)
@@ -198,5 +203,5 @@ unmarked-start = record {
   before = λ g h. inr (getD-replicate {A = ℕ} 4096 g 65535 0 h);
 }
 
-pub unmarked-more : (i : ℕ) (marks : List ℕ) → Unmarked i marks → Unmarked (i + 1) marks
-unmarked-more i marks U = record { long = U .long; before = λ g h. elim (U .before g h) [ inl k ↦ inl (omega arith) | inr k ↦ inr k ] }
+pub unmarked-more : (i k : ℕ) (marks : List ℕ) → Unmarked i marks → i ≤ k → Unmarked k marks
+unmarked-more i k marks U l = record { long = U .long; before = λ g h. elim (U .before g h) [ inl q ↦ inl (omega arith) | inr q ↦ inr q ] }

@@ -5,7 +5,7 @@ use mathlib.Core.Logic.{_⊎_, inl, inr, _≢_}
 use mathlib.Core.Bool.{Bool, true, false, not, _&&_}
 use mathlib.Core.List.{List, [], _∷_, _++_}
 use mathlib.Core.Option.{Option, none, some}
-use Prim.Native.Nat.{ℕ, _+_, _*_, _/_, _%_, _<_, _≤_}
+use Prim.Native.Nat.{ℕ, _+_, _-_, _*_, _/_, _%_, _<_, _≤_}
 use native.Mathlib.Omega.{arith}
 use native.Mathlib.Decide.{ℕ-discrete, decLt}
 use borrow.Author.Tests.{eq-eqb, ne-eqb}
@@ -14,7 +14,7 @@ use Rattle.planning.specs.Basics.{someBelow}
 use Rattle.planning.specs.Record.{Fact, Task}
 use Rattle.planning.specs.Runs.{State, has, look, holds, variables, actions, act, black, count}
 use Rattle.planning.specs.Painting.{arcFrom, target, orZero, outside, returnBy, lacksReturn, cyclic}
-use Rattle.planning.proofs.Tests.{T→true, true→T, F→false, and-l, and-r, and-i}
+use Rattle.planning.proofs.Tests.{T→true, true→T, F→false, T-cases, and-l, and-r, and-i}
 use Rattle.planning.proofs.Below.{some-intro, some-elim}
 use Rattle.planning.proofs.Facts.{has-cases, has-here, has-there, has-nil, has-++, holds→sub, sub→holds, has→touches, Func, look-some, look-none, look-is}
 use Rattle.planning.proofs.Arcs.{Arc, arcFrom-elim, arcFrom-intro}
@@ -24,7 +24,7 @@ use Rattle.task.specs.Task.{taskIn}
 use Rattle.task.specs.Links.{headAt, nextAt, Next, Sets}
 use Rattle.state.specs.Sets.{Asked}
 use Rattle.graph.proofs.Searches.{both, false-not, some-same, some-found, some-lacks}
-use Rattle.painting.specs.Returns.{returnsBy, returned, unreturnedFrom, arcsBy, lacksBy, lacks, OnChain, InChain, Serves}
+use Rattle.painting.specs.Returns.{returnsBy, returned, unreturnedFrom, arcsBy, lacksBy, lacks, OnChain, InChain, Serves, Complete}
 use Rattle.painting.proofs.Chains.{NoMove}
 use Rattle.painting.proofs.Marks.{Small, Allows}
 
@@ -64,6 +64,21 @@ pub small-++ : (fs gs : List Fact) → Small fs → Small gs → Small (fs ++ gs
 small-++ [] gs S R = R
 small-++ (f ∷ fs) gs S R = (S .0, S .1, small-++ fs gs (S .2) R)
 
+-- for some value from a on, of n, there is no return
+module _ (t : Task) (m : State) (v e : ℕ) where
+  from-in : (a n k : ℕ) → k < n → a + k ≢ e → T (not (returned t m v (a + k))) → T (unreturnedFrom t m v e a n)
+  unfolding unreturnedFrom
+  from-in a n k b z r = some-intro n (λ k. not (eqb (a + k) e) && not (returned t m v (a + k))) k b
+      (and-i (not (eqb (a + k) e)) (not (returned t m v (a + k))) (not-T (eqb (a + k) e) (λ q. z (eqb→eq (a + k) e q))) r)
+
+  from-out : (a n : ℕ) → T (unreturnedFrom t m v e a n) → (k : ℕ) × (k < n) × (a + k ≢ e) × T (not (returned t m v (a + k)))
+  unfolding unreturnedFrom
+  from-out a n h =
+      let r = some-elim n (λ k. not (eqb (a + k) e) && not (returned t m v (a + k))) h in
+      let k : ℕ = r .0 in
+      let p : T (not (eqb (a + k) e) && not (returned t m v (a + k))) = r .2 in
+      (k, r .1, λ z. T-not (eqb (a + k) e) (search and-l) (rw z (eqb-refl e)), search and-r)
+
 module _ (t : Task) (F : Formed t) where
   pre-func : (i : ℕ) → Func (act t i .pre)
   pre-func i = sorted-func (variables t) (count t) 0 (act t i .pre) (F .pre-sorted i)
@@ -76,9 +91,11 @@ module _ (t : Task) (F : Formed t) where
       let I = sorted-has (variables t) (count t) 0 (act t i .pre) (F .pre-sorted i) u x h in
       (omega (arith, I .var-below, F .variables-max), omega (arith, I .val-below, F .count-max u))
 
+  pub needs-small : (i : ℕ) → Small (act t i .pre)
+  needs-small i = sorted-small (variables t) (count t) (F .variables-max) (F .count-max) 0 (act t i .pre) (F .pre-sorted i)
+
   pub facts-small : (i : ℕ) → Small (act t i .pre ++ act t i .eff)
-  facts-small i = small-++ (act t i .pre) (act t i .eff) (sorted-small (variables t) (count t) (F .variables-max) (F .count-max) 0 (act t i .pre) (F .pre-sorted i))
-      (sorted-small (variables t) (count t) (F .variables-max) (F .count-max) 0 (act t i .eff) (F .eff-sorted i))
+  facts-small i = small-++ (act t i .pre) (act t i .eff) (needs-small i) (sorted-small (variables t) (count t) (F .variables-max) (F .count-max) 0 (act t i .eff) (F .eff-sorted i))
 
   module _ (i v e : ℕ) (m : State) (sets : T (has (act t i .eff) v e)) (A : Allows v e (act t i .pre ++ act t i .eff) m) where
     aim : target (act t) v i ≡ e
@@ -180,19 +197,6 @@ module _ (t : Task) (F : Formed t) where
           let x = arcFrom-elim (act t) w d i (pre-func i) a in
           one-black t F Y i w v ib (has→touches (act t i .eff) w (target (act t) w i) (x .into)) (has→touches (act t i .eff) v e sets) o bv
 
-      from-in : (a n k : ℕ) → k < n → a + k ≢ e → T (not (returned t m v (a + k))) → T (unreturnedFrom t m v e a n)
-      unfolding unreturnedFrom
-      from-in a n k b z r = some-intro n (λ k. not (eqb (a + k) e) && not (returned t m v (a + k))) k b
-          (and-i (not (eqb (a + k) e)) (not (returned t m v (a + k))) (not-T (eqb (a + k) e) (λ q. z (eqb→eq (a + k) e q))) r)
-
-      from-out : (a n : ℕ) → T (unreturnedFrom t m v e a n) → (k : ℕ) × (k < n) × (a + k ≢ e) × T (not (returned t m v (a + k)))
-      unfolding unreturnedFrom
-      from-out a n h =
-          let r = some-elim n (λ k. not (eqb (a + k) e) && not (returned t m v (a + k))) h in
-          let k : ℕ = r .0 in
-          let p : T (not (eqb (a + k) e) && not (returned t m v (a + k))) = r .2 in
-          (k, r .1, λ z. T-not (eqb (a + k) e) (search and-l) (rw z (eqb-refl e)), search and-r)
-
       pub lacks-is : lacksBy t m i v e ≡ lacks t i
       unfolding lacksBy lacks
       lacks-is = both (arcsBy (look (act t i .pre) v) t m v e) (someBelow (variables t) (λ v. someBelow (count t v) (lacksReturn t i v))) (there (look (act t i .pre) v) refl) back
@@ -202,10 +206,10 @@ module _ (t : Task) (F : Formed t) where
 
           there : (o : Option ℕ) → look (act t i .pre) v ≡ o → T (arcsBy o t m v e) → T (someBelow (variables t) (λ v. someBelow (count t v) (lacksReturn t i v)))
           there none q h =
-              let r = from-out 0 (count t v) h in
+              let r = from-out t m v e 0 (count t v) h in
               at-v (0 + r .0) (omega (arith, r .1)) (lack-intro (0 + r .0) (r .2) (λ x g. absurd (look-none (act t i .pre) v x q g)) (r .3))
           there (some d) q h =
-              let r = from-out d 1 h in
+              let r = from-out t m v e d 1 h in
               let z : d + r .0 ≡ d = omega (arith, r .1) in
               let g : T (has (act t i .pre) v d) = look-some (act t i .pre) v d q in
               at-v d (sorted-has (variables t) (count t) 0 (act t i .pre) (F .pre-sorted i) v d g .val-below)
@@ -215,11 +219,11 @@ module _ (t : Task) (F : Formed t) where
           look-here none q d b h =
               let r = lack-of d h in
               let z : 0 + d ≡ d = omega arith in
-              from-in 0 (count t v) d b (λ y. r .0 (sym z ∙ y)) (subst (λ (y : ℕ). T (not (returned t m v y))) (sym z) (r .2))
+              from-in t m v e 0 (count t v) d b (λ y. r .0 (sym z ∙ y)) (subst (λ (y : ℕ). T (not (returned t m v y))) (sym z) (r .2))
           look-here (some x) q d b h =
               let r = lack-of d h in
               let z : x + 0 ≡ d = (omega (arith, r .1 x (look-some (act t i .pre) v x q))) in
-              from-in x 1 0 (omega arith) (λ y. r .0 (sym z ∙ y)) (subst (λ (y : ℕ). T (not (returned t m v y))) (sym z) (r .2))
+              from-in t m v e x 1 0 (omega arith) (λ y. r .0 (sym z ∙ y)) (subst (λ (y : ℕ). T (not (returned t m v y))) (sym z) (r .2))
 
           back : T (someBelow (variables t) (λ v. someBelow (count t v) (lacksReturn t i v))) → T (arcsBy (look (act t i .pre) v) t m v e)
           back h =
@@ -228,6 +232,33 @@ module _ (t : Task) (F : Formed t) where
               let y = some-elim (count t w) (lacksReturn t i w) (r .2) in
               let q = only-move w (y .0) (y .2) in
               look-here (look (act t i .pre) v) refl (y .0) (subst (λ (z : ℕ). y .0 < count t z) q (y .1)) (subst (λ (z : ℕ). T (lacksReturn t i z (y .0))) q (y .2))
+
+  -- the more is allowed, the more is returned
+  returned-more : (m m′ : State) → ((u x : ℕ) → u < 64 → x < 64 → T (m u x) → T (m′ u x)) → (v d : ℕ) → T (returned t m v d) → T (returned t m′ v d)
+  unfolding returned
+  returned-more m m′ more v d h =
+      let r = some-elim (actions t) (returnsBy t m v d) h in
+      let j : ℕ = r .0 in
+      let p : T (holds m (act t j .pre)) = and-r (has (act t j .eff) v d) (holds m (act t j .pre)) (r .2) in
+      let q = sub→holds m′ (act t j .pre) (λ u x g. more u x (pre-small j u x g .0) (pre-small j u x g .1) (holds→sub m (act t j .pre) p u x g)) in
+      some-intro (actions t) (returnsBy t m′ v d) j (r .1) (and-i (has (act t j .eff) v d) (holds m′ (act t j .pre)) (and-l (has (act t j .eff) v d) (holds m (act t j .pre)) (r .2)) q)
+
+  -- an action whose marks allow a return to every value is complete
+  pub complete-of : (m : State) (v e j n : ℕ) → j < actions t → ((u x : ℕ) → u < 64 → x < 64 → T (m u x) → T (has (act t j .pre) u x))
+      → returned t m v e ≡ true → n ≡ count t v → unreturnedFrom t m v e 0 (n - 0) ≡ false → Complete t v j
+  complete-of m v e j n b less own q rest = record { below = b; each = λ d h. returned-more m (has (act t j .pre)) less v d (go d h (ℕ-discrete d e) (T-cases (returned t m v d))) }
+    where
+      go : (d : ℕ) → d < count t v → Dec (d ≡ e) → T (returned t m v d) ⊎ T (not (returned t m v d)) → T (returned t m v d)
+      go d h y (inl r) = r
+      go d h (yes y) (inr r) = rw y (true→T (returned t m v e) own)
+      go d h (no y) (inr r) = let z : 0 + d ≡ d = omega arith in absurd (false-not (unreturnedFrom t m v e 0 (n - 0)) rest (from-in t m v e 0 (n - 0) d (omega arith) (rw z y) (rw z r)))
+
+  -- with its preconditions marked, no value lacks its return
+  pub complete-covers : (m : State) (v e j : ℕ) → Complete t v j → holds m (act t j .pre) ≡ true → unreturnedFrom t m v e 0 (count t v) ≡ false
+  complete-covers m v e j C h = F→false (unreturnedFrom t m v e 0 (count t v)) (λ z.
+      let r = from-out t m v e 0 (count t v) z in
+      let sub = holds→sub m (act t j .pre) (true→T (holds m (act t j .pre)) h) in
+      T-not (returned t m v (0 + r .0)) (r .3) (returned-more (has (act t j .pre)) m (λ u x _ _ g. sub u x g) v (0 + r .0) (C .each (0 + r .0) (omega (arith, r .1)))))
 
   -- an action with no move has no arc
   pub lacks-none : (i : ℕ) → NoMove (black t) (act t i .eff) → lacks t i ≡ false

@@ -1,10 +1,10 @@
--- Returns of arcs, by marks: action i marks each fact that its return may need with its own number.
+-- Returns of arcs, by marks: action i marks each fact that its return may need with a number of its own, 2 × i.
 use mathlib.Core.Path.{_≡_}
 use mathlib.Core.Logic.{_⊎_}
 use mathlib.Core.Bool.{Bool, true, false, not, _&&_}
 use mathlib.Core.List.{List, [], _∷_}
 use mathlib.Core.Option.{Option, none, some}
-use Prim.Native.Nat.{ℕ, _+_, _*_, _/_, _<_, _≤_}
+use Prim.Native.Nat.{ℕ, _+_, _*_, _/_, _%_, _<_, _≤_}
 use lib.Dec.{T, eqb}
 use lib.ListN.{length, getD, set}
 use Rattle.planning.specs.Basics.{someBelow}
@@ -64,6 +64,10 @@ arcsBy (some d) t m v e = unreturnedFrom t m v e d 1
 unfoldable pub lacksBy : Task → State → ℕ → ℕ → ℕ → Bool
 lacksBy t m i v e = arcsBy (look (act t i .pre) v) t m v e
 
+-- of an action that sets f, the arcs from every value
+abbrev pub lacksAny : Task → State → ℕ → Bool
+lacksAny t m f = unreturnedFrom t m (f / 64) (f % 64) 0 (count t (f / 64))
+
 -- f is a fact of a black variable of a loaded task with its chains
 pub record OnChain (task : List ℕ) (f : ℕ) : Type 0 where
   pub loaded : Loaded task
@@ -79,7 +83,17 @@ InChain t v d j = (j ≡ 65535) ⊎ ((j < actions t) × Sets t v d j)
 abbrev pub Serves : Task → State → ℕ → ℕ → ℕ → Type 0
 Serves t m v d j = (j ≡ 65535) ⊎ ((j < actions t) × T (returnsBy t m v d j))
 
--- the answer r for action i, and the marks left for the next one
-pub record Lacking (t : Task) (i : ℕ) (marks : List ℕ) (r : Bool) : Type 0 where
-  pub answer : r ≡ lacks t i
-  pub unmarked : Unmarked (i + 1) marks
+-- each value of v is set by an action that needs nothing but what action j needs
+pub record Complete (t : Task) (v j : ℕ) : Type 0 where
+  pub below : j < actions t
+  pub each : (d : ℕ) → d < count t v → T (returned t (has (act t j .pre)) v d)
+
+-- what is kept as 1,024 × variable + action is complete
+pub record Kept (t : Task) (kept : List ℕ) : Type 0 where
+  pub long : length kept ≡ 32
+  pub each : (s : ℕ) → s < 32 → getD kept s 0 / 1024 < 64 → Complete t (getD kept s 0 / 1024) (getD kept s 0 % 1024)
+
+-- what one action leaves for the next: no fact is marked from `own` on, and what is kept is complete
+pub record Ready (t : Task) (own : ℕ) (marks kept : List ℕ) : Type 0 where
+  pub unmarked : Unmarked own marks
+  pub complete : Kept t kept

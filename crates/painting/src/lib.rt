@@ -1,25 +1,26 @@
 // The check of a painting, 7 then 8, and what it leaves in the loaded task: the chains of actions by the black fact that they set,
 // and the clients-first order. Once the black causal graph has no cycle, an action sets one black fact at most: its move. The return
-// of an arc is looked for in the chain of the fact that it has to set, with what the first action allows marked.
+// of an arc is looked for in the chain of the fact that it has to set, with what the first action allows marked. For arcs from every
+// value an action is kept whose preconditions allow all the returns, so that the search is not repeated for each action that allows them.
 use answers::Checked;
 use answers::Refusal;
 use graph::Found;
 ghost use mathlib.Core.Path.{_≡_};
 ghost use mathlib.Core.Option.{some};
-ghost use mathlib.Core.Bool.{_||_};
-ghost use mathlib.Core.List.{_++_};
-ghost use Prim.Native.Nat.{ℕ, _-_, _/_, _%_, _<_, _≤_};
+ghost use mathlib.Core.Bool.{true, false, _||_};
+ghost use Prim.Native.Nat.{ℕ, _+_, _-_, _*_, _/_, _%_, _<_, _≤_};
 ghost use lib.Dec.{T, eqb};
 ghost use Rattle.planning.specs.Basics.{refuseAt};
 ghost use Rattle.planning.specs.Runs.{holds, actions, act};
 ghost use Rattle.planning.specs.Painting.{blackArc, unreturned};
 ghost use Rattle.answers.specs.Answers.{checkOf};
-ghost use Rattle.task.specs.Task.{taskIn, Loaded};
+ghost use Rattle.task.specs.Task.{factsIn, taskIn, Loaded};
 ghost use Rattle.task.specs.Links.{Next, Chained};
 ghost use Rattle.state.specs.Sets.{modeOf, setsOf};
-ghost use Rattle.graph.specs.Graph.{foundOf};
+ghost use Rattle.graph.specs.Graph.{Facts, foundOf};
 ghost use Rattle.painting.specs.Chains.{moveOf, linkedMove, Acyclic, Linked};
-ghost use Rattle.painting.specs.Returns.{FirstUnmarked, place, markAll, marked, Unmarked, returnsBy, returned, unreturnedFrom, lacksBy, OnChain, InChain, Serves, Lacking};
+ghost use Rattle.painting.specs.Returns.{FirstUnmarked, place, markAll, marked, Unmarked, Complete, Kept, Ready, OnChain, InChain, Serves};
+ghost use Rattle.painting.specs.Returns.{returnsBy, returned, unreturnedFrom, lacksBy, lacksAny, lacks};
 ghost use Rattle.painting.specs.Answers.{Readied};
 
 // The first black fact that action i sets; 65,535 if there is none.
@@ -65,9 +66,14 @@ fn link_all(task: &mut [u16], paint: u64)
     }
 }
 
-// What served last: the action for each fact, by the fact's number modulo 1,024; and behind them the place of the precondition that was not
-// marked. Any numbers will do.
-const LAST: usize = 1025;
+// What served last: the action for each fact, by the fact's number modulo 1,024; behind them how many more actions may be tried in vain for
+// keeping, and the place of the precondition that was not marked. Any numbers will do.
+const LAST: usize = 1026;
+
+const TRIES: usize = 1024;
+
+// Complete actions that are kept, as 1,024 × variable + action; 65,536 where there is none.
+const KEPT: usize = 32;
 
 // Where an action that sets f marks its fact g.
 fn place_of(f: usize, g: usize) -> usize
@@ -76,15 +82,13 @@ fn place_of(f: usize, g: usize) -> usize
     if g / 64 == f / 64 { f } else { g }
 }
 
-// The marks of action i, which sets f.
-fn mark(task: &[u16], i: usize, f: usize, marks: &mut [u16; 4096])
-    requires { ⌜ Loaded (now task) × (i < actions (taskIn (now task))) × (f < 4096) ⌝ }
-    ensures { λ _. ⌜ now (marks .exit) ≡ markAll i f (act (taskIn (now (task .entry))) i .pre ++ act (taskIn (now (task .entry))) i .eff) (now (marks .entry)) ⌝ }
+// The marks `own` of the facts from place `from` up to `to`, for an action that sets f.
+fn mark(task: &[u16], from: usize, to: usize, f: usize, own: u16, marks: &mut [u16; 4096])
+    requires { ⌜ Facts (now task) from to ⌝ }
+    ensures { λ _. ⌜ now (marks .exit) ≡ markAll own f (factsIn (now (task .entry)) from to) (now (marks .entry)) ⌝ }
 {
-    let own = i as u16;
-    let end = task::eff_end(task, i);
-    let mut k = task::pre_start(task, i);
-    while k < end {
+    let mut k = from;
+    while k < to {
         marks[place_of(f, lists::wide(task[k]))] = own;
         k += 1;
     }
@@ -234,18 +238,127 @@ fn lacks_between(
     false
 }
 
+// Action j is complete: each value of the variable of f is set by an action that needs nothing but what j needs. No fact is of the variable
+// of 4,096, so each is marked where it stands.
+fn is_complete(
+    task: &[u16],
+    marks: &mut [u16; 4096],
+    own: u16,
+    f: usize,
+    j: usize,
+    last: &mut [u16; LAST],
+) -> bool
+    requires { ⌜ OnChain (now task) f × (j < actions (taskIn (now task))) × Unmarked own (now marks) × (own < 65535) ⌝ }
+    ensures { λ r. ⌜ (r ≡ true → Complete (taskIn (now (task .entry))) (f / 64) j) × Unmarked (own + 1) (now (marks .exit)) ⌝ }
+{
+    mark(
+        task,
+        task::pre_start(task, j),
+        task::eff_start(task, j),
+        4096,
+        own,
+        marks,
+    );
+    if !is_returned(task, marks, own, f, last) {
+        return false;
+    }
+    !lacks_between(task, marks, own, f, 0, task::count(task, f / 64), last)
+}
+
+// The action that served value 0 or 1 of the variable of f last, whichever f is not, is kept if it is complete.
+fn keep(
+    task: &[u16],
+    marks: &mut [u16; 4096],
+    own: u16,
+    f: usize,
+    kept: &mut [usize; KEPT],
+    last: &mut [u16; LAST],
+)
+    requires { ⌜ OnChain (now task) f × (own < 65535) × Ready (taskIn (now task)) own (now marks) (now kept) ⌝ }
+    ensures { λ _. ⌜ Ready (taskIn (now (task .entry))) (own + 1) (now (marks .exit)) (now (kept .exit)) ⌝ }
+{
+    let tries = last[TRIES];
+    if tries == 0 {
+        return;
+    }
+    let j = lists::wide(last[(f / 64 * 64 + (f + 1) % 2) % 1024]);
+    if task::actions(task) <= j {
+        return;
+    }
+    if is_complete(task, marks, own, f, j, last) {
+        kept[lists::wide(own) / 2 % KEPT] = f / 64 * 1024 + j;
+    } else {
+        last[TRIES] = tries - 1;
+    }
+}
+
+// Each precondition of some action that was kept for the variable of f is marked `own`.
+fn is_covered(
+    task: &[u16],
+    marks: &[u16; 4096],
+    own: u16,
+    f: usize,
+    kept: &[usize; KEPT],
+    last: &mut [u16; LAST],
+) -> bool
+    requires { ⌜ OnChain (now task) f × Kept (taskIn (now task)) (now kept) ⌝ }
+    ensures { λ r. ⌜ (r ≡ true → lacksAny (taskIn (now (task .entry))) (marked own (now (marks .entry))) f ≡ false) ⌝ }
+{
+    let mut s: usize = 0;
+    while s < KEPT {
+        let j = kept[s];
+        if j / 1024 == f / 64 {
+            if all_marked(task, j % 1024, marks, own, last) {
+                return true;
+            }
+        }
+        s += 1;
+    }
+    false
+}
+
+// Some arc of an action that sets f, from any value, lacks its return. Where the variable has 16 values or more, a kept action may answer
+// for all of them, and where none does one is looked for.
+fn lacks_anywhere(
+    task: &[u16],
+    marks: &mut [u16; 4096],
+    own: u16,
+    f: usize,
+    kept: &mut [usize; KEPT],
+    last: &mut [u16; LAST],
+) -> bool
+    requires { ⌜ OnChain (now task) f × (own + 1 < 65535) × Ready (taskIn (now task)) (own + 1) (now marks) (now kept) ⌝ }
+    ensures answer { λ r. ⌜ r ≡ lacksAny (taskIn (now (task .entry))) (marked own (now (marks .entry))) f ⌝ }
+    ensures ready { λ _. ⌜ Ready (taskIn (now (task .entry))) (own + 2) (now (marks .exit)) (now (kept .exit)) ⌝ }
+{
+    let n = task::count(task, f / 64);
+    if n < 16 {
+        return lacks_between(task, marks, own, f, 0, n, last);
+    }
+    if is_covered(task, marks, own, f, kept, last) {
+        return false;
+    }
+    if lacks_between(task, marks, own, f, 0, n, last) {
+        return true;
+    }
+    keep(task, marks, own + 1, f, kept, last);
+    false
+}
+
 // Some arc of action i, which sets f, lacks its return: the arc from the value that it needs, or from every value.
 fn lacks_marked(
     task: &[u16],
-    marks: &[u16; 4096],
+    marks: &mut [u16; 4096],
     i: usize,
     f: usize,
+    kept: &mut [usize; KEPT],
     last: &mut [u16; LAST],
 ) -> bool
-    requires { ⌜ OnChain (now task) f × (i < actions (taskIn (now task))) ⌝ }
-    ensures { λ r. ⌜ r ≡ lacksBy (taskIn (now (task .entry))) (marked i (now (marks .entry))) i (f / 64) (f % 64) ⌝ }
+    requires { ⌜ OnChain (now task) f × (i < actions (taskIn (now task))) × Ready (taskIn (now task)) (2 * i + 1) (now marks) (now kept) ⌝ }
+    ensures answer { λ r. ⌜ r ≡ lacksBy (taskIn (now (task .entry))) (marked (2 * i) (now (marks .entry))) i (f / 64) (f % 64) ⌝ }
+    ensures ready { λ _. ⌜ Ready (taskIn (now (task .entry))) (2 * i + 2) (now (marks .exit)) (now (kept .exit)) ⌝ }
 {
-    let own = i as u16;
+    let own = (2 * i) as u16;
     let d = state::asked(
         task,
         task::pre_start(task, i),
@@ -255,7 +368,7 @@ fn lacks_marked(
     if d < 64 {
         return lacks_between(task, marks, own, f, d, d + 1, last);
     }
-    lacks_between(task, marks, own, f, 0, task::count(task, f / 64), last)
+    lacks_anywhere(task, marks, own, f, kept, last)
 }
 
 // Action i has an arc that lacks its return.
@@ -264,17 +377,26 @@ fn is_lacking(
     paint: u64,
     i: usize,
     marks: &mut [u16; 4096],
+    kept: &mut [usize; KEPT],
     last: &mut [u16; LAST],
 ) -> bool
-    requires { ⌜ Acyclic (now task) paint × Chained (taskIn (now task)) (now task) × (i < actions (taskIn (now task))) × Unmarked i (now marks) ⌝ }
-    ensures { λ r. ⌜ Lacking (taskIn (now (task .entry))) i (now (marks .exit)) r ⌝ }
+    requires { ⌜ Acyclic (now task) paint × Chained (taskIn (now task)) (now task) × (i < actions (taskIn (now task))) × Ready (taskIn (now task)) (2 * i) (now marks) (now kept) ⌝ }
+    ensures answer { λ r. ⌜ r ≡ lacks (taskIn (now (task .entry))) i ⌝ }
+    ensures ready { λ _. ⌜ Ready (taskIn (now (task .entry))) (2 * i + 2) (now (marks .exit)) (now (kept .exit)) ⌝ }
 {
     let f = move_of(task, i, paint);
     if f == 65535 {
         return false;
     }
-    mark(task, i, f, marks);
-    lacks_marked(task, marks, i, f, last)
+    mark(
+        task,
+        task::pre_start(task, i),
+        task::eff_end(task, i),
+        f,
+        (2 * i) as u16,
+        marks,
+    );
+    lacks_marked(task, marks, i, f, kept, last)
 }
 
 // Check 8: the lowest action with an arc that lacks its return.
@@ -284,10 +406,12 @@ fn lowest_lacking(task: &[u16], paint: u64) -> Found
 {
     let n = task::actions(task);
     let mut marks = [65535u16; 4096];
+    let mut kept = [65536usize; KEPT];
     let mut last = [65535u16; LAST];
+    last[TRIES] = 32;
     let mut i: usize = 0;
     while i < n {
-        if is_lacking(task, paint, i, &mut marks, &mut last) {
+        if is_lacking(task, paint, i, &mut marks, &mut kept, &mut last) {
             return Found::At(i);
         }
         i += 1;

@@ -1,33 +1,40 @@
 use Prim.Native.Nat.{_-_}
 use native.Mathlib.Omega.{arith}
 use Rattle.task.specs.Task.{taskIn}
-use Rattle.painting.proofs.Marks.{unmarked-start}
+use Rattle.painting.proofs.Keeping.{ready-start}
 use Rattle.painting.proofs.Arcs.{Scanning, scanning-start, scanning-turn, scanning-hit, scanning-end}
 use borrow.Author.Needs.{needs}
 use Rattle.painting.proofs.lowest_lacking.Statement.{statement}
 use Rattle.painting.proofs.lowest_lacking.Tie as tie
 
--- No action below i lacks a return, and no fact is marked by an action from i on.
+-- No action below i lacks a return, no fact is marked from 2 × i on, and what is kept is complete.
 abbrev Inv-loop : tie.InvT-loop
-Inv-loop task paint n marks₀ last₀ i₀ marks last i = Scanning (taskIn task) n marks i
+Inv-loop task paint n marks₀ kept₀ last₀ i₀ marks kept last i = Scanning (taskIn task) n marks kept i
 
 abbrev μ-loop : tie.MeasureT-loop
-μ-loop task paint n marks₀ last₀ i₀ marks last i = n - i
+μ-loop task paint n marks₀ kept₀ last₀ i₀ marks kept last i = n - i
 
 actions-requires : tie.Need-actions-requires Inv-loop μ-loop
 actions-requires c κs = search needs
 
+array-write-last : tie.Need-array-write-last Inv-loop μ-loop
+array-write-last c = search needs
+
 loop-holds : tie.Need-loop-holds Inv-loop μ-loop
-loop-holds c = scanning-start _ _ (c .actions .ensures) _ unmarked-start
+loop-holds c = scanning-start _ _ (c .actions .ensures) _ _ (ready-start _)
 
 is-lacking-requires : tie.Need-is-lacking-requires Inv-loop μ-loop
-is-lacking-requires c κs = let l = c .before .before .before in let a = l .before in let p = a .before .before .pre in (p .0, p .1, omega (arith, a .actions .ensures), l .loop .inv .unmarked)
+is-lacking-requires c κs =
+    let l = c .before .before .before .before in
+    let a = l .before in
+    let p = a .before .before .pre in
+    (p .0, p .1, omega (arith, a .actions .ensures), l .loop .inv .ready)
 
 returns : tie.Need-returns Inv-loop μ-loop
 returns c =
     let r = c .before in
-    let l = r .before .before .before .before in
-    scanning-hit _ _ (l .before .actions .ensures) _ _ (l .loop .inv) _ _ (r .is-lacking .ensures) (omega arith) (c .if1 .taken)
+    let l = r .before .before .before .before .before in
+    scanning-hit _ _ (l .before .actions .ensures) _ _ _ (l .loop .inv) _ (r .is-lacking .ensures .0) (omega arith) (c .if1 .taken)
 
 add-i : tie.Need-add-i Inv-loop μ-loop
 add-i c = search needs
@@ -38,11 +45,11 @@ loop-less c = search needs
 loop-again : tie.Need-loop-again Inv-loop μ-loop
 loop-again c =
     let r = c .before in
-    let l = r .before .before .before .before in
-    scanning-turn _ _ (l .before .actions .ensures) _ _ (l .loop .inv) _ _ (r .is-lacking .ensures) (omega arith) (c .if1 .left)
+    let l = r .before .before .before .before .before in
+    scanning-turn _ _ (l .before .actions .ensures) _ _ _ (l .loop .inv) _ (r .is-lacking .ensures .0) (omega arith) (c .if1 .left) _ _ (r .is-lacking .ensures .1)
 
 returns-2 : tie.Need-returns-2 Inv-loop μ-loop
-returns-2 c = let l = c .before in scanning-end _ _ (l .before .actions .ensures) _ _ (l .loop .inv) (omega arith)
+returns-2 c = let l = c .before in scanning-end _ _ (l .before .actions .ensures) _ _ _ (l .loop .inv) (omega arith)
 
 pub lowest-lacking-spec : {M : Type 1} → statement M
 lowest-lacking-spec =
@@ -51,6 +58,7 @@ lowest-lacking-spec =
     Inv-loop
     μ-loop
     actions-requires
+    array-write-last
     loop-holds
     is-lacking-requires
     returns

@@ -1,11 +1,7 @@
-use mathlib.Core.List.{_++_}
 use Prim.Native.Nat.{_-_}
+use mathlib.Core.Path.{refl}
 use native.Mathlib.Omega.{arith}
-use Rattle.planning.specs.Runs.{act}
-use Rattle.task.specs.Task.{taskIn}
-use Rattle.state.proofs.Listing.{loaded-listed}
-use Rattle.graph.proofs.Rows.{listed-facts}
-use Rattle.painting.proofs.Walks.{all-facts}
+use Rattle.task.specs.Task.{factsIn}
 use Rattle.painting.proofs.Marks.{Marking, marking-start, marking-small, marking-turn, marking-end}
 use borrow.Author.Needs.{needs}
 use Rattle.painting.proofs.mark.Statement.{statement}
@@ -13,26 +9,13 @@ use Rattle.painting.proofs.mark.Tie as tie
 
 -- The marks so far with those of the facts from place k on are the marks of all facts.
 abbrev Inv-loop : tie.InvT-loop
-Inv-loop task i f marks₀ own end k₀ marks k = Marking (act (taskIn task) i .pre ++ act (taskIn task) i .eff) task end f own marks₀ marks k
+Inv-loop task from to f own marks₀ k₀ marks k = Marking (factsIn task from to) task to f own marks₀ marks k
 
 abbrev μ-loop : tie.MeasureT-loop
-μ-loop task i f marks₀ own end k₀ marks k = end - k
-
-cast-own : tie.Need-cast-own Inv-loop μ-loop
-cast-own c = let p = c .before .pre in omega (arith, p .1, p .0 .formed .actions-max)
-
-eff-end-requires : tie.Need-eff-end-requires Inv-loop μ-loop
-eff-end-requires c κs = search needs
-
-pre-start-requires : tie.Need-pre-start-requires Inv-loop μ-loop
-pre-start-requires c κs = search needs
+μ-loop task from to f own marks₀ k₀ marks k = to - k
 
 loop-holds : tie.Need-loop-holds Inv-loop μ-loop
-loop-holds c =
-    let e = c .before in
-    let p = e .before .before .pre in
-    let L = loaded-listed _ (p .0) _ (p .1) in
-    marking-start _ _ _ _ _ _ _ (listed-facts _ _ L _ _ (c .pre-start .ensures) (e .eff-end .ensures)) (all-facts _ _ L _ _ (c .pre-start .ensures) (e .eff-end .ensures))
+loop-holds c = marking-start _ _ _ _ _ _ _ (c .before .pre) refl
 
 mul-wide : tie.Need-mul-wide Inv-loop μ-loop
 mul-wide c = search needs
@@ -50,14 +33,14 @@ mul-marks : tie.Need-mul-marks Inv-loop μ-loop
 mul-marks c =
     let w = c .before in
     let l = w .before .before .before in
-    let q = marking-small _ _ _ _ _ _ _ _ (l .loop .inv) (omega arith) (l .before .before .before .before .pre .2) _ _ (w .wide .ensures) (c .place-of .ensures) in
+    let q = marking-small _ _ _ _ _ _ _ _ (l .loop .inv) (omega arith) _ _ (w .wide .ensures) (c .place-of .ensures) in
     omega (arith, q)
 
 element-write-marks : tie.Need-element-write-marks Inv-loop μ-loop
 element-write-marks c =
     let w = c .before in
     let l = w .before .before .before in
-    marking-small _ _ _ _ _ _ _ _ (l .loop .inv) (omega arith) (l .before .before .before .before .pre .2) _ _ (w .wide .ensures) (c .place-of .ensures)
+    marking-small _ _ _ _ _ _ _ _ (l .loop .inv) (omega arith) _ _ (w .wide .ensures) (c .place-of .ensures)
 
 add-k : tie.Need-add-k Inv-loop μ-loop
 add-k c = search needs
@@ -77,9 +60,6 @@ mark-spec =
     (tie.spec
     Inv-loop
     μ-loop
-    cast-own
-    eff-end-requires
-    pre-start-requires
     loop-holds
     mul-wide
     shared-slice-read-wide

@@ -1,0 +1,74 @@
+use mathlib.Core.Path.{sym, _∙_}
+use native.Mathlib.Omega.{arith}
+use Rattle.planning.proofs.Painting.{black-inside}
+use Rattle.painting.proofs.Arcs.{all-values, few-values}
+use Rattle.painting.proofs.Keeping.{ready-more}
+use borrow.Author.Needs.{needs}
+use Rattle.painting.proofs.lacks_anywhere.Statement.{statement}
+use Rattle.painting.proofs.lacks_anywhere.Tie as tie
+
+count-requires : tie.Need-count-requires
+count-requires c κs = let p = c .before .pre in (p .0 .loaded, black-inside _ _ (p .0 .on))
+
+lacks-between-requires : tie.Need-lacks-between-requires
+lacks-between-requires c κs = search needs
+
+returns : tie.Need-returns
+returns c =
+    let n = c .before .before .before .before in
+    let p = n .before .before .pre in
+    (c .lacks-between .ensures ∙ all-values _ _ _ _ _ (n .count .ensures), ready-more _ _ _ _ _ (p .2) (omega arith))
+
+is-covered-requires : tie.Need-is-covered-requires
+is-covered-requires c κs = search needs
+
+returns-2 : tie.Need-returns-2
+returns-2 c =
+    let k = c .before in
+    let n = k .before .before .before .before .before in
+    let p = n .before .before .pre in
+    (sym (k .is-covered .ensures (c .if2 .taken)), ready-more _ _ _ _ _ (p .2) (omega arith))
+
+lacks-between-requires-2 : tie.Need-lacks-between-requires-2
+lacks-between-requires-2 c κs =
+    let k = c .before .before .before in
+    let n = k .before .before .before .before .before in
+    let p = n .before .before .pre in
+    (p .0, omega arith, few-values _ (p .0 .loaded .formed) _ _ (n .count .ensures))
+
+returns-3 : tie.Need-returns-3
+returns-3 c =
+    let b = c .before in
+    let k = b .before .before .before .before in
+    let n = k .before .before .before .before .before in
+    let p = n .before .before .pre in
+    (sym (c .if3 .taken) ∙ b .lacks-between2 .ensures ∙ all-values _ _ _ _ _ (n .count .ensures), ready-more _ _ _ _ _ (p .2) (omega arith))
+
+add-keep : tie.Need-add-keep
+add-keep c = search needs
+
+keep-requires : tie.Need-keep-requires
+keep-requires c κs = search needs
+
+returns-4 : tie.Need-returns-4
+returns-4 c =
+    let x = c .before .before .before .before in
+    let b = x .before in
+    let k = b .before .before .before .before in
+    let n = k .before .before .before .before .before in
+    (sym (x .if3 .left) ∙ b .lacks-between2 .ensures ∙ all-values _ _ _ _ _ (n .count .ensures), ready-more _ _ _ _ _ (c .keep .ensures) (omega arith))
+
+pub lacks-anywhere-spec : {M : Type 1} → statement M
+lacks-anywhere-spec =
+    tie.close
+    (tie.spec
+    count-requires
+    lacks-between-requires
+    returns
+    is-covered-requires
+    returns-2
+    lacks-between-requires-2
+    returns-3
+    add-keep
+    keep-requires
+    returns-4)
