@@ -4,7 +4,8 @@ use Prim.Native.Nat.{ℕ}
 use mathlib.Core.Path.{_≡_, refl}
 use mathlib.Core.Bool.{Bool, true, false}
 use mathlib.Core.List.{List, [], _∷_}
-use Rattle.planning.specs.Basics.{Answer, refused, done, times, check, andThen, inOrder, answer, code, bitAt, bitsAt, holdsField, someBelow, oneIf}
+use mathlib.Core.Option.{none}
+use Rattle.planning.specs.Basics.{Answer, refused, done, times, refuse, check, shifted, andThen, inOrder, answer, code, bitAt, bitsAt, holdsField, someBelow, oneIf}
 use Rattle.planning.specs.Basics.{tally, first, total, refuseAt, reach}
 use Rattle.planning.specs.Record.{Task, variablesIn, actionsIn, goalOf, variableAt, variablesAt, factsAt, preconditionsIn}
 use Rattle.planning.specs.Record.{effectsIn, effectsFrom, actionEnd, actionAt, actionsAt, actionsEnd, taskOf, fieldCheck, headerChecks, goalFits}
@@ -35,7 +36,7 @@ paddingOne = 16 ∷ 32 ∷ 0 ∷ 16 ∷ 0 ∷ 1 ∷ []
 unfoldable pub valueAtCount : List ℕ
 valueAtCount = 16 ∷ 32 ∷ 4 ∷ 16 ∷ 0 ∷ 0 ∷ 0 ∷ 64 ∷ 64 ∷ 8 ∷ []
 
--- 9.4 and 2.9: the check
+-- 9.4 and 2.9: the check; 9.9: behind the 35 bytes of two shelves
 pub checked :
     (checkCode [] ≡ 1)
     × (checkCode variables65 ≡ 131)
@@ -43,11 +44,13 @@ pub checked :
     × (checkCall goalValueAlone ≡ refused 4 36)
     × (checkCall valueAtCount ≡ refused 4 72)
     × (checkCall paddingOne ≡ refused 6 42)
-unfolding code check andThen inOrder answer bitAt bitsAt holdsField variablesIn actionsIn goalOf variableAt variablesAt factsAt preconditionsIn
+    × (shifted 35 (recordCheck goalValueAlone) ≡ refuse 4 316)
+    × (shifted 35 (recordCheck twoShelves) ≡ none)
+unfolding code check shifted andThen inOrder answer bitAt bitsAt holdsField variablesIn actionsIn goalOf variableAt variablesAt factsAt preconditionsIn
     effectsIn effectsFrom actionEnd actionAt actionsAt actionsEnd taskOf fieldCheck headerChecks goalFits variableChecks variablesChecks countIn
     factChecks factsChecks actionChecks actionsChecks endsAt recordEnd recordChecks recordCheck checkCall checkCode redPairs variables65 twoShelves
     goalValueAlone valueAtCount paddingOne
-checked = (refl, refl, refl, refl, refl, refl)
+checked = (refl, refl, refl, refl, refl, refl, refl, refl)
 
 -- steps and facts reached; under each semantics the steps that run and whether the list is a plan
 abbrev pub ran : ℕ → ℕ → Answer Forward
