@@ -37,9 +37,9 @@ black-met-requires c κs = let p = c .before .before .before .before .pre .0 in 
 returns : tie.Need-returns
 returns c =
     let s = c .before .before .before .before .before .before in
-    let a = s .args in (
-      moves-none (taskIn (a .task .now)) (setsOf (a .ever .now)) (shownBy (a .task .now) (a .ever .now) (a .newest .now)) (factsOf (a .wanted .now)) (a .plan .now) (a .at) (sym (c .before .black-met .ensures ∙ met-shown _ _ _ _) ∙ c .if1 .taken)
-          (s .pre .0 .2),
+    let a = s .args in
+    let met = sym (c .before .black-met .ensures ∙ met-shown _ _ _ _) ∙ c .if1 .taken in (
+      moves-none (taskIn (a .task .now)) (setsOf (a .ever .now)) (shownBy (a .task .now) (a .ever .now) (a .newest .now)) (factsOf (a .wanted .now)) (a .plan .now) (a .at) met (s .pre .0 .2),
       s .pre .1,
     )
 

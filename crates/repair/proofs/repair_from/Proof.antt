@@ -36,6 +36,12 @@ again-of c = c .before .before .before .before .before .before .before
 abbrev left-by : tie.After-stage Inv-loop μ-loop → List ℕ
 left-by c = c .stage .last .1 .1 .1 .1 .1 .0
 
+abbrev effects-of : tie.After-refresh Inv-loop μ-loop → tie.After-has-effects Inv-loop μ-loop
+effects-of c = c .before .before .before .before .before
+
+abbrev counted-of : tie.After-has-effects Inv-loop μ-loop → tie.After-counted Inv-loop μ-loop
+counted-of c = c .before .before .before
+
 abbrev wide-of : tie.After-counted Inv-loop μ-loop → tie.After-wide Inv-loop μ-loop
 wide-of c = c .before .before .before
 
@@ -192,38 +198,40 @@ has-effects-requires : tie.Need-has-effects-requires Inv-loop μ-loop
 has-effects-requires c κs = let w = wide-of (c .before .before) in (start-of (head-of w) .pre .0 .loaded, below w)
 
 step-requires : tie.Need-step-requires Inv-loop μ-loop
-step-requires c κs = let w = wide-of (c .before .before .before .before .before) in (start-of (head-of w) .pre .0 .loaded, below w)
+step-requires c κs = let w = wide-of (counted-of (c .before .before)) in (start-of (head-of w) .pre .0 .loaded, below w)
 
 loop-less-2 : tie.Need-loop-less-2 Inv-loop μ-loop
-loop-less-2 c = let k = c .before .before .before .before .before .before in steps-fewer _ _ _ _ (less (wide-of k)) (k .counted .ensures .steps)
+loop-less-2 c = let k = counted-of (c .before .before .before) in steps-fewer _ _ _ _ (less (wide-of k)) (k .counted .ensures .steps)
 
 loop-again-2 : tie.Need-loop-again-2 Inv-loop μ-loop
 loop-again-2 c =
-    let k = c .before .before .before .before .before .before in
+    let e = c .before .before .before in
+    let k = counted-of e in
     let w = wide-of k in
     let h = head-of w in
-    let same = step-held _ _ (sym (c .before .before .before .has-effects .ensures) ∙ c .before .before .if3 .taken) in
+    let same = step-held _ _ (sym (e .has-effects .ensures) ∙ c .before .before .if3 .taken) in
     repairing-step (h .loop .inv) (less w) _ (w .wide .ensures) (start-of h .pre .0 .loaded .formed) _ _ _ _ (h .loop .inv .rows) same (k .counted .ensures) (c .step .ensures)
 
 refresh-requires : tie.Need-refresh-requires Inv-loop μ-loop
 refresh-requires c κs =
-    let w = wide-of (c .before .before .before .before .before .before .before) in
+    let w = wide-of (counted-of (c .before .before .before .before)) in
     let h = head-of w in
     ((start-of h .pre .0 .loaded, below w, h .before .before .needs .ensures), h .loop .inv .rows)
 
 step-requires-2 : tie.Need-step-requires-2 Inv-loop μ-loop
-step-requires-2 c κs = let w = wide-of (c .before .before .before .before .before .before .before .before .before .before) in (start-of (head-of w) .pre .0 .loaded, below w)
+step-requires-2 c κs = let w = wide-of (counted-of (effects-of (c .before .before))) in (start-of (head-of w) .pre .0 .loaded, below w)
 
 loop-less-3 : tie.Need-loop-less-3 Inv-loop μ-loop
-loop-less-3 c = let k = c .before .before .before .before .before .before .before .before .before .before .before in steps-fewer _ _ _ _ (less (wide-of k)) (k .counted .ensures .steps)
+loop-less-3 c = let k = counted-of (effects-of (c .before .before .before)) in steps-fewer _ _ _ _ (less (wide-of k)) (k .counted .ensures .steps)
 
 loop-again-3 : tie.Need-loop-again-3 Inv-loop μ-loop
 loop-again-3 c =
-    let k = c .before .before .before .before .before .before .before .before .before .before .before in
+    let r = c .before .before .before in
+    let k = counted-of (effects-of r) in
     let w = wide-of k in
     let h = head-of w in
-    repairing-step (h .loop .inv) (less w) _ (w .wide .ensures) (start-of h .pre .0 .loaded .formed) _ _ _ _ (rw (c .step2 .ensures .0) (c .before .before .before .refresh .ensures)) (c .step2 .ensures .0)
-    (k .counted .ensures) (c .step2 .ensures .1)
+    repairing-step (h .loop .inv) (less w) _ (w .wide .ensures) (start-of h .pre .0 .loaded .formed) _ _ _ _
+    (rw (c .step2 .ensures .0) (r .refresh .ensures)) (c .step2 .ensures .0) (k .counted .ensures) (c .step2 .ensures .1)
 
 pub repair-from-spec : {M : Type 1} → statement M
 repair-from-spec =

@@ -63,7 +63,10 @@ loop-again c =
     )
 
 returns-2 : tie.Need-returns-2 Inv-loop μ-loop
-returns-2 c = let a = c .before .before .before .args in sym (c .before .loop .inv .2 ∙ holds-end (state-of (a .paint) (a .sets .now) (a .newest .now)) (a .facts .now) (c .before .loop .k) (a .to) (omega arith))
+returns-2 c =
+    let l = c .before .loop in
+    let a = c .before .before .before .args in
+    sym (l .inv .2 ∙ holds-end (state-of (a .paint) (a .sets .now) (a .newest .now)) (a .facts .now) (l .k) (a .to) (omega arith))
 
 pub all-in-colours-spec : {M : Type 1} → statement M
 all-in-colours-spec =
