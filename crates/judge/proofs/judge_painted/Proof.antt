@@ -22,7 +22,7 @@ cast-t13 : tie.Need-cast-t13
 cast-t13 c = let P = c .before .before .before .before .before .pre in omega (arith, stops-few _ _ _ _ _ (P .1), P .0 .short)
 
 all-in-colours-requires : tie.Need-all-in-colours-requires
-all-in-colours-requires c κs = let G = c .before .before .before .before .before .before .load .ensures in (omega arith, omega (arith, G .few), λ k _ h. G .small k h)
+all-in-colours-requires c κs = let G = c .before .before .before .before .before .before .load .ensures in (omega arith, omega (arith, G .few), λ k a b. G .small k (omega arith))
 
 returns-2 : tie.Need-returns-2
 returns-2 c =

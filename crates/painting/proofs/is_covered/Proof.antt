@@ -27,7 +27,7 @@ all-marked-requires : tie.Need-all-marked-requires Inv-loop μ-loop
 all-marked-requires c κs =
     let l = c .before .before .before .before in
     let p = l .before .before .pre in
-    (p .0 .loaded, kept-at _ _ (p .1) (l .loop .s) _ _ (omega arith) refl (p .0 .small) (c .before .if1 .taken) .below)
+    (p .0 .loaded, p .1 .each (l .loop .s) (omega arith) (omega (arith, p .0 .small, c .before .if1 .taken)) .below)
 
 returns : tie.Need-returns Inv-loop μ-loop
 returns c =
