@@ -20,9 +20,9 @@ use Rattle.planning.proofs.Formed.{Formed, sorted-has, sorted-func, goals-sorte
 use Rattle.planning.proofs.Steps.{run-mono}
 use Rattle.planning.proofs.Prefixes.{runBy-behind, stepsBy-on, stepsBy-fails, stepsBy-stopped, stepsBy-le}
 use Rattle.planning.proofs.Newest.{newestAfter, track-sets, track-newest, real-applies, real-holds}
-use Rattle.state.specs.Sets.{further, inColours}
+use Rattle.state.specs.Sets.{further, redBlackOf}
 use Rattle.state.proofs.Running.{further-fails, further-stopped, further-steps}
-use Rattle.state.proofs.Colours.{colours-step, colours-initial, step-held}
+use Rattle.state.proofs.RedBlack.{redBlack-step, redBlack-initial, step-held}
 use Rattle.judge.specs.Traces.{StopsAs, RunsAs, Relaxes}
 use Rattle.judge.proofs.Modes.{redBlack-further, relaxed-further, judged-of}
 
@@ -147,7 +147,7 @@ module _ (t : Task) (l : List ℕ) where
 -- The pass keeps the values held, which are those of the relaxed run, and reads the red-black state off them and the newest values.
 module _ (t : Task) (l : List ℕ) where
   abbrev shown : State → Values → State
-  shown = inColours (black t)
+  shown = redBlackOf (black t)
 
   pub record Following (s : State) (f : Values) (k runs : ℕ) : Type 0 where
     pub traced : Tracing t l (shown s f) f k runs
@@ -155,14 +155,14 @@ module _ (t : Task) (l : List ℕ) where
 
   pub following-start : (s : State) (f : Values) → s ≡ initial t → f ≡ initialValues t → Following s f 0 0
   unfolding runBy
-  following-start s f es ef = record { traced = tracing-start t l (shown s f) f (rw (es, ef) (colours-initial t)) ef; held = es }
+  following-start s f es ef = record { traced = tracing-start t l (shown s f) f (rw (es, ef) (redBlack-initial t)) ef; held = es }
 
   module _ (F : Formed t) (s : State) (f : Values) (k runs : ℕ) (p : Following s f k runs) (h : k < length l) (i : ℕ) (ei : i ≡ getD l k 0) where
     pub following-turn : (r : ℕ) (s′ : State) (f′ : Values) → r ≡ further (holds (alone f) (act t i .pre)) runs k → holds (shown s f) (act t i .pre) ≡ true
         → s′ ≡ step relaxed (act t i) s → f′ ≡ newer (act t i) f → Following s′ f′ (k + 1) r
     following-turn r s′ f′ er ha es ef = record {
       traced = tracing-turn t l F (shown s f) f k runs (p .traced) h i ei r (shown s′ f′) f′ er ha
-          (rw (es, ef) (colours-step (black t) (act t i) (sorted-func (variables t) (count t) 0 (act t i .eff) (F .eff-sorted i)) s f)) ef;
+          (rw (es, ef) (redBlack-step (black t) (act t i) (sorted-func (variables t) (count t) 0 (act t i .eff) (F .eff-sorted i)) s f)) ef;
       held = rw (one-more t l F (shown s f) f k runs (p .traced) h i ei, runBy-behind (λ i. step relaxed (act t i)) (take k l) i (initial t), ← p .held) es;
     }
 
@@ -196,12 +196,12 @@ module _ (t : Task) (F : Formed t) (l : List ℕ) (below : (j : ℕ) → j < len
   unfolding redBlackSteps
   painted-short s f n p h = judged-of t (black t) l below n (p .steps) false (λ e. absurd (omega arith)) (λ e. refl)
 
-  pub painted-whole : (s : State) (f : Values) (n : ℕ) → StopsAs t l s f n → length l ≤ n → (b : Bool) → b ≡ holds (inColours (black t) s f) (goals t)
+  pub painted-whole : (s : State) (f : Values) (n : ℕ) → StopsAs t l s f n → length l ≤ n → (b : Bool) → b ≡ holds (redBlackOf (black t) s f) (goals t)
       → record { steps = n; plan = b } ≡ judged t (black t) l
   unfolding redBlackSteps stopsIn tracked
   painted-whole s f n p h b eb =
       let e : take (redBlackSteps t l) l ≡ l = take-all (redBlackSteps t l) l (omega (arith, p .steps)) in
-      let q : inColours (black t) s f ≡ run (act t) (black t) l (initial t) = p .state ∙ track-sets (act t) (black t) (take (redBlackSteps t l) l) (tracked t) ∙ rw e refl in
+      let q : redBlackOf (black t) s f ≡ run (act t) (black t) l (initial t) = p .state ∙ track-sets (act t) (black t) (take (redBlackSteps t l) l) (tracked t) ∙ rw e refl in
       judged-of t (black t) l below n (p .steps) b (λ x. eb ∙ rw q refl)
       (λ x. absurd (x (omega (arith, p .steps, stepsBy-le (λ i s. holds s (act t i .pre)) (λ i. step (black t) (act t i)) l (initial t)))))
 

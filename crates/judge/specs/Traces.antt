@@ -6,7 +6,7 @@ use lib.ListN.{take}
 use Rattle.planning.specs.Record.{Task}
 use Rattle.planning.specs.Runs.{State, relaxed, real, black, act, initial, run, stepsRun}
 use Rattle.planning.specs.Newest.{Values, redBlackSteps, stopsIn}
-use Rattle.state.specs.Sets.{setsOf, valuesOf, inColours}
+use Rattle.state.specs.Sets.{setsOf, valuesOf, redBlackOf}
 use Rattle.judge.specs.declared.Trace.{Trace}
 
 -- the first k steps of the list l run relaxed, and the state behind them is s
@@ -18,7 +18,7 @@ pub record Relaxes (t : Task) (l : List ℕ) (s : State) (k : ℕ) : Type 0 wher
 -- for real, and the newest values there
 pub record StopsAs (t : Task) (l : List ℕ) (s : State) (f : Values) (n : ℕ) : Type 0 where
   pub steps : n ≡ redBlackSteps t l
-  pub state : inColours (black t) s f ≡ stopsIn t l .sets
+  pub state : redBlackOf (black t) s f ≡ stopsIn t l .sets
 
 pub record RunsAs (t : Task) (l : List ℕ) (f : Values) (n : ℕ) : Type 0 where
   pub runs : n ≡ stepsRun (act t) real l (initial t)

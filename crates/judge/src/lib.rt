@@ -31,7 +31,8 @@ pub struct Verdicts {
     pub real: Verdict,
 }
 
-// The relaxed run from the state behind the first `from` steps, which run. An action whose effects are held changes nothing.
+// The relaxed run from the state behind the first `from` steps, which run. An action whose effects are held adds nothing to the sets; newest
+// values are not asked for here.
 fn judge_relaxed(task: &[u16], list: &[u16], start: State, from: usize) -> Verdict
     requires { ⌜ Ready (now task) (now list) × Relaxes (taskIn (now task)) (now list) (setsOf (start .sets)) from ⌝ }
     ensures { λ r. ⌜ judgedOf r ≡ judged (taskIn (now (task .entry))) relaxed (now (list .entry)) ⌝ }
@@ -59,7 +60,7 @@ fn judge_relaxed(task: &[u16], list: &[u16], start: State, from: usize) -> Verdi
     }
 }
 
-// Where the red-black run of a list stops: the state there, how many steps run, and how many run for real.
+// Where the red-black run of a list stops: the values held and the newest ones there, how many steps run, and how many run for real.
 pub struct Trace {
     pub state: State,
     pub steps: usize,
@@ -67,7 +68,7 @@ pub struct Trace {
 }
 
 // As long as every step ran for real the newest values are the real state, so that one pass tells both runs. Where an action's effects are
-// held only the newest values step.
+// held the next state has the same sets.
 pub fn follow(task: &[u16], list: &[u16]) -> Trace
     requires { ⌜ Ready (now task) (now list) ⌝ }
     ensures { λ r. ⌜ Traces (taskIn (now (task .entry))) (now (list .entry)) r ⌝ }
@@ -79,13 +80,17 @@ pub fn follow(task: &[u16], list: &[u16]) -> Trace
     while k < list.len() {
         let i = list[k] as usize;
         runs = state::further(&s.newest.values, task, i, runs, k);
-        if runs <= k && !state::applies_in_colours(paint, &s.sets, &s.newest.values, task, i) {
+        if runs <= k && !state::applies_red_black(paint, &s.sets, &s.newest.values, task, i) {
             break;
         }
         k += 1;
         if state::has_effects(&s.sets, task, i) {
+            let sets = s.sets;
             let newest = s.newest;
-            s.newest = newest.step(task, i);
+            s = State {
+                sets,
+                newest: newest.step(task, i),
+            };
             continue;
         }
         s = s.step(task, i);
@@ -97,8 +102,8 @@ pub fn follow(task: &[u16], list: &[u16]) -> Trace
     }
 }
 
-// The red-black verdict, from the state where the run stops.
-fn judge_painted(task: &[u16], list: &[u16], s: State, steps: usize) -> Verdict
+// The red-black verdict, from the values held and the newest ones where the run stops.
+fn judge_red_black(task: &[u16], list: &[u16], s: State, steps: usize) -> Verdict
     requires { ⌜ Ready (now task) (now list) × StopsAs (taskIn (now task)) (now list) (setsOf (s .sets)) (valuesOf (s .newest .values)) steps ⌝ }
     ensures { λ r. ⌜ judgedOf r ≡ judged (taskIn (now (task .entry))) (black (taskIn (now (task .entry)))) (now (list .entry)) ⌝ }
 {
@@ -113,7 +118,7 @@ fn judge_painted(task: &[u16], list: &[u16], s: State, steps: usize) -> Verdict
     let n = g.count;
     Verdict {
         steps: steps as u32,
-        plan: state::all_in_colours(paint, &s.sets, &s.newest.values, &g.facts, 0, n),
+        plan: state::all_hold_red_black(paint, &s.sets, &s.newest.values, &g.facts, 0, n),
     }
 }
 
@@ -143,7 +148,7 @@ fn judge_all(task: &[u16], list: &[u16]) -> Verdicts
 {
     let x = follow(task, list);
     let s = x.state;
-    let red_black = judge_painted(task, list, s, x.steps);
+    let red_black = judge_red_black(task, list, s, x.steps);
     let real = judge_real(task, list, &s.newest.values, x.runs);
     if red_black.plan {
         return Verdicts {

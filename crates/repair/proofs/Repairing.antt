@@ -18,8 +18,8 @@ use Rattle.planning.proofs.Known.{_≈_, known-start, known-run, everAfter-now}
 use Rattle.planning.proofs.Tests.{bool-same}
 use Rattle.planning.proofs.Repair.{repairFrom, repairFrom-nil, repairFrom-cons}
 use Rattle.planning.proofs.Formed.{Formed, sorted-func}
-use Rattle.state.specs.Sets.{setsOf, inColours}
-use Rattle.state.proofs.Colours.{colours-step, colours-initial}
+use Rattle.state.specs.Sets.{setsOf, redBlackOf}
+use Rattle.state.proofs.RedBlack.{redBlack-step, redBlack-initial}
 use Rattle.paths.specs.Paths.{Memo, Put}
 use Rattle.paths.specs.declared.Written.{Written}
 use Rattle.paths.specs.declared.Written.the-variants.{Upto, Long}
@@ -80,7 +80,7 @@ module _ (t : Task) (l : List ℕ) (j : ℕ) (s ever : State) where
 
 -- the red-black state that the code's lists show
 abbrev shown : Task → List ℕ → Values → State
-shown t sets f = inColours (black t) (setsOf sets) f
+shown t sets f = redBlackOf (black t) (setsOf sets) f
 
 pub record Repairing (t : Task) (l₀ plan₀ plan memo sets : List ℕ) (f : Values) (c : Counts) (a j : ℕ) : Type 0 where
   pub held : State
@@ -100,7 +100,7 @@ pub repairing-start : (t : Task) (l₀ plan memo sets : List ℕ) (f : Values) �
     → Repairing t l₀ plan plan memo sets f (record { steps = 0; runs = 0; cost = 0 }) 0 0
 unfolding repaired stages leftOf runBy everAfter
 repairing-start t l₀ plan memo sets f B es ef =
-    let e : shown t sets f ≡ initial t = rw (es, ef) (colours-initial t) in
+    let e : shown t sets f ≡ initial t = rw (es, ef) (redBlack-initial t) in
     record {
       held = initial t;
       within = omega arith;
@@ -150,7 +150,7 @@ module _ {t : Task} {l₀ plan₀ plan memo sets : List ℕ} {f : Values} {c : C
     unfolding runBy everAfter
     repairing-step F memo′ sets′ f′ c′ rows′ es O ef =
         let effects = sorted-func (variables t) (count t) 0 (act t i .eff) (F .eff-sorted i) in
-        let now : shown t sets′ f′ ≡ step (black t) (act t i) (shown t sets f) = rw (es, ef) (colours-step (black t) (act t i) effects (setsOf sets) f) in
+        let now : shown t sets′ f′ ≡ step (black t) (act t i) (shown t sets f) = rw (es, ef) (redBlack-step (black t) (act t i) effects (setsOf sets) f) in
         let held′ = everAfter (act t) (black t) (i ∷ []) (shown t sets f) (G .held) in
         let later = known-run (act t) (black t) (i ∷ []) (shown t sets f) (G .held) (G .below) in
         let same = same-facts (run (act t) relaxed (i ∷ []) (known (black t) (shown t sets f) (G .held))) (known (black t) (run (act t) (black t) (i ∷ []) (shown t sets f)) held′) later in

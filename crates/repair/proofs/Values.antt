@@ -3,21 +3,21 @@ use mathlib.Core.Path.{_≡_, refl, sym, ap, _∙_, fun-ext}
 use mathlib.Core.Bool.{Bool, true, false, not, _&&_, _||_}
 use mathlib.Core.List.{List, [], _∷_}
 use mathlib.Core.Option.{Option, none, some}
-use Prim.Native.Nat.{ℕ, _/_, _%_, _<_, _≤_}
+use Prim.Native.Nat.{ℕ, _<_, _≤_}
 use native.Mathlib.Omega.{arith}
-use borrow.Author.Tests.{eq-eqb, ne-eqb}
+use borrow.Author.Tests.{eq-eqb}
 use lib.Dec.{T, eqb, eqb→eq}
 use lib.ListN.{getD}
 use Rattle.planning.specs.Basics.{first}
 use Rattle.planning.specs.Record.{Fact, Task}
-use Rattle.planning.specs.Runs.{State, Mode, count, black}
+use Rattle.planning.specs.Runs.{State, count, black}
 use Rattle.planning.specs.Newest.{Values, alone}
 use Rattle.planning.specs.Painting.{orZero}
 use Rattle.planning.specs.Repair.{value, blackMet}
 use Rattle.planning.proofs.Below.{First?, first-is}
 use Rattle.planning.proofs.Tests.{T→true}
-use Rattle.state.specs.Sets.{valuesOf, inColours}
-use Rattle.state.proofs.Colours.{colour-black}
+use Rattle.state.specs.Sets.{valuesOf, redBlackOf}
+use Rattle.state.proofs.RedBlack.{redBlack-black}
 use Rattle.repair.specs.Repairs.{Present}
 
 -- the one value of a set
@@ -51,12 +51,12 @@ module _ (t : Task) (ns : List ℕ) (v x : ℕ) (e : x ≡ getD ns v 0) where
 -- the same of the red-black state, for black variables
 module _ (t : Task) (K : State) (f : Values) where
   abbrev shown : State
-  shown = inColours (black t) K f
+  shown = redBlackOf (black t) K f
 
   pub present-shown : (v r : ℕ) → T (black t v) → Present t (alone f) v r → Present t shown v r
   unfolding value
   present-shown v r b p =
-      let e : _≡_ {A = ℕ → Bool} (alone f v) (shown v) = fun-ext (λ d. sym (colour-black (black t) K f v d (T→true (black t v) b))) in
+      let e : _≡_ {A = ℕ → Bool} (alone f v) (shown v) = fun-ext (λ d. sym (redBlack-black (black t) K f v d (T→true (black t v) b))) in
       record { of = p .of; is = p .is ∙ ap (λ (s : ℕ → Bool). orZero (first (count t v) s)) e; below = p .below }
 
   pub met-shown : (w : List Fact) → blackMet (black t) (alone f) w ≡ blackMet (black t) shown w
@@ -65,5 +65,5 @@ module _ (t : Task) (K : State) (f : Values) where
   met-shown (x ∷ w) = rw (met-shown w) (ap (λ (b : Bool). b && blackMet (black t) shown w) (go (black t (x .var)) refl))
     where
       go : (b : Bool) → black t (x .var) ≡ b → (not (black t (x .var)) || alone f (x .var) (x .val)) ≡ (not (black t (x .var)) || shown (x .var) (x .val))
-      go true e = rw (colour-black (black t) K f (x .var) (x .val) e) refl
+      go true e = rw (redBlack-black (black t) K f (x .var) (x .val) e) refl
       go false e = rw e refl

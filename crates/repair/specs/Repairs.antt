@@ -8,7 +8,7 @@ use Rattle.planning.specs.Record.{Fact, Task}
 use Rattle.planning.specs.Runs.{State, variables, count, act, black, goals}
 use Rattle.planning.specs.Repair.{order, fill, value, blackMet}
 use Rattle.task.specs.Task.{taskIn}
-use Rattle.state.specs.Sets.{setsOf, valuesOf, inColours}
+use Rattle.state.specs.Sets.{setsOf, valuesOf, redBlackOf}
 use Rattle.paths.specs.Paths.{pathsOf}
 use Rattle.passes.specs.Passes.{factsOf, Fitting}
 
@@ -50,7 +50,7 @@ stageOf t K s (i ∷ l) = stepsFor t K s i
 
 -- the same by the lists that the code has: the task, the facts held ever, the newest values, from which the state is shown
 abbrev pub shownBy : List ℕ → List ℕ → List ℕ → State
-shownBy task ever newest = inColours (black (taskIn task)) (setsOf ever) (valuesOf newest)
+shownBy task ever newest = redBlackOf (black (taskIn task)) (setsOf ever) (valuesOf newest)
 
 abbrev pub filledIn : List ℕ → List ℕ → List ℕ → List ℕ → List ℕ
 filledIn task ever newest wanted = filled (taskIn task) (setsOf ever) (shownBy task ever newest) (factsOf wanted)

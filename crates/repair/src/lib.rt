@@ -24,7 +24,7 @@ ghost use Rattle.repair.specs.Counting.{Small, Few, Onward, judgedBy};
 ghost use Rattle.repair.specs.Repairs.{Present, Wanted, filledIn, movedIn, stepsIn, lastIn, stageIn};
 
 // A byte as an index.
-fn wide(x: u8) -> usize
+fn byte(x: u8) -> usize
     ensures { λ r. ⌜ r ≡ x ⌝ }
 {
     x as usize
@@ -35,7 +35,7 @@ fn present(task: &[u16], newest: &[u8; 64], v: usize) -> usize
     requires { ⌜ Loaded (now task) × (v < variables (taskIn (now task))) ⌝ }
     ensures { λ r. ⌜ Present (taskIn (now (task .entry))) (alone (valuesOf (now (newest .entry)))) v r ⌝ }
 {
-    let x = wide(newest[v]);
+    let x = byte(newest[v]);
     if x < task::count(task, v) {
         64 * v + x
     } else {
@@ -245,7 +245,7 @@ fn too_long(room: usize) -> Planned
 }
 
 // The repair from the initial state in one pass: where every step placed is taken the next stage is placed behind them, else one
-// step is taken. Where the effects of its action are held only the newest values step.
+// step is taken. Where the effects of its action are held the next state has the same sets.
 fn repair_from(task: &[u16], memo: &mut [u16], list: &[u16], plan: &mut [u16]) -> Planned
     requires { ⌜ Prepared (now task) × Entries (taskIn (now task)) (now list) × Blank (now memo) × (length (now plan) ≤ 32768) ⌝ }
     ensures { λ r. ⌜ Held (taskIn (now (task .entry))) (repaired (taskIn (now (task .entry))) (now (list .entry))) (now (plan .exit)) (length (now (plan .entry))) r ⌝ }
@@ -276,8 +276,12 @@ fn repair_from(task: &[u16], memo: &mut [u16], list: &[u16], plan: &mut [u16]) -
         let i = lists::wide(plan[k]);
         c = counted(task, &s.newest.values, i, c);
         if state::has_effects(&s.sets, task, i) {
+            let sets = s.sets;
             let newest = s.newest;
-            s.newest = newest.step(task, i);
+            s = State {
+                sets,
+                newest: newest.step(task, i),
+            };
             continue;
         }
         passes::refresh(task, &s.sets, memo, i, needs);

@@ -10,8 +10,8 @@ use borrow.Author.Tests.{eq-eqb, ne-eqb}
 use lib.ListN.{length, getD, set, replicate, length-set}
 use lib.Seq.{getD-set-same, getD-set-other}
 use Rattle.planning.specs.Record.{Fact, Action, Variable, Task}
-use Rattle.planning.specs.Runs.{look, act, variable, variables}
-use Rattle.planning.specs.Newest.{Values, newer, initialValues, alone}
+use Rattle.planning.specs.Runs.{look, act, variable}
+use Rattle.planning.specs.Newest.{newer, initialValues, alone}
 use Rattle.planning.proofs.Fields.{variable-past}
 use Rattle.task.specs.Task.{cell, factOf, factsIn, actionIn, taskIn}
 use Rattle.state.specs.Sets.{valuesOf}

@@ -33,8 +33,8 @@ unfoldable pub modeOf : ℕ → Mode
 modeOf m v = inSet m v
 
 -- the red-black state, where the variables of m are black: of these the newest value alone, of the others each value that they have had
-unfoldable pub inColours : Mode → State → Values → State
-inColours m s f v d = elim (m v) [ true ↦ alone f v d | false ↦ s v d ]
+unfoldable pub redBlackOf : Mode → State → Values → State
+redBlackOf m s f v d = elim (m v) [ true ↦ alone f v d | false ↦ s v d ]
 
 -- the goals of the task, in the front of a list
 pub record GoalsOf (t : Task) (g : Goals) : Type 0 where

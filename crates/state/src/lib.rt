@@ -8,7 +8,7 @@ ghost use lib.ListN.{length, getD};
 ghost use Rattle.planning.specs.Runs.{actions, act, holds, look, step, initial, relaxed, black, size};
 ghost use Rattle.planning.specs.Newest.{initialValues, newer, alone};
 ghost use Rattle.task.specs.Task.{factsIn, taskIn, Loaded};
-ghost use Rattle.state.specs.Sets.{inSet, setsOf, valuesOf, modeOf, inColours, further, GoalsOf, Asked};
+ghost use Rattle.state.specs.Sets.{inSet, setsOf, valuesOf, modeOf, redBlackOf, further, GoalsOf, Asked};
 
 // The set of value x alone.
 pub fn single(x: usize) -> u64
@@ -26,7 +26,7 @@ pub fn member(set: u64, x: usize) -> bool
     (set >> x) % 2 == 1
 }
 
-// Fact f is in the state.
+// Fact f is in the sets.
 pub fn holds(sets: &[u64; 64], f: usize) -> bool
     requires { ⌜ f < 4096 ⌝ }
     ensures { λ r. ⌜ r ≡ setsOf (now (sets .entry)) (f / 64) (f % 64) ⌝ }
@@ -34,7 +34,7 @@ pub fn holds(sets: &[u64; 64], f: usize) -> bool
     member(sets[f / 64], f % 64)
 }
 
-// Each fact from place `from` up to `to` is in the state.
+// Each fact from place `from` up to `to` is in the sets.
 pub fn all_hold(sets: &[u64; 64], facts: &[u16], from: usize, to: usize) -> bool
     requires { ⌜ (from ≤ to) × (to ≤ length (now facts)) × ((k : ℕ) → from ≤ k → k < to → getD (now facts) k 0 < 4096) ⌝ }
     ensures { λ r. ⌜ r ≡ holds (setsOf (now (sets .entry))) (factsIn (now (facts .entry)) from to) ⌝ }
@@ -49,7 +49,7 @@ pub fn all_hold(sets: &[u64; 64], facts: &[u16], from: usize, to: usize) -> bool
     true
 }
 
-// Action i applies: each precondition is in the state.
+// Action i applies: each precondition is in the sets.
 pub fn applies(sets: &[u64; 64], task: &[u16], i: usize) -> bool
     requires { ⌜ Loaded (now task) × (i < actions (taskIn (now task))) ⌝ }
     ensures { λ r. ⌜ r ≡ holds (setsOf (now (sets .entry))) (act (taskIn (now (task .entry))) i .pre) ⌝ }
@@ -62,7 +62,7 @@ pub fn applies(sets: &[u64; 64], task: &[u16], i: usize) -> bool
     )
 }
 
-// Each effect of action i is in the state.
+// Each effect of action i is in the sets.
 pub fn has_effects(sets: &[u64; 64], task: &[u16], i: usize) -> bool
     requires { ⌜ Loaded (now task) × (i < actions (taskIn (now task))) ⌝ }
     ensures { λ r. ⌜ r ≡ holds (setsOf (now (sets .entry))) (act (taskIn (now (task .entry))) i .eff) ⌝ }
@@ -100,9 +100,9 @@ pub fn applies_newest(newest: &[u8; 64], task: &[u16], i: usize) -> bool
 }
 
 // Fact f is in the red-black state: the newest value of a variable of the set `paint`, else one that the variable has had.
-fn in_colours<'a>(paint: u64, sets: &'a [u64; 64], newest: &'a [u8; 64], f: usize) -> bool
+fn holds_red_black<'a>(paint: u64, sets: &'a [u64; 64], newest: &'a [u8; 64], f: usize) -> bool
     requires { ⌜ f < 4096 ⌝ }
-    ensures { λ r. ⌜ r ≡ inColours (modeOf paint) (setsOf (now (sets .entry))) (valuesOf (now (newest .entry))) (f / 64) (f % 64) ⌝ }
+    ensures { λ r. ⌜ r ≡ redBlackOf (modeOf paint) (setsOf (now (sets .entry))) (valuesOf (now (newest .entry))) (f / 64) (f % 64) ⌝ }
 {
     if member(paint, f / 64) {
         (f % 64) as u8 == newest[f / 64]
@@ -112,7 +112,7 @@ fn in_colours<'a>(paint: u64, sets: &'a [u64; 64], newest: &'a [u8; 64], f: usiz
 }
 
 // Each fact from place `from` up to `to` is in the red-black state.
-pub fn all_in_colours<'a>(
+pub fn all_hold_red_black<'a>(
     paint: u64,
     sets: &'a [u64; 64],
     newest: &'a [u8; 64],
@@ -121,11 +121,11 @@ pub fn all_in_colours<'a>(
     to: usize,
 ) -> bool
     requires { ⌜ (from ≤ to) × (to ≤ length (now facts)) × ((k : ℕ) → from ≤ k → k < to → getD (now facts) k 0 < 4096) ⌝ }
-    ensures { λ r. ⌜ r ≡ holds (inColours (modeOf paint) (setsOf (now (sets .entry))) (valuesOf (now (newest .entry)))) (factsIn (now (facts .entry)) from to) ⌝ }
+    ensures { λ r. ⌜ r ≡ holds (redBlackOf (modeOf paint) (setsOf (now (sets .entry))) (valuesOf (now (newest .entry)))) (factsIn (now (facts .entry)) from to) ⌝ }
 {
     let mut k = from;
     while k < to {
-        if !in_colours(paint, sets, newest, lists::wide(facts[k])) {
+        if !holds_red_black(paint, sets, newest, lists::wide(facts[k])) {
             return false;
         }
         k += 1;
@@ -134,7 +134,7 @@ pub fn all_in_colours<'a>(
 }
 
 // Action i applies red-black.
-pub fn applies_in_colours<'a>(
+pub fn applies_red_black<'a>(
     paint: u64,
     sets: &'a [u64; 64],
     newest: &'a [u8; 64],
@@ -142,9 +142,9 @@ pub fn applies_in_colours<'a>(
     i: usize,
 ) -> bool
     requires { ⌜ Loaded (now task) × (i < actions (taskIn (now task))) ⌝ }
-    ensures { λ r. ⌜ r ≡ holds (inColours (modeOf paint) (setsOf (now (sets .entry))) (valuesOf (now (newest .entry)))) (act (taskIn (now (task .entry))) i .pre) ⌝ }
+    ensures { λ r. ⌜ r ≡ holds (redBlackOf (modeOf paint) (setsOf (now (sets .entry))) (valuesOf (now (newest .entry)))) (act (taskIn (now (task .entry))) i .pre) ⌝ }
 {
-    all_in_colours(
+    all_hold_red_black(
         paint,
         sets,
         newest,

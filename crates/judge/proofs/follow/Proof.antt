@@ -10,7 +10,7 @@ use borrow.Author.Tests.{not-true, not-false}
 use lib.ListN.{length, getD}
 use Rattle.planning.specs.Runs.{Mode, holds, actions, act, black}
 use Rattle.task.specs.Task.{taskIn}
-use Rattle.state.specs.Sets.{setsOf, valuesOf, modeOf, inColours}
+use Rattle.state.specs.Sets.{setsOf, valuesOf, modeOf, redBlackOf}
 use Rattle.judge.proofs.Tracing.{tracing-few, tracing-stop, tracing-end, applied, Following, following-start, following-turn, following-held, follows-painted, follows-real, follows-relaxed}
 use Rattle.judge.proofs.follow.Statement.{statement}
 use Rattle.judge.proofs.follow.Tie as tie
@@ -38,7 +38,7 @@ turn-of c = c .before .before .before .before
 -- the action applies to the state shown by a painting
 module _ (c : tie.In-loop Inv-loop μ-loop) where
   abbrev seen : Mode → Bool
-  seen m = holds (inColours m (setsOf (c .before .loop .s .sets)) (valuesOf (c .before .loop .s .newest .values))) (act (taskIn (start-of c .args .task .now)) (entry c) .pre)
+  seen m = holds (redBlackOf m (setsOf (c .before .loop .s .sets)) (valuesOf (c .before .loop .s .newest .values))) (act (taskIn (start-of c .args .task .now)) (entry c) .pre)
 
   paints : modeOf (c .before .before .before .painted .result) ≡ black (taskIn (start-of c .args .task .now))
   paints = c .before .before .before .painted .ensures
@@ -73,8 +73,8 @@ further-requires c κs =
     let R = start-of t .pre in
     (R .loaded, below t, omega (arith, R .short, tracing-few _ _ _ _ _ _ (t .before .loop .inv .traced)))
 
-applies-in-colours-requires : tie.Need-applies-in-colours-requires Inv-loop μ-loop
-applies-in-colours-requires c κs = let t = turn-of (c .before .before .before .before) in (start-of t .pre .loaded, below t)
+applies-red-black-requires : tie.Need-applies-red-black-requires Inv-loop μ-loop
+applies-red-black-requires c κs = let t = turn-of (c .before .before .before .before) in (start-of t .pre .loaded, below t)
 
 add-k : tie.Need-add-k Inv-loop μ-loop
 add-k c = search needs
@@ -83,17 +83,17 @@ has-effects-requires : tie.Need-has-effects-requires Inv-loop μ-loop
 has-effects-requires c κs = let t = turn-of (c .before .before .before) in (start-of t .pre .loaded, below t)
 
 step-requires : tie.Need-step-requires Inv-loop μ-loop
-step-requires c κs = let t = turn-of (c .before .before .before .before .before .before) in (start-of t .pre .loaded, below t)
+step-requires c κs = let t = turn-of (c .before .before .before .before .before .before .before) in (start-of t .pre .loaded, below t)
 
 loop-less : tie.Need-loop-less Inv-loop μ-loop
 loop-less c = search needs
 
 loop-again : tie.Need-loop-again Inv-loop μ-loop
 loop-again c =
-    let j = c .before .before .before .before .before .before in
+    let j = c .before .before .before .before .before .before .before in
     let t = turn-of (j .before) in
     following-held _ _ (start-of t .pre .loaded .formed) _ _ _ _ (t .before .loop .inv) (omega arith) _ refl _ _ (j .before .further .ensures) (goes j)
-    (sym (c .before .before .before .has-effects .ensures) ∙ c .before .before .if3 .taken) (c .step .ensures)
+    (sym (c .before .before .before .before .has-effects .ensures) ∙ c .before .before .before .if3 .taken) (c .step .ensures)
 
 step-requires-2 : tie.Need-step-requires-2 Inv-loop μ-loop
 step-requires-2 c κs = let t = turn-of (c .before .before .before .before .before) in (start-of t .pre .loaded, below t)
@@ -118,7 +118,7 @@ returns-2 c =
     let f = c .before .before .before .before .before .before in
     let t = turn-of f in
     let I = t .before .loop .inv in
-    let fails = ap (seen t) (sym (paints t)) ∙ sym (c .before .applies-in-colours .ensures) ∙ not-true _ (c .if2 .taken) in
+    let fails = ap (seen t) (sym (paints t)) ∙ sym (c .before .applies-red-black .ensures) ∙ not-true _ (c .if2 .taken) in
     let e = tracing-stop _ _ (start-of t .pre .loaded .formed) _ _ _ _ (I .traced) (omega arith) _ refl _ (f .further .ensures) (omega arith) fails in
     record { painted = follows-painted _ _ _ _ _ _ I (e .0); run-real = follows-real _ _ _ _ _ _ I (e .0) _ (e .1); relaxed′ = follows-relaxed _ _ _ _ _ _ I (e .0) }
 
@@ -135,7 +135,7 @@ follow-spec =
     shared-slice-read-i
     cast-i
     further-requires
-    applies-in-colours-requires
+    applies-red-black-requires
     add-k
     has-effects-requires
     step-requires

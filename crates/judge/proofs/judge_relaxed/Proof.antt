@@ -9,7 +9,7 @@ use lib.ListN.{length, getD}
 use Rattle.planning.specs.Runs.{act, actions, holds, relaxed}
 use Rattle.task.specs.Task.{taskIn}
 use Rattle.state.specs.Sets.{setsOf}
-use Rattle.state.proofs.Colours.{step-held}
+use Rattle.state.proofs.RedBlack.{step-held}
 use Rattle.judge.proofs.Going.{Going, going-at, going-turn, going-stop, going-end}
 use Rattle.judge.proofs.judge_relaxed.Statement.{statement}
 use Rattle.judge.proofs.judge_relaxed.Tie as tie

@@ -1,5 +1,4 @@
 use borrow.Author.Needs.{needs}
-use mathlib.Core.Path.{refl}
 use Prim.Native.Nat.{_<_, _≤_}
 use native.Mathlib.Omega.{arith}
 use Rattle.planning.specs.Runs.{count}
@@ -14,11 +13,11 @@ near s = omega (arith, s .pre .1, s .pre .0 .formed .variables-max)
 few : (s : tie.Start) → count (taskIn (s .args .task .now)) (s .args .v) ≤ 64
 few s = s .pre .0 .formed .count-max (s .args .v)
 
-element-copy-out-wide : tie.Need-element-copy-out-wide
-element-copy-out-wide c = omega (arith, near (c .before))
+element-copy-out-byte : tie.Need-element-copy-out-byte
+element-copy-out-byte c = omega (arith, near (c .before))
 
-wide-requires : tie.Need-wide-requires
-wide-requires c κs = search needs
+byte-requires : tie.Need-byte-requires
+byte-requires c κs = search needs
 
 count-requires : tie.Need-count-requires
 count-requires c κs = search needs
@@ -38,7 +37,7 @@ returns c =
     let b = c .before .count .ensures in
     record {
       of = omega (arith, b, few s);
-      is = omega (arith, b, few s, newest-value (taskIn (s .args .task .now)) (s .args .newest .now) (s .args .v) _ (c .before .before .wide .ensures) (omega (arith, b)));
+      is = omega (arith, b, few s, newest-value (taskIn (s .args .task .now)) (s .args .newest .now) (s .args .v) _ (c .before .before .byte .ensures) (omega (arith, b)));
       below = omega (arith, b, few s);
     }
 
@@ -48,7 +47,7 @@ returns-2 c =
     let b = c .before .count .ensures in
     record {
       of = omega arith;
-      is = omega (arith, newest-none (taskIn (s .args .task .now)) (s .args .newest .now) (s .args .v) _ (c .before .before .wide .ensures) (omega (arith, b)));
+      is = omega (arith, newest-none (taskIn (s .args .task .now)) (s .args .newest .now) (s .args .v) _ (c .before .before .byte .ensures) (omega (arith, b)));
       below = omega (arith, s .pre .0 .formed .count-min (s .args .v));
     }
 
@@ -56,8 +55,8 @@ pub present-spec : {M : Type 1} → statement M
 present-spec =
     tie.close
     (tie.spec
-    element-copy-out-wide
-    wide-requires
+    element-copy-out-byte
+    byte-requires
     count-requires
     mul-result
     add-result

@@ -2,7 +2,7 @@
 -- those behind it. In the end nothing is left, and the counts are those of the whole repair.
 use borrow.Author.Needs.{needs}
 use mathlib.Core.List.{List}
-use mathlib.Core.Path.{_≡_, sym, ap, _∙_}
+use mathlib.Core.Path.{sym, ap, _∙_}
 use Prim.Native.Nat.{ℕ, _+_, _-_, _*_, _<_}
 use native.Mathlib.Omega.{arith}
 use lib.ListN.{length, take, drop}
@@ -10,7 +10,7 @@ use Rattle.planning.specs.Basics.{refused}
 use Rattle.planning.specs.Runs.{actions}
 use Rattle.task.specs.Task.{taskIn}
 use Rattle.state.specs.Sets.{valuesOf}
-use Rattle.state.proofs.Colours.{step-held}
+use Rattle.state.proofs.RedBlack.{step-held}
 use Rattle.repair.proofs.Repairing.{Repairing, repairing-start, repairing-within, repairing-few, repairing-small, repairing-below, repairing-step}
 use Rattle.repair.proofs.Repairing.{Arranged, repairing-long, repairing-fits, repairing-turn, stages-fewer, steps-fewer, rest-is, rest-entries}
 use Rattle.repair.proofs.Ending.{repairing-held, held-long}
@@ -198,18 +198,18 @@ has-effects-requires : tie.Need-has-effects-requires Inv-loop μ-loop
 has-effects-requires c κs = let w = wide-of (c .before .before) in (start-of (head-of w) .pre .0 .loaded, below w)
 
 step-requires : tie.Need-step-requires Inv-loop μ-loop
-step-requires c κs = let w = wide-of (counted-of (c .before .before)) in (start-of (head-of w) .pre .0 .loaded, below w)
+step-requires c κs = let w = wide-of (counted-of (c .before .before .before)) in (start-of (head-of w) .pre .0 .loaded, below w)
 
 loop-less-2 : tie.Need-loop-less-2 Inv-loop μ-loop
-loop-less-2 c = let k = counted-of (c .before .before .before) in steps-fewer _ _ _ _ (less (wide-of k)) (k .counted .ensures .steps)
+loop-less-2 c = let k = counted-of (c .before .before .before .before) in steps-fewer _ _ _ _ (less (wide-of k)) (k .counted .ensures .steps)
 
 loop-again-2 : tie.Need-loop-again-2 Inv-loop μ-loop
 loop-again-2 c =
-    let e = c .before .before .before in
+    let e = c .before .before .before .before in
     let k = counted-of e in
     let w = wide-of k in
     let h = head-of w in
-    let same = step-held _ _ (sym (e .has-effects .ensures) ∙ c .before .before .if3 .taken) in
+    let same = step-held _ _ (sym (e .has-effects .ensures) ∙ c .before .before .before .if3 .taken) in
     repairing-step (h .loop .inv) (less w) _ (w .wide .ensures) (start-of h .pre .0 .loaded .formed) _ _ _ _ (h .loop .inv .rows) same (k .counted .ensures) (c .step .ensures)
 
 refresh-requires : tie.Need-refresh-requires Inv-loop μ-loop

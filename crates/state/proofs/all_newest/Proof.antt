@@ -1,3 +1,4 @@
+-- Facts before k are newest values, so that the test of all is that of the facts from k on.
 use borrow.Author.Needs.{needs}
 use mathlib.Core.Path.{_≡_, refl, sym, _∙_}
 use Prim.Native.Nat.{_-_, _≤_, _<_}

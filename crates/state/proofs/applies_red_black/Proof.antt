@@ -3,12 +3,11 @@ use native.Mathlib.Omega.{arith}
 use Rattle.planning.specs.Record.{Action}
 use Rattle.planning.specs.Runs.{holds}
 use Rattle.task.specs.Task.{actionIn}
-use Rattle.state.specs.Sets.{setsOf, valuesOf, modeOf, inColours}
-use Rattle.state.proofs.Listed.{Listed}
+use Rattle.state.specs.Sets.{setsOf, valuesOf, modeOf, redBlackOf}
 use Rattle.state.proofs.Listing.{loaded-listed}
 use borrow.Author.Needs.{needs}
-use Rattle.state.proofs.applies_in_colours.Statement.{statement}
-use Rattle.state.proofs.applies_in_colours.Tie as tie
+use Rattle.state.proofs.applies_red_black.Statement.{statement}
+use Rattle.state.proofs.applies_red_black.Tie as tie
 
 pre-start-requires : tie.Need-pre-start-requires
 pre-start-requires c κs = search needs
@@ -16,8 +15,8 @@ pre-start-requires c κs = search needs
 eff-start-requires : tie.Need-eff-start-requires
 eff-start-requires c κs = search needs
 
-all-in-colours-requires : tie.Need-all-in-colours-requires
-all-in-colours-requires c κs =
+all-hold-red-black-requires : tie.Need-all-hold-red-black-requires
+all-hold-red-black-requires c κs =
     let L = loaded-listed _ (c .before .before .before .pre .0) _ (c .before .before .before .pre .1) in
     let from = c .before .pre-start .ensures in
     let to = c .eff-start .ensures in
@@ -28,9 +27,9 @@ unfolding actionIn
 returns c =
     let s = c .before .before .before .before .args in
     let L = loaded-listed _ (c .before .before .before .before .pre .0) _ (c .before .before .before .before .pre .1) in
-    c .all-in-colours .ensures
+    c .all-hold-red-black .ensures
     ∙ rw (c .before .before .pre-start .ensures, c .before .eff-start .ensures)
-    (ap (λ (a : Action). holds (inColours (modeOf (s .paint)) (setsOf (s .sets .now)) (valuesOf (s .newest .now))) (a .pre)) (L .states))
+    (ap (λ (a : Action). holds (redBlackOf (modeOf (s .paint)) (setsOf (s .sets .now)) (valuesOf (s .newest .now))) (a .pre)) (L .states))
 
-pub applies-in-colours-spec : {M : Type 1} → statement M
-applies-in-colours-spec = tie.close (tie.spec pre-start-requires eff-start-requires all-in-colours-requires returns)
+pub applies-red-black-spec : {M : Type 1} → statement M
+applies-red-black-spec = tie.close (tie.spec pre-start-requires eff-start-requires all-hold-red-black-requires returns)

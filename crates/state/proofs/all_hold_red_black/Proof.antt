@@ -1,3 +1,4 @@
+-- Facts before k are in the red-black state, so that the test of all is that of the facts from k on.
 use borrow.Author.Needs.{needs}
 use mathlib.Core.Path.{_≡_, refl, sym, _∙_}
 use mathlib.Core.List.{List}
@@ -6,14 +7,14 @@ use native.Mathlib.Omega.{arith}
 use borrow.Author.Tests.{not-true, not-false}
 use Rattle.planning.specs.Runs.{State, holds}
 use Rattle.task.specs.Task.{factsIn}
-use Rattle.state.specs.Sets.{setsOf, valuesOf, modeOf, inColours}
+use Rattle.state.specs.Sets.{setsOf, valuesOf, modeOf, redBlackOf}
 use Rattle.state.proofs.Effects.{holds-fails, holds-passes, holds-end}
-use Rattle.state.proofs.all_in_colours.Statement.{statement}
-use Rattle.state.proofs.all_in_colours.Tie as tie
+use Rattle.state.proofs.all_hold_red_black.Statement.{statement}
+use Rattle.state.proofs.all_hold_red_black.Tie as tie
 
 -- the red-black state
 abbrev state-of : ℕ → List ℕ → List ℕ → State
-state-of paint sets newest = inColours (modeOf paint) (setsOf sets) (valuesOf newest)
+state-of paint sets newest = redBlackOf (modeOf paint) (setsOf sets) (valuesOf newest)
 
 abbrev Inv-loop : tie.InvT-loop
 Inv-loop paint sets newest facts from to k₀ k =
@@ -37,14 +38,14 @@ wide-requires c κs = search needs
 small : (c : tie.After-wide Inv-loop μ-loop) → c .wide .result < 4096
 small c = omega (arith, c .wide .ensures, c .before .before .before .before .before .pre .2 (c .before .before .before .loop .k) (omega arith) (omega arith))
 
-in-colours-requires : tie.Need-in-colours-requires Inv-loop μ-loop
-in-colours-requires c κs = small c
+holds-red-black-requires : tie.Need-holds-red-black-requires Inv-loop μ-loop
+holds-red-black-requires c κs = small c
 
 returns : tie.Need-returns Inv-loop μ-loop
 returns c =
     let a = c .before .before .before .before .before .before .before .args in sym
     (c .before .before .before .before .before .loop .inv .2 ∙ holds-fails (a .facts .now) (c .before .before .before .before .before .loop .k) (a .to)
-    (omega arith) (omega arith) (state-of (a .paint) (a .sets .now) (a .newest .now)) _ (c .before .before .wide .ensures) (sym (c .before .in-colours .ensures) ∙ not-true _ (c .if1 .taken)))
+    (omega arith) (omega arith) (state-of (a .paint) (a .sets .now) (a .newest .now)) _ (c .before .before .wide .ensures) (sym (c .before .holds-red-black .ensures) ∙ not-true _ (c .if1 .taken)))
 
 add-k : tie.Need-add-k Inv-loop μ-loop
 add-k c = search needs
@@ -59,7 +60,7 @@ loop-again c =
       search needs,
       c .before .before .before .before .before .loop .inv .2 ∙ holds-passes (a .facts .now)
           (c .before .before .before .before .before .loop .k) (a .to) (omega arith) (omega arith) (state-of (a .paint) (a .sets .now) (a .newest .now)) _ (c .before .before .wide .ensures)
-          (sym (c .before .in-colours .ensures) ∙ not-false _ (c .if1 .left)),
+          (sym (c .before .holds-red-black .ensures) ∙ not-false _ (c .if1 .left)),
     )
 
 returns-2 : tie.Need-returns-2 Inv-loop μ-loop
@@ -68,8 +69,8 @@ returns-2 c =
     let a = c .before .before .before .args in
     sym (l .inv .2 ∙ holds-end (state-of (a .paint) (a .sets .now) (a .newest .now)) (a .facts .now) (l .k) (a .to) (omega arith))
 
-pub all-in-colours-spec : {M : Type 1} → statement M
-all-in-colours-spec =
+pub all-hold-red-black-spec : {M : Type 1} → statement M
+all-hold-red-black-spec =
     tie.close
     (tie.spec
     Inv-loop
@@ -78,7 +79,7 @@ all-in-colours-spec =
     mul-wide
     shared-slice-read-wide
     wide-requires
-    in-colours-requires
+    holds-red-black-requires
     returns
     add-k
     loop-less

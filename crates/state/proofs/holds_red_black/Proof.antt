@@ -2,9 +2,9 @@ use borrow.Author.Needs.{needs}
 use mathlib.Core.Path.{sym, _∙_}
 use Rattle.planning.specs.Newest.{alone}
 use Rattle.state.specs.Sets.{modeOf, valuesOf}
-use Rattle.state.proofs.Colours.{colour-black, colour-red}
-use Rattle.state.proofs.in_colours.Statement.{statement}
-use Rattle.state.proofs.in_colours.Tie as tie
+use Rattle.state.proofs.RedBlack.{redBlack-black, redBlack-red}
+use Rattle.state.proofs.holds_red_black.Statement.{statement}
+use Rattle.state.proofs.holds_red_black.Tie as tie
 
 member-requires : tie.Need-member-requires
 member-requires c κs = search needs
@@ -20,13 +20,13 @@ holds-requires c κs = search needs
 
 returns : tie.Need-returns
 unfolding modeOf alone valuesOf
-returns c = sym (colour-black _ _ _ _ _ (sym (c .before .before .member .ensures) ∙ c .before .if1 .taken))
+returns c = sym (redBlack-black _ _ _ _ _ (sym (c .before .before .member .ensures) ∙ c .before .if1 .taken))
 
 returns-2 : tie.Need-returns-2
 unfolding modeOf
-returns-2 c = c .holds .ensures ∙ sym (colour-red _ _ _ _ _ (sym (c .before .before .member .ensures) ∙ c .before .if1 .left))
+returns-2 c = c .holds .ensures ∙ sym (redBlack-red _ _ _ _ _ (sym (c .before .before .member .ensures) ∙ c .before .if1 .left))
 
-pub in-colours-spec : {M : Type 1} → statement M
-in-colours-spec =
+pub holds-red-black-spec : {M : Type 1} → statement M
+holds-red-black-spec =
     tie.close
     (tie.spec member-requires cast-result element-copy-out-result holds-requires returns returns-2)

@@ -1,9 +1,8 @@
 -- The red-black state, read off the values held and the newest ones: a step of both is its step. An action whose effects are held adds
 -- nothing to the values held.
-use mathlib.Core.Path.{_≡_, refl, sym, ap, _∙_, fun-ext}
+use mathlib.Core.Path.{_≡_, refl, sym, _∙_, fun-ext}
 use mathlib.Core.Logic.{inl, inr}
-use mathlib.Core.Bool.{Bool, true, false, not, _&&_, _||_, and-false, and-true, or-false}
-use mathlib.Core.List.{List}
+use mathlib.Core.Bool.{Bool, true, false, not, _&&_, _||_, and-false, and-true}
 use mathlib.Core.Option.{Option, none, some}
 use Prim.Native.Nat.{ℕ, _<_}
 use native.Mathlib.Omega.{arith}
@@ -14,20 +13,20 @@ use Rattle.planning.specs.Record.{Action, Task}
 use Rattle.planning.specs.Runs.{State, Mode, has, look, touches, holds, step, variables, variable, black, relaxed, initial}
 use Rattle.planning.specs.Newest.{Values, newer, initialValues, alone}
 use Rattle.planning.proofs.Tests.{T→true, F→false, true→T, bool-same}
-use Rattle.planning.proofs.Facts.{Func, has→touches, touches→has, look-none, look-some, look-is, holds→sub}
+use Rattle.planning.proofs.Facts.{Func, has→touches, touches→has, look-none, look-some, holds→sub}
 use Rattle.planning.proofs.Steps.{step-keep, step-cases}
 use Rattle.planning.proofs.Newest.{newer-none, newer-some}
-use Rattle.state.specs.Sets.{inColours}
+use Rattle.state.specs.Sets.{redBlackOf}
 use Rattle.state.proofs.Loading.{black-past}
 
 module _ (m : Mode) (s : State) (f : Values) (v d : ℕ) where
-  pub colour-black : m v ≡ true → inColours m s f v d ≡ alone f v d
-  unfolding inColours
-  colour-black e = rw (inColours, e) refl
+  pub redBlack-black : m v ≡ true → redBlackOf m s f v d ≡ alone f v d
+  unfolding redBlackOf
+  redBlack-black e = rw (redBlackOf, e) refl
 
-  pub colour-red : m v ≡ false → inColours m s f v d ≡ s v d
-  unfolding inColours
-  colour-red e = rw (inColours, e) refl
+  pub redBlack-red : m v ≡ false → redBlackOf m s f v d ≡ s v d
+  unfolding redBlackOf
+  redBlack-red e = rw (redBlackOf, e) refl
 
 -- of a variable that acts as black the step leaves the newest value alone
 alone-step : (a : Action) → Func (a .eff) → (f : Values) (v d : ℕ) → alone (newer a f) v d ≡ (has (a .eff) v d || (alone f v d && not (touches (a .eff) v)))
@@ -52,25 +51,25 @@ alone-step a F f v d = go (look (a .eff) v) refl
             let h : has (a .eff) v d ≡ false = F→false (has (a .eff) v d) (λ y. q (F v d x y (look-some (a .eff) v x e))) in
             rw (newer-some a f v x e, h, t, ne-eqb d x q, and-false (eqb d (f v))) refl
 
-pub colours-step : (m : Mode) (a : Action) → Func (a .eff) → (s : State) (f : Values) → inColours m (step relaxed a s) (newer a f) ≡ step m a (inColours m s f)
+pub redBlack-step : (m : Mode) (a : Action) → Func (a .eff) → (s : State) (f : Values) → redBlackOf m (step relaxed a s) (newer a f) ≡ step m a (redBlackOf m s f)
 unfolding step
-colours-step m a F s f = fun-ext (λ v. fun-ext (λ d. go v d (m v) refl))
+redBlack-step m a F s f = fun-ext (λ v. fun-ext (λ d. go v d (m v) refl))
   where
-    go : (v d : ℕ) (b : Bool) → m v ≡ b → inColours m (step relaxed a s) (newer a f) v d ≡ (has (a .eff) v d || (inColours m s f v d && not (m v && touches (a .eff) v)))
-    go v d true e = colour-black m (step relaxed a s) (newer a f) v d e ∙ alone-step a F f v d ∙ sym (rw (colour-black m s f v d e, e) refl)
-    go v d false e = colour-red m (step relaxed a s) (newer a f) v d e ∙ sym (rw (colour-red m s f v d e, e) refl)
+    go : (v d : ℕ) (b : Bool) → m v ≡ b → redBlackOf m (step relaxed a s) (newer a f) v d ≡ (has (a .eff) v d || (redBlackOf m s f v d && not (m v && touches (a .eff) v)))
+    go v d true e = redBlack-black m (step relaxed a s) (newer a f) v d e ∙ alone-step a F f v d ∙ sym (rw (redBlack-black m s f v d e, e) refl)
+    go v d false e = redBlack-red m (step relaxed a s) (newer a f) v d e ∙ sym (rw (redBlack-red m s f v d e, e) refl)
 
-pub colours-initial : (t : Task) → inColours (black t) (initial t) (initialValues t) ≡ initial t
+pub redBlack-initial : (t : Task) → redBlackOf (black t) (initial t) (initialValues t) ≡ initial t
 unfolding initial initialValues alone
-colours-initial t = fun-ext (λ v. fun-ext (λ d. go v d (black t v) refl))
+redBlack-initial t = fun-ext (λ v. fun-ext (λ d. go v d (black t v) refl))
   where
     below : (v : ℕ) → black t v ≡ true → Dec (v < variables t) → ltb v (variables t) ≡ true
     below v e (yes h) = lt-ltb v (variables t) h
     below v e (no h) = absurd (rw (black-past t v (omega arith)) at (true→T (black t v) e))
 
-    go : (v d : ℕ) (b : Bool) → black t v ≡ b → inColours (black t) (initial t) (initialValues t) v d ≡ (ltb v (variables t) && eqb d (variable t v .init))
-    go v d true e = colour-black (black t) (initial t) (initialValues t) v d e ∙ rw (below v e (decLt v (variables t))) refl
-    go v d false e = colour-red (black t) (initial t) (initialValues t) v d e
+    go : (v d : ℕ) (b : Bool) → black t v ≡ b → redBlackOf (black t) (initial t) (initialValues t) v d ≡ (ltb v (variables t) && eqb d (variable t v .init))
+    go v d true e = redBlack-black (black t) (initial t) (initialValues t) v d e ∙ rw (below v e (decLt v (variables t))) refl
+    go v d false e = redBlack-red (black t) (initial t) (initialValues t) v d e
 
 -- an action whose effects are held adds nothing
 pub step-held : (a : Action) (K : State) → holds K (a .eff) ≡ true → K ≡ step relaxed a K

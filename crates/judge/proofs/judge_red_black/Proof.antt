@@ -3,8 +3,8 @@ use mathlib.Core.Path.{_≡_, ap, _∙_}
 use native.Mathlib.Omega.{arith}
 use Rattle.planning.specs.Runs.{holds}
 use Rattle.judge.proofs.Tracing.{painted-short, painted-whole, stops-few}
-use Rattle.judge.proofs.judge_painted.Statement.{statement}
-use Rattle.judge.proofs.judge_painted.Tie as tie
+use Rattle.judge.proofs.judge_red_black.Statement.{statement}
+use Rattle.judge.proofs.judge_red_black.Tie as tie
 
 cast-t11 : tie.Need-cast-t11
 cast-t11 c = search needs
@@ -21,15 +21,15 @@ load-requires c κs = search needs
 cast-t13 : tie.Need-cast-t13
 cast-t13 c = let P = c .before .before .before .before .before .pre in omega (arith, stops-few _ _ _ _ _ (P .1), P .0 .short)
 
-all-in-colours-requires : tie.Need-all-in-colours-requires
-all-in-colours-requires c κs = let G = c .before .before .before .before .before .before .load .ensures in (omega arith, omega (arith, G .few), λ k a b. G .small k (omega arith))
+all-hold-red-black-requires : tie.Need-all-hold-red-black-requires
+all-hold-red-black-requires c κs = let G = c .before .before .before .before .before .before .load .ensures in (omega arith, omega (arith, G .few), λ k a b. G .small k (omega arith))
 
 returns-2 : tie.Need-returns-2
 returns-2 c =
     let l = c .before .before .before .before .before .before .before in
     let P = l .before .before .before .before .before .pre in
     painted-whole _ (P .0 .loaded .formed) _ (P .0 .entries) _ _ _ (P .1) (omega arith) _
-    (c .all-in-colours .ensures ∙ rw (l .before .painted .ensures) (ap (holds _) (l .load .ensures .are)))
+    (c .all-hold-red-black .ensures ∙ rw (l .before .painted .ensures) (ap (holds _) (l .load .ensures .are)))
 
-pub judge-painted-spec : {M : Type 1} → statement M
-judge-painted-spec = tie.close (tie.spec cast-t11 returns painted-requires load-requires cast-t13 all-in-colours-requires returns-2)
+pub judge-red-black-spec : {M : Type 1} → statement M
+judge-red-black-spec = tie.close (tie.spec cast-t11 returns painted-requires load-requires cast-t13 all-hold-red-black-requires returns-2)
