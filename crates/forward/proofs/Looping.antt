@@ -22,10 +22,19 @@ use Rattle.state.specs.declared.Goals.{Goals}
 use Rattle.state.specs.Sets.{setsOf, GoalsOf}
 use Rattle.forward.specs.declared.Ran.{Ran}
 use Rattle.forward.specs.Waiting.{reaches, member, Passing, Unmet, Lowest, Without, Noted, Settled}
-use Rattle.forward.specs.Running.{RanOf, Looping}
+use Rattle.forward.specs.Running.{RanOf}
 use Rattle.forward.proofs.Places.{passing-more}
 use Rattle.forward.proofs.Chains.{tally-fewer, passing-up, sites-none, sites-first, sites-leave}
-use Rattle.forward.proofs.Running.{going-start, going-on, going-take, going-drop, ended-met, ended-none, goals-met, goals-open}
+use Rattle.forward.proofs.Running.{Going, going-start, going-on, going-take, going-drop, ended-met, ended-none, goals-met, goals-open}
+
+-- what holds before each turn: the goals before place k are reached, and each action is where it belongs
+pub record Looping (task : List ℕ) (g : Goals) (first plan sets work ready : List ℕ) (n k : ℕ) : Type 0 where
+  pub loaded : Loaded task
+  pub goals-are : GoalsOf (taskIn task) g
+  pub room : g .count ≤ length (g .facts)
+  pub met : Passing (setsOf sets) (g .facts) 0 (g .count) k
+  pub going : Going (taskIn task) plan first (setsOf sets) n
+  pub settled : Settled task (setsOf sets) (has []) work ready
 
 -- What falls with each turn: actions whose effects are not all reached, then ready actions.
 unfoldable pub left : List ℕ → List ℕ → List ℕ → ℕ

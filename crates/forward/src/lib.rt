@@ -16,7 +16,7 @@ ghost use Rattle.planning.specs.Calls.{forwardCall, forwardList};
 ghost use Rattle.task.specs.Task.{factsIn, taskIn, Loaded};
 ghost use Rattle.state.specs.Sets.{setsOf};
 ghost use Rattle.forward.specs.Waiting.{Unmet, member, LowestIn, Lowest, With, Without, hung, placeAt, Looked, Settles, Sites, Settled, Notes};
-ghost use Rattle.forward.specs.Running.{RanOf, Looping};
+ghost use Rattle.forward.specs.Running.{RanOf};
 ghost use Rattle.forward.specs.Answers.{foundOf, forwardOf, forwardIn};
 
 // The first place from `from` up to `to` whose fact is not in the state; `to` if each is.
@@ -185,21 +185,18 @@ pub struct Ran {
     pub state: State,
 }
 
-// The loop of the forward run, from where each action is settled.
-fn run_on(
-    task: &[u16],
-    goals: Goals,
-    start: State,
-    work: &mut [u16; ALL],
-    ready: &mut [u64; 16],
-    first: &mut [u16; 4096],
-    plan: &mut [u16; 1024],
-) -> Ran
-    requires { ⌜ Looping (now task) goals (now first) (now plan) (start .sets) (now work) (now ready) 0 0 ⌝ }
+// The forward run of a loaded task: the actions in the front of `plan`, and the first achiever of each fact, where `first` holds
+// 65,535 before.
+pub fn run_forward(task: &[u16], first: &mut [u16; 4096], plan: &mut [u16; 1024]) -> Ran
+    requires { ⌜ Loaded (now task) × (now first ≡ replicate 4096 65535) × (length (now plan) ≡ 1024) ⌝ }
     ensures { λ r. ⌜ RanOf (taskIn (now (task .entry))) (now (plan .exit)) (now (first .exit)) r ⌝ }
 {
+    let goals = Goals::load(task);
     let count = goals.count;
-    let mut s = start;
+    let mut s = State::initial(task);
+    let mut work = [65535u16; ALL];
+    let mut ready = [0u64; 16];
+    settle_each(&s.sets, task, &mut work, &mut ready);
     let mut steps: usize = 0;
     let mut g: usize = 0;
     loop {
@@ -211,7 +208,7 @@ fn run_on(
                 state: s,
             };
         }
-        let i = lowest(ready);
+        let i = lowest(&ready);
         if 1024 <= i {
             return Ran {
                 steps,
@@ -219,28 +216,14 @@ fn run_on(
                 state: s,
             };
         }
-        unmark(ready, i);
+        unmark(&mut ready, i);
         if note(&s.sets, task, i, first) {
             plan[steps] = i as u16;
             steps += 1;
             s = s.step(task, i);
-            wake(&s.sets, task, work, ready, i);
+            wake(&s.sets, task, &mut work, &mut ready, i);
         }
     }
-}
-
-// The forward run of a loaded task: the actions in the front of `plan`, and the first achiever of each fact, where `first` holds
-// 65,535 before.
-pub fn run_forward(task: &[u16], first: &mut [u16; 4096], plan: &mut [u16; 1024]) -> Ran
-    requires { ⌜ Loaded (now task) × (now first ≡ replicate 4096 65535) × (length (now plan) ≡ 1024) ⌝ }
-    ensures { λ r. ⌜ RanOf (taskIn (now (task .entry))) (now (plan .exit)) (now (first .exit)) r ⌝ }
-{
-    let goals = Goals::load(task);
-    let start = State::initial(task);
-    let mut work = [65535u16; ALL];
-    let mut ready = [0u64; 16];
-    settle_each(&start.sets, task, &mut work, &mut ready);
-    run_on(task, goals, start, &mut work, &mut ready, first, plan)
 }
 
 // What the forward run answers.
