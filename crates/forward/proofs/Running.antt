@@ -24,7 +24,7 @@ use Rattle.task.specs.Task.{factsIn}
 use Rattle.forward.specs.Waiting.{reaches, Each, Passing, Noted}
 use Rattle.state.specs.Sets.{setsOf}
 use Rattle.forward.specs.declared.Ran.{Ran}
-use Rattle.forward.specs.Running.{achiever, Achieved, RanOf, Going}
+use Rattle.forward.specs.Running.{achiever, Achieved, RanOf}
 use Rattle.forward.proofs.Places.{holds-each, each-holds}
 use Rattle.forward.proofs.Chains.{Distinct, distinct-length}
 
@@ -135,7 +135,17 @@ module _ (t : Task) (l : List ℕ) (i : ℕ) (s : State) (e : s ≡ run (act t) 
       sub : has (act t i .eff) ⊆ s
       sub = holds→sub s (act t i .eff) h
 
--- the loop
+-- the loop: n actions are taken, and the state is s; k more actions are enough
+pub record Going (t : Task) (plan first : List ℕ) (s : State) (n : ℕ) : Type 0 where
+  pub k : ℕ
+  pub fuel : total (variables t) (count t) ≤ size (variables t) (count t) s + k
+  pub long : length plan ≡ 1024
+  pub first-long : length first ≡ 4096
+  pub within : n ≤ 1024
+  pub so-far : forwardRun t ≡ take n plan ++ forward (act t) (actions t) (goals t) k s
+  pub state : s ≡ run (act t) relaxed (take n plan) (initial t)
+  pub achieved : Achieved t (take n plan) first
+
 module _ {t : Task} (F : Formed t) where
   eff-ranged : (i v e : ℕ) → i < actions t → T (has (act t i .eff) v e) → (v < variables t) × (e < count t v)
   eff-ranged i v e b h = let I = sorted-has (variables t) (count t) 0 (act t i .eff) (F .eff-sorted i) v e h in (I .var-below, I .val-below)

@@ -7,21 +7,21 @@ use state::State;
 ghost use mathlib.Core.Path.{_≡_};
 ghost use mathlib.Core.List.{[]};
 ghost use mathlib.Core.Option.{none};
-ghost use Prim.Native.Nat.{ℕ, _<_, _≤_};
-ghost use lib.ListN.{length, getD, replicate};
+ghost use Prim.Native.Nat.{_<_, _≤_};
+ghost use lib.ListN.{length, replicate};
 ghost use lib.Dec.{T};
 ghost use Rattle.planning.specs.Record.{recordCheck};
 ghost use Rattle.planning.specs.Runs.{has, actions, act};
 ghost use Rattle.planning.specs.Calls.{forwardCall, forwardList};
 ghost use Rattle.task.specs.Task.{factsIn, taskIn, Loaded};
 ghost use Rattle.state.specs.Sets.{setsOf};
-ghost use Rattle.forward.specs.Waiting.{Unmet, member, LowestIn, Lowest, With, Without, hung, placeAt, Looked, Settles, Sites, Settled, Notes};
-ghost use Rattle.forward.specs.Running.{RanOf, Looping};
+ghost use Rattle.forward.specs.Waiting.{Facts, Unmet, member, LowestIn, Lowest, With, Without, hung, placeAt, Looked, Settles, Sites, Settled, Notes};
+ghost use Rattle.forward.specs.Running.{RanOf};
 ghost use Rattle.forward.specs.Answers.{foundOf, forwardOf, forwardIn};
 
 // The first place from `from` up to `to` whose fact is not in the state; `to` if each is.
 fn unmet(sets: &[u64; 64], facts: &[u16], from: usize, to: usize) -> usize
-    requires { ⌜ (from ≤ to) × (to ≤ length (now facts)) × ((k : ℕ) → from ≤ k → k < to → getD (now facts) k 0 < 4096) ⌝ }
+    requires { ⌜ Facts (now facts) from to ⌝ }
     ensures { λ r. ⌜ Unmet (setsOf (now (sets .entry))) (now (facts .entry)) from to r ⌝ }
 {
     let mut k = from;
@@ -129,13 +129,20 @@ fn settle_all(
     }
 }
 
-// The effects of action i are reached: their chains are taken off, and the actions on them settled.
-fn wake(sets: &[u64; 64], task: &[u16], work: &mut [u16; ALL], ready: &mut [u64; 16], i: usize)
-    requires { ⌜ Loaded (now task) × (i < actions (taskIn (now task))) × Settled (now task) (setsOf (now sets)) (has (act (taskIn (now task)) i .eff)) (now work) (now ready) ⌝ }
+// The facts of the task from place `from` up to `to` are reached: their chains are taken off, and the actions on them settled.
+fn wake(
+    sets: &[u64; 64],
+    task: &[u16],
+    work: &mut [u16; ALL],
+    ready: &mut [u64; 16],
+    from: usize,
+    to: usize,
+)
+    requires { ⌜ Loaded (now task) × Facts (now task) from to × Settled (now task) (setsOf (now sets)) (has (factsIn (now task) from to)) (now work) (now ready) ⌝ }
     ensures { λ _. ⌜ Settled (now (task .entry)) (setsOf (now (sets .entry))) (has []) (now (work .exit)) (now (ready .exit)) ⌝ }
+    ensures { λ _. ⌜ (to ≤ from → now (ready .exit) ≡ now (ready .entry)) ⌝ }
 {
-    let to = task::eff_end(task, i);
-    let mut k = task::eff_start(task, i);
+    let mut k = from;
     while k < to {
         let f = lists::wide(task[k]);
         let h = work[f];
@@ -185,50 +192,6 @@ pub struct Ran {
     pub state: State,
 }
 
-// The loop of the forward run, from where each action is settled.
-fn run_on(
-    task: &[u16],
-    goals: Goals,
-    start: State,
-    work: &mut [u16; ALL],
-    ready: &mut [u64; 16],
-    first: &mut [u16; 4096],
-    plan: &mut [u16; 1024],
-) -> Ran
-    requires { ⌜ Looping (now task) goals (now first) (now plan) (start .sets) (now work) (now ready) 0 0 ⌝ }
-    ensures { λ r. ⌜ RanOf (taskIn (now (task .entry))) (now (plan .exit)) (now (first .exit)) r ⌝ }
-{
-    let count = goals.count;
-    let mut s = start;
-    let mut steps: usize = 0;
-    let mut g: usize = 0;
-    loop {
-        g = unmet(&s.sets, &goals.facts, g, count);
-        if g == count {
-            return Ran {
-                steps,
-                solved: true,
-                state: s,
-            };
-        }
-        let i = lowest(ready);
-        if 1024 <= i {
-            return Ran {
-                steps,
-                solved: false,
-                state: s,
-            };
-        }
-        unmark(ready, i);
-        if note(&s.sets, task, i, first) {
-            plan[steps] = i as u16;
-            steps += 1;
-            s = s.step(task, i);
-            wake(&s.sets, task, work, ready, i);
-        }
-    }
-}
-
 // The forward run of a loaded task: the actions in the front of `plan`, and the first achiever of each fact, where `first` holds
 // 65,535 before.
 pub fn run_forward(task: &[u16], first: &mut [u16; 4096], plan: &mut [u16; 1024]) -> Ran
@@ -236,11 +199,37 @@ pub fn run_forward(task: &[u16], first: &mut [u16; 4096], plan: &mut [u16; 1024]
     ensures { λ r. ⌜ RanOf (taskIn (now (task .entry))) (now (plan .exit)) (now (first .exit)) r ⌝ }
 {
     let goals = Goals::load(task);
-    let start = State::initial(task);
+    let count = goals.count;
+    let mut s = State::initial(task);
     let mut work = [65535u16; ALL];
     let mut ready = [0u64; 16];
-    settle_each(&start.sets, task, &mut work, &mut ready);
-    run_on(task, goals, start, &mut work, &mut ready, first, plan)
+    settle_each(&s.sets, task, &mut work, &mut ready);
+    let mut steps: usize = 0;
+    let mut g: usize = 0;
+    // The effects of the action taken last wake in the turn after it: a step that ends a turn copies the state twice, any other three times.
+    let mut from: usize = 0;
+    let mut to: usize = 0;
+    loop {
+        wake(&s.sets, task, &mut work, &mut ready, from, to);
+        from = to;
+        g = unmet(&s.sets, &goals.facts, g, count);
+        let i = lowest(&ready);
+        if g == count || 1024 <= i {
+            return Ran {
+                steps,
+                solved: g == count,
+                state: s,
+            };
+        }
+        unmark(&mut ready, i);
+        if note(&s.sets, task, i, first) {
+            plan[steps] = i as u16;
+            steps += 1;
+            from = task::eff_start(task, i);
+            to = task::eff_end(task, i);
+            s = s.step(task, i);
+        }
+    }
 }
 
 // What the forward run answers.

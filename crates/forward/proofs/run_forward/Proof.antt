@@ -1,28 +1,222 @@
 use borrow.Author.Needs.{needs}
-use Rattle.forward.proofs.Looping.{looping-start}
+use mathlib.Core.Path.{_≡_, refl, sym, _∙_}
+use mathlib.Core.Logic.{inl, inr}
+use mathlib.Core.Bool.{true, false}
+use Prim.Native.Nat.{_<_}
+use native.Mathlib.Omega.{arith}
+use borrow.Author.Tests.{not-true, not-false, eq-eqb, ne-eqb, leb-true, leb-false}
+use Rattle.planning.specs.Runs.{act, holds, actions}
+use Rattle.task.specs.Task.{taskIn}
+use Rattle.state.specs.Sets.{setsOf}
+use Rattle.forward.proofs.Looping.{Looping, left, looping-start, looping-goals, looping-solved, looping-none, chosen-below, looping-drop, drop-less, take-room, looping-take, take-less}
 use Rattle.forward.proofs.run_forward.Statement.{statement}
 use Rattle.forward.proofs.run_forward.Tie as tie
 
-load-requires : tie.Need-load-requires
+-- In each turn the effects of the action taken last wake what waits for them, and the lowest ready action leaves the ready ones. If it
+-- adds a fact it is the definition's next action: it is taken, and the state grows. If not, it never will add one. Either way less is left.
+abbrev Inv-loop : tie.InvT-loop
+Inv-loop task first₀ plan₀ goals count s₀ work₀ ready₀ steps₀ g₀ from₀ to₀ first plan s work ready steps g from to =
+    Looping task goals first plan (s .sets) work ready steps g from to
+
+abbrev μ-loop : tie.MeasureT-loop
+μ-loop task first₀ plan₀ goals count s₀ work₀ ready₀ steps₀ g₀ from₀ to₀ first plan s work ready steps g from to = left task (s .sets) ready from to
+
+-- the points of the code, from the last to the first
+abbrev settle-each-to-initial : tie.After-settle-each Inv-loop μ-loop → tie.After-initial Inv-loop μ-loop
+settle-each-to-initial c = c .before .before .before .before .before
+
+abbrev start : tie.At-loop Inv-loop μ-loop → tie.Start Inv-loop μ-loop
+start c = settle-each-to-initial (c .before) .before .before .before
+
+abbrev wake-to-head : tie.After-wake Inv-loop μ-loop → tie.At-loop Inv-loop μ-loop
+wake-to-head c = c .before .before .before .before .before
+
+abbrev unmet-to-wake : tie.After-unmet Inv-loop μ-loop → tie.After-wake Inv-loop μ-loop
+unmet-to-wake c = c .before .before .before .before .before .before
+
+abbrev lowest-to-unmet : tie.After-lowest Inv-loop μ-loop → tie.After-unmet Inv-loop μ-loop
+lowest-to-unmet c = c .before .before
+
+abbrev unmark-to-lowest : tie.After-unmark Inv-loop μ-loop → tie.After-lowest Inv-loop μ-loop
+unmark-to-lowest c = c .before .before .before .before
+
+abbrev note-to-unmark : tie.After-note Inv-loop μ-loop → tie.After-unmark Inv-loop μ-loop
+note-to-unmark c = c .before .before .before .before
+
+abbrev unmark-to-head : tie.After-unmark Inv-loop μ-loop → tie.At-loop Inv-loop μ-loop
+unmark-to-head c = wake-to-head (unmet-to-wake (lowest-to-unmet (unmark-to-lowest c)))
+
+abbrev step-to-note : tie.After-step Inv-loop μ-loop → tie.After-note Inv-loop μ-loop
+step-to-note c = c .before .before .before .before
+
+load-requires : tie.Need-load-requires Inv-loop μ-loop
 load-requires c κs = search needs
 
-initial-requires : tie.Need-initial-requires
+initial-requires : tie.Need-initial-requires Inv-loop μ-loop
 initial-requires c κs = search needs
 
-settle-each-requires : tie.Need-settle-each-requires
+settle-each-requires : tie.Need-settle-each-requires Inv-loop μ-loop
 settle-each-requires c κs = search needs
 
-run-on-requires : tie.Need-run-on-requires
-run-on-requires c κs =
-    let at-settle-each = c .before .before .before .before in
-    let at-initial = at-settle-each .before .before .before .before .before in
+loop-holds : tie.Need-loop-holds Inv-loop μ-loop
+loop-holds c =
+    let at-initial = settle-each-to-initial c in
     let p = at-initial .before .before .before .pre in
-    looping-start (p .0) (at-initial .before .load .ensures) (search needs) (p .1) (p .2) (at-initial .initial .ensures .0) (at-settle-each .settle-each .ensures)
+    looping-start (p .0) (at-initial .before .load .ensures) (search needs) (p .1) (p .2) (at-initial .initial .ensures .0) (c .settle-each .ensures)
 
-returns : tie.Need-returns
-returns c = search needs
+wake-requires : tie.Need-wake-requires Inv-loop μ-loop
+wake-requires c κs =
+    let I = c .before .before .before .before .loop .inv in
+    (I .loaded, I .facts, I .settled)
+
+unmet-requires : tie.Need-unmet-requires Inv-loop μ-loop
+unmet-requires c κs = looping-goals (wake-to-head (c .before .before .before .before .before) .loop .inv)
+
+lowest-requires : tie.Need-lowest-requires Inv-loop μ-loop
+lowest-requires c κs = tt
+
+returns : tie.Need-returns Inv-loop μ-loop
+returns c =
+    let at-lowest = c .before in
+    let at-unmet = lowest-to-unmet at-lowest in
+    let at-wake = unmet-to-wake at-unmet in
+    let I = wake-to-head at-wake .loop .inv in
+    let S = at-wake .wake .ensures .0 in
+    let U = at-unmet .unmet .ensures in
+    elim (c .if1 .came) [
+      | inl met ↦ looping-solved I S U (met .taken) _ refl (eq-eqb _ _ (met .taken)) refl
+      | inr none ↦ looping-none I S U (none .0 .left) (at-lowest .lowest .ensures) (leb-true 1024 _ (none .1 .taken)) _ refl (ne-eqb _ _ (none .0 .left)) refl
+    ]
+
+unmark-requires : tie.Need-unmark-requires Inv-loop μ-loop
+unmark-requires c κs =
+    let at-lowest = c .before .before .before in
+    let b = leb-false 1024 (at-lowest .lowest .result) (c .before .if2 .left) in
+    (b, unmet-to-wake (lowest-to-unmet at-lowest) .wake .ensures .0 .ready-long, at-lowest .lowest .ensures .is b)
+
+below : (c : tie.After-unmark Inv-loop μ-loop) → unmark-to-lowest c .lowest .result < 1024
+below c = leb-false 1024 (unmark-to-lowest c .lowest .result) (c .before .before .if2 .left)
+
+chosen : (c : tie.After-unmark Inv-loop μ-loop) → unmark-to-lowest c .lowest .result < actions (taskIn (start (unmark-to-head c) .args .task .now))
+chosen c =
+    let at-lowest = unmark-to-lowest c in
+    let at-unmet = lowest-to-unmet at-lowest in
+    let at-wake = unmet-to-wake at-unmet in
+    chosen-below (wake-to-head at-wake .loop .inv) (at-wake .wake .ensures .0) (at-unmet .unmet .ensures) (c .before .before .before .if1 .left) (at-lowest .lowest .ensures) (below c)
+
+note-requires : tie.Need-note-requires Inv-loop μ-loop
+note-requires c κs =
+    let at-unmark = c .before .before .before in
+    let I = unmark-to-head at-unmark .loop .inv in
+    (I .loaded, chosen at-unmark, I .going .first-long)
+
+-- what the answer of the noting says
+fresh : (c : tie.Then3 Inv-loop μ-loop) → let at-unmark = note-to-unmark (c .before) in let head = unmark-to-head at-unmark in
+    holds (setsOf (head .loop .s .sets)) (act (taskIn (start head .args .task .now)) (unmark-to-lowest at-unmark .lowest .result) .eff) ≡ false
+fresh c = not-true _ (sym (c .before .note .ensures .adds) ∙ c .if3 .taken)
+
+stale : (c : tie.Else3 Inv-loop μ-loop) → let at-unmark = note-to-unmark (c .before) in let head = unmark-to-head at-unmark in
+    holds (setsOf (head .loop .s .sets)) (act (taskIn (start head .args .task .now)) (unmark-to-lowest at-unmark .lowest .result) .eff) ≡ true
+stale c = not-false _ (sym (c .before .note .ensures .adds) ∙ c .if3 .left)
+
+room : (c : tie.Then3 Inv-loop μ-loop) → unmark-to-head (note-to-unmark (c .before)) .loop .steps < 1024
+room c =
+    let at-unmark = note-to-unmark (c .before) in
+    let at-lowest = unmark-to-lowest at-unmark in
+    let at-unmet = lowest-to-unmet at-lowest in
+    let at-wake = unmet-to-wake at-unmet in
+    take-room (wake-to-head at-wake .loop .inv) (at-wake .wake .ensures .0) (at-unmet .unmet .ensures) (at-unmark .before .before .before .if1 .left) (at-lowest .lowest .ensures) (below at-unmark)
+    (at-unmark .unmark .ensures) (c .before .note .ensures .noted) (fresh c)
+
+cast-plan : tie.Need-cast-plan Inv-loop μ-loop
+cast-plan c = record { fits = omega arith }
+
+mul-plan : tie.Need-mul-plan Inv-loop μ-loop
+mul-plan c = record { fits = omega (arith, room c) }
+
+element-write-plan : tie.Need-element-write-plan Inv-loop μ-loop
+element-write-plan c = room c
+
+add-steps : tie.Need-add-steps Inv-loop μ-loop
+add-steps c = record { fits = omega (arith, room c) }
+
+eff-start-requires : tie.Need-eff-start-requires Inv-loop μ-loop
+eff-start-requires c κs =
+    let at-unmark = note-to-unmark (c .before) in
+    (unmark-to-head at-unmark .loop .inv .loaded, chosen at-unmark)
+
+eff-end-requires : tie.Need-eff-end-requires Inv-loop μ-loop
+eff-end-requires c κs =
+    let at-unmark = note-to-unmark (c .before .before) in
+    (unmark-to-head at-unmark .loop .inv .loaded, chosen at-unmark)
+
+step-requires : tie.Need-step-requires Inv-loop μ-loop
+step-requires c κs =
+    let at-unmark = note-to-unmark (c .before .before .before) in
+    (unmark-to-head at-unmark .loop .inv .loaded, chosen at-unmark)
+
+loop-less : tie.Need-loop-less Inv-loop μ-loop
+loop-less c =
+    let at-unmark = note-to-unmark (step-to-note c) in
+    let at-lowest = unmark-to-lowest at-unmark in
+    let at-unmet = lowest-to-unmet at-lowest in
+    let at-wake = unmet-to-wake at-unmet in
+    take-less (wake-to-head at-wake .loop .inv) (at-wake .wake .ensures .0) (at-unmet .unmet .ensures) (at-unmark .before .before .before .if1 .left) (at-lowest .lowest .ensures) (below at-unmark)
+    (at-unmark .unmark .ensures) (step-to-note c .note .ensures .noted) (fresh (c .before .before .before))
+    _ (c .step .ensures .0) (c .before .before .eff-start .ensures) (c .before .eff-end .ensures)
+
+loop-again : tie.Need-loop-again Inv-loop μ-loop
+loop-again c =
+    let at-unmark = note-to-unmark (step-to-note c) in
+    let at-lowest = unmark-to-lowest at-unmark in
+    let at-unmet = lowest-to-unmet at-lowest in
+    let at-wake = unmet-to-wake at-unmet in
+    looping-take (wake-to-head at-wake .loop .inv) (at-wake .wake .ensures .0) (at-unmet .unmet .ensures) (at-unmark .before .before .before .if1 .left) (at-lowest .lowest .ensures) (below at-unmark)
+    (at-unmark .unmark .ensures) (step-to-note c .note .ensures .noted) (fresh (c .before .before .before))
+    _ (c .step .ensures .0) (c .before .before .eff-start .ensures) (c .before .eff-end .ensures)
+
+loop-less-2 : tie.Need-loop-less-2 Inv-loop μ-loop
+loop-less-2 c =
+    let at-unmark = note-to-unmark (c .before) in
+    let at-lowest = unmark-to-lowest at-unmark in
+    let at-unmet = lowest-to-unmet at-lowest in
+    let at-wake = unmet-to-wake at-unmet in
+    drop-less (wake-to-head at-wake .loop .inv) (at-wake .wake .ensures .0) (at-unmet .unmet .ensures) (at-unmark .before .before .before .if1 .left) (at-lowest .lowest .ensures) (below at-unmark)
+    (at-unmark .unmark .ensures) (c .before .note .ensures .noted) (stale c) (at-wake .wake .ensures .1)
+
+loop-again-2 : tie.Need-loop-again-2 Inv-loop μ-loop
+loop-again-2 c =
+    let at-unmark = note-to-unmark (c .before) in
+    let at-lowest = unmark-to-lowest at-unmark in
+    let at-unmet = lowest-to-unmet at-lowest in
+    let at-wake = unmet-to-wake at-unmet in
+    looping-drop (wake-to-head at-wake .loop .inv) (at-wake .wake .ensures .0) (at-unmet .unmet .ensures) (at-unmark .before .before .before .if1 .left) (at-lowest .lowest .ensures) (below at-unmark)
+    (at-unmark .unmark .ensures) (c .before .note .ensures .noted) (stale c)
 
 pub run-forward-spec : {M : Type 1} → statement M
 run-forward-spec =
     tie.close
-    (tie.spec load-requires initial-requires settle-each-requires run-on-requires returns)
+    (tie.spec
+    Inv-loop
+    μ-loop
+    load-requires
+    initial-requires
+    settle-each-requires
+    loop-holds
+    wake-requires
+    unmet-requires
+    lowest-requires
+    returns
+    unmark-requires
+    note-requires
+    cast-plan
+    mul-plan
+    element-write-plan
+    add-steps
+    eff-start-requires
+    eff-end-requires
+    step-requires
+    loop-less
+    loop-again
+    loop-less-2
+    loop-again-2)

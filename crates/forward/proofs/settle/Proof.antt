@@ -53,11 +53,12 @@ unmet-requires : tie.Need-unmet-requires
 unmet-requires c κs =
     let p = c .before .before .before .before .before .pre in
     let L = loaded-listed _ (p .0) _ (p .1) in
-    let P = p .3 in (
-      omega (arith, P .to, from-is c, to-is c),
-      omega (arith, L .eff-below, L .end-below, to-is c),
-      λ k a b. L .small k (omega (arith, P .from, from-is c)) (omega (arith, L .eff-below, to-is c)),
-    )
+    let P = p .3 in
+    record {
+      rises = omega (arith, P .to, from-is c, to-is c);
+      within = omega (arith, L .eff-below, L .end-below, to-is c);
+      small = λ k a b. L .small k (omega (arith, P .from, from-is c)) (omega (arith, L .eff-below, to-is c));
+    }
 
 found : (c : tie.After-unmet) → let a = start c .args in Unmet (setsOf (a .sets .now)) (a .task .now) (placeAt (a .work .now) (a .j)) (effAt (a .task .now) (a .j)) (c .unmet .result)
 found c = rw (← from-is (c .before), ← to-is (c .before)) (c .unmet .ensures)

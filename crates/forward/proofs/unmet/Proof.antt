@@ -29,7 +29,7 @@ wide-requires : tie.Need-wide-requires Inv-loop μ-loop
 wide-requires c κs = tt
 
 small : (c : tie.After-wide Inv-loop μ-loop) → c .wide .result < 4096
-small c = omega (arith, c .wide .ensures, c .before .before .before .before .before .pre .2 (c .before .before .before .loop .k) (c .before .before .before .loop .inv .from) (omega arith))
+small c = omega (arith, c .wide .ensures, c .before .before .before .before .before .pre .small (c .before .before .before .loop .k) (c .before .before .before .loop .inv .from) (omega arith))
 
 holds-requires : tie.Need-holds-requires Inv-loop μ-loop
 holds-requires c κs = small c
