@@ -201,8 +201,8 @@ typedef struct {
 } mardiskos_plan_result;
 
 /* The planner: the repair of the record's relaxed plan. The plan fills the front of the plan list and
- * 65,535 the rest. The work list is room for the repair: no plan is longer than it, and it holds 65,535
- * throughout afterwards, always. Refuses with 1 to 8, 10, 11.
+ * 65,535 the rest. The length of the work list bounds the plan's as that of the plan list does; it holds
+ * 65,535 throughout afterwards, always. Refuses with 1 to 8, 10, 11.
  *
  * With F the sum over all variables of the count of values less one, and P the product of the black
  * variables' counts of values (1 if none is black), for every record that passes 1 to 8:

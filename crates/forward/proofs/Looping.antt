@@ -20,12 +20,12 @@ use Rattle.planning.proofs.Facts.{_⊆_, holds→sub, sub→holds}
 use Rattle.planning.proofs.Steps.{step-eff, step-keep, step-cases}
 use Rattle.task.specs.Task.{factsIn, effAt, endAt, actionIn, taskIn, Loaded}
 use Rattle.state.specs.declared.Goals.{Goals}
-use Rattle.state.specs.Sets.{setsOf, GoalsOf}
+use Rattle.state.specs.Sets.{setsOf, GoalsOf, Facts}
 use Rattle.state.proofs.Listed.{Listed}
 use Rattle.state.proofs.Listing.{loaded-listed}
 use Rattle.state.proofs.Effects.{factsIn-none}
 use Rattle.forward.specs.declared.Ran.{Ran}
-use Rattle.forward.specs.Waiting.{Facts, reaches, member, Passing, Unmet, Lowest, Without, Noted, Settled}
+use Rattle.forward.specs.Waiting.{reaches, member, Passing, Unmet, Lowest, Without, Noted, Settled}
 use Rattle.forward.specs.Running.{RanOf}
 use Rattle.forward.proofs.Places.{passing-more}
 use Rattle.forward.proofs.Chains.{tally-fewer, passing-up, sites-none, sites-first, sites-leave}

@@ -18,12 +18,6 @@ use Rattle.state.specs.Sets.{inSet, setsOf}
 unfoldable pub reaches : State → ℕ → Bool
 reaches s f = s (f / 64) (f % 64)
 
--- the places from a up to b state facts
-pub record Facts (facts : List ℕ) (a b : ℕ) : Type 0 where
-  pub rises : a ≤ b
-  pub within : b ≤ length facts
-  pub small : (k : ℕ) → a ≤ k → k < b → getD facts k 0 < 4096
-
 -- each fact from place a up to k is reached, and k is at most b
 pub record Passing (s : State) (facts : List ℕ) (a b k : ℕ) : Type 0 where
   pub from : a ≤ k

@@ -17,11 +17,11 @@ use Rattle.planning.specs.Runs.{touches, actions, act, black}
 use Rattle.planning.specs.Painting.{causalArc, blackArc}
 use Rattle.planning.proofs.Tests.{and-l, and-r, and-i}
 use Rattle.task.specs.Task.{factOf, factsIn, preAt, effAt, endAt, actionIn, taskIn}
-use Rattle.state.specs.Sets.{inSet, setsOf, modeOf}
+use Rattle.state.specs.Sets.{inSet, setsOf, modeOf, Facts}
 use Rattle.state.proofs.Members.{inSet-single, inSet-empty, inSet-or, inSet-and}
 use Rattle.state.proofs.Effects.{factsIn-cons, factsIn-none}
 use Rattle.state.proofs.Listed.{Listed}
-use Rattle.graph.specs.Graph.{Facts, Rows, withAction}
+use Rattle.graph.specs.Graph.{Rows, withAction}
 use Rattle.graph.proofs.Bits.{inSet-without}
 use Rattle.graph.proofs.Searches.{both}
 

@@ -17,12 +17,6 @@ use Rattle.state.specs.Sets.{setsOf}
 use Rattle.graph.specs.declared.Found.{Found}
 use Rattle.graph.specs.declared.Found.the-variants.{At, Nothing}
 
--- the places from a up to b state facts
-pub record Facts (task : List ℕ) (a b : ℕ) : Type 0 where
-  pub rises : a ≤ b
-  pub within : b ≤ length task
-  pub small : (k : ℕ) → a ≤ k → k < b → getD task k 0 < 4096
-
 abbrev pub foundOf : Found → Option ℕ
 foundOf (At i) = some i
 foundOf Nothing = none

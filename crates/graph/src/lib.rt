@@ -9,8 +9,8 @@ ghost use Rattle.planning.specs.Basics.{someBelow, first};
 ghost use Rattle.planning.specs.Runs.{touches, actions, act, black};
 ghost use Rattle.planning.specs.Painting.{blackArc, cyclic};
 ghost use Rattle.task.specs.Task.{factsIn, taskIn, Loaded};
-ghost use Rattle.state.specs.Sets.{inSet, setsOf, modeOf};
-ghost use Rattle.graph.specs.Graph.{Facts, Rows, foundOf, withAction, through, via, StartBelow, Filled, Ordered};
+ghost use Rattle.state.specs.Sets.{inSet, setsOf, modeOf, Facts};
+ghost use Rattle.graph.specs.Graph.{Rows, foundOf, withAction, through, via, StartBelow, Filled, Ordered};
 
 // The variables of the facts from place `from` up to `to`, as a set.
 fn touched(task: &[u16], from: usize, to: usize) -> u64

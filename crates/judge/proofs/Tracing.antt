@@ -1,4 +1,4 @@
--- One pass over a list. After k steps that ran red-black the sets are those of that run, the newest values are the same under every
+-- One pass over a list. After k steps that ran red-black the state shown is that of this run, the newest values are the same under every
 -- semantics, and the steps counted are those of the real run; there the newest values are the state, as long as it goes on. A step that
 -- applies for real applies red-black.
 use mathlib.Core.Path.{_≡_, refl, sym, ap, _∙_}

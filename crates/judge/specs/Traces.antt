@@ -14,8 +14,8 @@ pub record Relaxes (t : Task) (l : List ℕ) (s : State) (k : ℕ) : Type 0 wher
   pub runs : k ≤ stepsRun (act t) relaxed l (initial t)
   pub held : s ≡ run (act t) relaxed (take k l) (initial t)
 
--- 3.13: the parts of a pass for the verdicts. Where the red-black run stops, the values held so far and the newest ones; how many steps run
--- for real, and the newest values there
+-- 3.13: the parts of a pass for the verdicts. Where the red-black run stops, the values held so far and the newest ones, which show its state;
+-- how many steps run for real, and again those newest values
 pub record StopsAs (t : Task) (l : List ℕ) (s : State) (f : Values) (n : ℕ) : Type 0 where
   pub steps : n ≡ redBlackSteps t l
   pub state : redBlackOf (black t) s f ≡ stopsIn t l .sets

@@ -1,4 +1,4 @@
-// Lists and areas that the caller lends: a result in the front, and behind it 65,535 in lists, 0 in bytes.
+// Lists and areas that the caller lends: a result in the front, and behind it 65,535 in lists, 0 in bytes; entries moved in them.
 use answers::Checked;
 use answers::Refusal;
 ghost use mathlib.Core.Path.{_≡_};

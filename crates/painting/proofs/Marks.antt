@@ -1,4 +1,4 @@
--- Marks: after action i has marked its facts, marked i are exactly those that a return of its move v = e may need: v = e itself,
+-- Marks: after an action has marked its facts, marked are exactly those that a return of its move v = e may need: v = e itself,
 -- and its own facts on other variables.
 use mathlib.Core.Path.{_≡_, refl, sym, ap, _∙_, subst}
 use mathlib.Core.Logic.{_⊎_, inl, inr, _≢_}
@@ -17,7 +17,7 @@ use Rattle.planning.proofs.Tests.{or-l, or-r, or-cases}
 use Rattle.planning.proofs.Facts.{has-here, has-there, has-nil, has-cases}
 use Rattle.task.specs.Task.{factOf, factsIn}
 use Rattle.state.proofs.Effects.{factsIn-cons, factsIn-none}
-use Rattle.graph.specs.Graph.{Facts}
+use Rattle.state.specs.Sets.{Facts}
 use Rattle.painting.specs.Returns.{place, markAll, marked, Unmarked}
 use Rattle.painting.proofs.Walks.{number, facts-rest}
 

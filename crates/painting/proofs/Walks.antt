@@ -11,10 +11,9 @@ use lib.ListN.{getD}
 use Rattle.planning.specs.Record.{Fact, Action}
 use Rattle.planning.specs.Runs.{State, Mode, holds, look, act}
 use Rattle.task.specs.Task.{factOf, factsIn, preAt, effAt, endAt, actionIn, taskIn}
-use Rattle.state.specs.Sets.{inSet, modeOf, Asked}
+use Rattle.state.specs.Sets.{inSet, modeOf, Asked, Facts}
 use Rattle.state.proofs.Listed.{Listed}
 use Rattle.state.proofs.Effects.{factsIn-cons, factsIn-none}
-use Rattle.graph.specs.Graph.{Facts}
 use Rattle.graph.proofs.Rows.{factsIn-split}
 use Rattle.painting.specs.Chains.{moveOf}
 use Rattle.painting.specs.Returns.{marked}

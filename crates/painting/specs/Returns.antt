@@ -1,4 +1,5 @@
--- Returns of arcs, by marks: action i marks each fact that its return may need with a number of its own, 2 × i.
+-- Returns of arcs, by marks: action i marks each fact that its return may need with a number of its own, 2 × i; an action that it tries for
+-- keeping marks with 2 × i + 1.
 use mathlib.Core.Path.{_≡_}
 use mathlib.Core.Logic.{_⊎_}
 use mathlib.Core.Bool.{Bool, true, false, not, _&&_}
@@ -31,7 +32,7 @@ markAll i f (g ∷ gs) marks = markAll i f gs (set marks (place f (64 * g .var +
 unfoldable pub marked : ℕ → List ℕ → State
 marked i marks u x = eqb (getD marks (64 * u + x) 0) i
 
--- no fact is marked by an action from i on
+-- no fact has a mark from i on; 65,535 is none
 pub record Unmarked (i : ℕ) (marks : List ℕ) : Type 0 where
   pub long : length marks ≡ 4096
   pub before : (g : ℕ) → g < 4096 → (getD marks g 0 < i) ⊎ (getD marks g 0 ≡ 65535)

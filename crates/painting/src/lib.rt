@@ -16,8 +16,8 @@ ghost use Rattle.planning.specs.Painting.{blackArc, unreturned};
 ghost use Rattle.answers.specs.Answers.{checkOf};
 ghost use Rattle.task.specs.Task.{factsIn, taskIn, Loaded};
 ghost use Rattle.task.specs.Links.{Next, Chained};
-ghost use Rattle.state.specs.Sets.{modeOf, setsOf};
-ghost use Rattle.graph.specs.Graph.{Facts, foundOf};
+ghost use Rattle.state.specs.Sets.{modeOf, setsOf, Facts};
+ghost use Rattle.graph.specs.Graph.{foundOf};
 ghost use Rattle.painting.specs.Chains.{moveOf, linkedMove, Acyclic, Linked};
 ghost use Rattle.painting.specs.Returns.{FirstUnmarked, place, markAll, marked, Unmarked, Complete, Kept, Ready, OnChain, InChain, Serves};
 ghost use Rattle.painting.specs.Returns.{returnsBy, returned, unreturnedFrom, lacksBy, lacksAny, lacks};
@@ -238,8 +238,8 @@ fn lacks_between(
     false
 }
 
-// Action j is complete: each value of the variable of f is set by an action that needs nothing but what j needs. No fact is of the variable
-// of 4,096, so each is marked where it stands.
+// Action j is complete: each value of the variable of f is set by an action that needs nothing but what j needs. 4,096 is no fact, so that
+// each fact of j is marked where it stands.
 fn is_complete(
     task: &[u16],
     marks: &mut [u16; 4096],
@@ -265,7 +265,8 @@ fn is_complete(
     !lacks_between(task, marks, own, f, 0, task::count(task, f / 64), last)
 }
 
-// The action that served value 0 or 1 of the variable of f last, whichever f is not, is kept if it is complete.
+// The action that served value 0 or 1 of the variable of f last is kept if it is complete: that of value 1 where f has an even value. Any
+// action may be tried.
 fn keep(
     task: &[u16],
     marks: &mut [u16; 4096],

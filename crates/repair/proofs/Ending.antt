@@ -1,4 +1,4 @@
--- The goals as a front part of a list of facts, and the answer from the front parts of both lists.
+-- The goals as a front part of a list of facts, and the answer from the front part of the plan list.
 use mathlib.Core.Path.{_≡_, refl, sym, ap, _∙_, subst}
 use mathlib.Core.List.{List, _++_, map}
 use Prim.Native.Nat.{ℕ, _<_, _≤_, min}
@@ -53,7 +53,7 @@ module _ (t : Task) (F : Formed t) (g : Goals) (G : GoalsOf t g) (few : g .count
   pub goals-moves : (K s : State) (plan plan′ : List ℕ) (a : ℕ) (r : Written) → Put plan plan′ a (moved t K s (factsOf front)) r → Put plan plan′ a (moved t K s (goals t)) r
   goals-moves K s plan plan′ a r p = subst (λ (w : List Fact). Put plan plan′ a (moved t K s w) r) goals-are p
 
--- what the front parts of the two lists say of the whole
+-- the room that the two lists lend
 module _ (plan work : List ℕ) (less room : ℕ) (ea : less ≡ min (length plan) (length work)) (eb : room ≡ capacity less) where
   pub room-is : room ≡ capacityOf (length plan) (length work)
   unfolding capacityOf

@@ -5,7 +5,7 @@ use mathlib.Core.List.{List}
 use mathlib.Core.Option.{Option, none, some}
 use Prim.Native.Nat.{ℕ, suc, _/_, _%_, _^_, _<_, _≤_}
 use lib.Dec.{eqb}
-use lib.ListN.{getD}
+use lib.ListN.{length, getD}
 use Rattle.planning.specs.Record.{Task}
 use Rattle.planning.specs.Runs.{State, Mode, variables, count, goals}
 use Rattle.planning.specs.Newest.{Values, alone}
@@ -35,6 +35,12 @@ modeOf m v = inSet m v
 -- the red-black state, where the variables of m are black: of these the newest value alone, of the others each value that they have had
 unfoldable pub redBlackOf : Mode → State → Values → State
 redBlackOf m s f v d = elim (m v) [ true ↦ alone f v d | false ↦ s v d ]
+
+-- the places from a up to b state facts
+pub record Facts (facts : List ℕ) (a b : ℕ) : Type 0 where
+  pub rises : a ≤ b
+  pub within : b ≤ length facts
+  pub small : (k : ℕ) → a ≤ k → k < b → getD facts k 0 < 4096
 
 -- the goals of the task, in the front of a list
 pub record GoalsOf (t : Task) (g : Goals) : Type 0 where

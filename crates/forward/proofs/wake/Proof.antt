@@ -4,9 +4,9 @@ use Prim.Native.Nat.{_-_, _≤_, _<_}
 use native.Mathlib.Omega.{arith}
 use Rattle.planning.specs.Runs.{has}
 use Rattle.task.specs.Task.{factsIn}
-use Rattle.state.specs.Sets.{setsOf}
+use Rattle.state.specs.Sets.{setsOf, Facts}
 use Rattle.state.proofs.Effects.{factsIn-none}
-use Rattle.forward.specs.Waiting.{Facts, Settled}
+use Rattle.forward.specs.Waiting.{Settled}
 use Rattle.forward.proofs.Places.{has-less}
 use Rattle.forward.proofs.Chains.{sites-off}
 use Rattle.forward.proofs.wake.Statement.{statement}

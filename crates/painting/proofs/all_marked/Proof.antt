@@ -5,7 +5,7 @@ use native.Mathlib.Omega.{arith}
 use Rattle.planning.specs.Runs.{act, holds}
 use Rattle.task.specs.Task.{taskIn, factsIn}
 use Rattle.state.proofs.Listing.{loaded-listed}
-use Rattle.graph.specs.Graph.{Facts}
+use Rattle.state.specs.Sets.{Facts}
 use Rattle.graph.proofs.Rows.{listed-preconditions}
 use Rattle.painting.specs.Returns.{marked}
 use Rattle.painting.proofs.Walks.{pre-facts, unmarked-at}
