@@ -85,12 +85,10 @@ pub fn follow(task: &[u16], list: &[u16]) -> Trace
         }
         k += 1;
         if state::has_effects(&s.sets, task, i) {
+            let old = s.newest;
+            let newest = old.step(task, i);
             let sets = s.sets;
-            let newest = s.newest;
-            s = State {
-                sets,
-                newest: newest.step(task, i),
-            };
+            s = State { sets, newest };
             continue;
         }
         s = s.step(task, i);

@@ -276,12 +276,10 @@ fn repair_from(task: &[u16], memo: &mut [u16], list: &[u16], plan: &mut [u16]) -
         let i = lists::wide(plan[k]);
         c = counted(task, &s.newest.values, i, c);
         if state::has_effects(&s.sets, task, i) {
+            let old = s.newest;
+            let newest = old.step(task, i);
             let sets = s.sets;
-            let newest = s.newest;
-            s = State {
-                sets,
-                newest: newest.step(task, i),
-            };
+            s = State { sets, newest };
             continue;
         }
         passes::refresh(task, &s.sets, memo, i, needs);

@@ -83,7 +83,7 @@ has-effects-requires : tie.Need-has-effects-requires Inv-loop μ-loop
 has-effects-requires c κs = let t = turn-of (c .before .before .before) in (start-of t .pre .loaded, below t)
 
 step-requires : tie.Need-step-requires Inv-loop μ-loop
-step-requires c κs = let t = turn-of (c .before .before .before .before .before .before .before) in (start-of t .pre .loaded, below t)
+step-requires c κs = let t = turn-of (c .before .before .before .before .before .before) in (start-of t .pre .loaded, below t)
 
 loop-less : tie.Need-loop-less Inv-loop μ-loop
 loop-less c = search needs
@@ -93,7 +93,7 @@ loop-again c =
     let j = c .before .before .before .before .before .before .before in
     let t = turn-of (j .before) in
     following-held _ _ (start-of t .pre .loaded .formed) _ _ _ _ (t .before .loop .inv) (omega arith) _ refl _ _ (j .before .further .ensures) (goes j)
-    (sym (c .before .before .before .before .has-effects .ensures) ∙ c .before .before .before .if3 .taken) (c .step .ensures)
+    (sym (c .before .before .before .before .has-effects .ensures) ∙ c .before .before .before .if3 .taken) (c .before .step .ensures)
 
 step-requires-2 : tie.Need-step-requires-2 Inv-loop μ-loop
 step-requires-2 c κs = let t = turn-of (c .before .before .before .before .before) in (start-of t .pre .loaded, below t)

@@ -198,7 +198,7 @@ has-effects-requires : tie.Need-has-effects-requires Inv-loop μ-loop
 has-effects-requires c κs = let w = wide-of (c .before .before) in (start-of (head-of w) .pre .0 .loaded, below w)
 
 step-requires : tie.Need-step-requires Inv-loop μ-loop
-step-requires c κs = let w = wide-of (counted-of (c .before .before .before)) in (start-of (head-of w) .pre .0 .loaded, below w)
+step-requires c κs = let w = wide-of (counted-of (c .before .before)) in (start-of (head-of w) .pre .0 .loaded, below w)
 
 loop-less-2 : tie.Need-loop-less-2 Inv-loop μ-loop
 loop-less-2 c = let k = counted-of (c .before .before .before .before) in steps-fewer _ _ _ _ (less (wide-of k)) (k .counted .ensures .steps)
@@ -210,7 +210,7 @@ loop-again-2 c =
     let w = wide-of k in
     let h = head-of w in
     let same = step-held _ _ (sym (e .has-effects .ensures) ∙ c .before .before .before .if3 .taken) in
-    repairing-step (h .loop .inv) (less w) _ (w .wide .ensures) (start-of h .pre .0 .loaded .formed) _ _ _ _ (h .loop .inv .rows) same (k .counted .ensures) (c .step .ensures)
+    repairing-step (h .loop .inv) (less w) _ (w .wide .ensures) (start-of h .pre .0 .loaded .formed) _ _ _ _ (h .loop .inv .rows) same (k .counted .ensures) (c .before .step .ensures)
 
 refresh-requires : tie.Need-refresh-requires Inv-loop μ-loop
 refresh-requires c κs =
