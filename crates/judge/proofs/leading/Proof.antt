@@ -1,3 +1,4 @@
+-- The entries before k are below n, so that all that lead are these and those that lead the rest.
 use borrow.Author.Needs.{needs}
 use mathlib.Core.Path.{_≡_}
 use Prim.Native.Nat.{_+_, _-_, _≤_}

@@ -1,3 +1,4 @@
+-- Each turn takes one record less to list; the area keeps its length.
 use borrow.Author.Needs.{needs}
 use mathlib.Core.Path.{_≡_, refl}
 use lib.ListN.{length}

@@ -1,3 +1,4 @@
+-- The marks before k are 0.
 use borrow.Author.Needs.{needs}
 use mathlib.Core.Path.{sym, _∙_}
 use Prim.Native.Nat.{_-_}

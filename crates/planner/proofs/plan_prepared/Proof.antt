@@ -18,6 +18,13 @@ use borrow.Author.Needs.{needs}
 use Rattle.planner.proofs.plan_prepared.Statement.{statement}
 use Rattle.planner.proofs.plan_prepared.Tie as tie
 
+-- the points of the way without a caller's list
+abbrev own-of : tie.After-known-told → tie.Else1
+own-of c = c .before .before .before .before .before
+
+abbrev start-of : tie.Else1 → tie.Start
+start-of c = c .before .before .before .before .before
+
 check-relaxed-requires : tie.Need-check-relaxed-requires
 check-relaxed-requires c κs = search needs
 
@@ -50,12 +57,13 @@ same-length c = search needs
 
 returns-2 : tie.Need-returns-2
 returns-2 c =
-    let t = taskIn (c .before .before .before .before .before .before .before .before .before .before .before .before .args .task .now) in
-    let l = c .before .before .before .before .before .before .before .before .before .before .before .before .args .list .now in
-    let p = passed _ _ _ _ (c .before .before .before .before .enum-told .given .1)
-    (c .before .before .before .before .before .before .check-relaxed .ensures) .0 in
-    sourced t l _ _ _ _ _ (given-source t l _ (c .before .before .before .before .before .before .before .if1 .taken))
-    (given-check t l _ (c .before .before .before .before .before .before .before .if1 .taken) ∙ p) (c .before .before .draft .ensures)
+    let d = c .before .before .before .before in
+    let g = d .before .before .before in
+    let a = g .before .before .before .before .before .args in
+    let t = taskIn (a .task .now) in
+    let l = a .list .now in
+    let p = passed _ _ _ _ (d .enum-told .given .1) (d .before .before .check-relaxed .ensures) .0 in
+    sourced t l _ _ _ _ _ (given-source t l _ (g .if1 .taken)) (given-check t l _ (g .if1 .taken) ∙ p) (c .before .before .draft .ensures)
 
 relaxed-plan-requires : tie.Need-relaxed-plan-requires
 relaxed-plan-requires c κs = search needs
@@ -71,18 +79,18 @@ refusal-of-requires-2 c κs = search needs
 
 returns-3 : tie.Need-returns-3
 returns-3 c =
-    let t = taskIn (c .before .before .before .before .before .before .before .before .before .before .args .task .now) in
+    let o = c .before .before .before .before .before in
+    let a = start-of o .args in
+    let t = taskIn (a .task .now) in
     let e = c .before .enum-told3 .given .1 in
     let U = subst (KeptOf t (c .before .before .before .relaxed-plan .last .1 .0)) e (c .before .before .before .relaxed-plan .ensures) in
     let told = unfound-check t _ U in
-    drafted-stop t _ _ _ _ _ _ (own-check t (c .before .before .before .before .before .before .before .before .before .before .args .list .now) _
-    (c .before .before .before .before .before .if1 .left) ∙ told ∙ rw (c .refusal-of2 .ensures ∙ ap refusalOf e) refl)
+    drafted-stop t _ _ _ _ _ _ (own-check t (a .list .now) _ (o .if1 .left) ∙ told ∙ rw (c .refusal-of2 .ensures ∙ ap refusalOf e) refl)
 
-found : (c : tie.After-known-told) → Found (taskIn (c .before .before .before .before .before .before .before .before .before .before .args .task .now))
-    (c .before .before .before .relaxed-plan .last .1 .0) (c .before .k .given .0 .0)
+found : (c : tie.After-known-told) → Found (taskIn (start-of (own-of c) .args .task .now)) (c .before .before .before .relaxed-plan .last .1 .0) (c .before .k .given .0 .0)
 found c =
-    subst (KeptOf (taskIn (c .before .before .before .before .before .before .before .before .before .before .args .task .now))
-    (c .before .before .before .relaxed-plan .last .1 .0)) (c .before .k .given .1) (c .before .before .before .relaxed-plan .ensures)
+    let r = c .before .before .before in
+    subst (KeptOf (taskIn (start-of (own-of c) .args .task .now)) (r .relaxed-plan .last .1 .0)) (c .before .k .given .1) (r .relaxed-plan .ensures)
 
 cast-count : tie.Need-cast-count
 cast-count c = search needs
@@ -95,25 +103,21 @@ slice-aggregate-draft c = sym (length-take-le _ _ (omega (arith, found (c .befor
 
 draft-requires-2 : tie.Need-draft-requires-2
 draft-requires-2 c κs =
-    let t = taskIn (c .before .before .before .before .before .before .before .before .before .before .before .before .args .task .now) in
-    let F = found (c .before .before) in (
-      c .before .before .before .before .before .before .before .before .before .before .before .before .pre,
-      rw (F .front .list)
-          (relaxedPlan-is-plan t (c .before .before .before .before .before .before .before .before .before .before .before .before .pre .loaded .formed) (F .solved)),
-    )
+    let s = start-of (own-of (c .before .before)) in
+    let F = found (c .before .before) in
+    (s .pre, rw (F .front .list) (relaxedPlan-is-plan (taskIn (s .args .task .now)) (s .pre .loaded .formed) (F .solved)))
 
 same-length-2 : tie.Need-same-length-2
 same-length-2 c = search needs
 
 returns-4 : tie.Need-returns-4
 returns-4 c =
-    let t = taskIn (c .before .before .before .before .before .before .before .before .before .before .before .before .before .before .before .args .task .now) in
-    let l = c .before .before .before .before .before .before .before .before .before .before .before .before .before .before .before .args .list .now in
     let F = found (c .before .before .before .before .before) in
-    sourced t l _ _ _ _ _ (F .front .list ∙ own-source t l _
-    (c .before .before .before .before .before .before .before .before .before .before .if1 .left))
-    (own-check t l _ (c .before .before .before .before .before .before .before .before .before .before .if1 .left) ∙ found-check t
-    (F .solved)) (c .before .before .draft2 .ensures)
+    let o = own-of (c .before .before .before .before .before) in
+    let a = start-of o .args in
+    let t = taskIn (a .task .now) in
+    let l = a .list .now in
+    sourced t l _ _ _ _ _ (F .front .list ∙ own-source t l _ (o .if1 .left)) (own-check t l _ (o .if1 .left) ∙ found-check t (F .solved)) (c .before .before .draft2 .ensures)
 
 pub plan-prepared-spec : {M : Type 1} → statement M
 plan-prepared-spec =

@@ -1,3 +1,4 @@
+-- The first i actions passed, and the next one stands where they end; the checks that are left are those of the others.
 use Rattle.record.proofs.Laws.{Behind, actions-start, action-stops, actions-turn, actions-done}
 use Rattle.answers.proofs.Stages.{passed}
 use borrow.Author.Needs.{needs}

@@ -1,3 +1,4 @@
+-- The first i facts passed, so that the checks of all are those of the rest, from the least variable that may still come.
 use Rattle.record.proofs.Laws.{facts-start, facts-step, facts-turn, facts-none}
 use Rattle.bits.proofs.Window.{bitsAt-lt}
 use Rattle.answers.proofs.Stages.{passed, stops-stage}

@@ -1,3 +1,4 @@
+-- The first i variables passed, and their counts of values stand in the list.
 use Rattle.record.proofs.Laws.{Seen, variables-start, variable-stops, variables-turn, variables-done, not-done}
 use Rattle.bits.proofs.Window.{bitsAt-lt}
 use Rattle.answers.proofs.Stages.{passed}

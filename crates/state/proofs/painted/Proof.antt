@@ -1,3 +1,4 @@
+-- The set has the black variables before v.
 use borrow.Author.Needs.{needs}
 use Prim.Native.Nat.{_-_, _<_}
 use native.Mathlib.Omega.{arith}

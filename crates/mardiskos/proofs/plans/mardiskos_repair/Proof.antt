@@ -22,9 +22,10 @@ same-length-2 c = search needs
 
 returns : tie.Need-returns
 returns c =
-    let a = c .before .before .before .before .before .before .before .before .before .before .before .before .args in
-    let E = c .before .before .before .before .before .repair .ensures in
-    let l = c .before .before .before .before .before .repair .last .1 .1 .0 in
+    let f = c .before .before .before .before .before in
+    let a = f .before .before .before .before .before .before .before .args in
+    let E = f .repair .ensures in
+    let l = f .repair .last .1 .1 .0 in
     let r = c .flat .ensures ∙ ap planResultOf (E .0) in
     let same = E .0 ∙ sym (ap answerIn r ∙ repair-read (a .bytes .now) (a .list .now) (length (a .plan .now)) (length (a .work .now))) in
     (r, (E .1 .0, (E .1 .1 .0, subst (λ x. Bounded (a .bytes .now) (a .list .now) x (planIn x l)) same (E .1 .1 .1))))
