@@ -15,7 +15,7 @@ use Rattle.planning.specs.Record.{variableChecks, variablesChecks, count
 use Rattle.planning.specs.Record.{recordEnd, recordChecks, recordCheck}
 use Rattle.planning.specs.Runs.{has, touches, look, holds, step, variable, act, count, black, initial, goalsFrom, goals, runBy, runsBy, stepsBy}
 use Rattle.planning.specs.Runs.{allBelow, isPlan, size, factsIn, costOf}
-use Rattle.planning.specs.Relaxed.{adds, forward, addable, forwardRun, forwardEnd, reachesGoals, factsReached, firstAchiever, is, reachedNeeded, keep, relaxedPlan}
+use Rattle.planning.specs.Relaxed.{adds, cheapest, forward, addable, forwardRun, forwardEnd, reachesGoals, factsReached, firstAchiever, is, reachedNeeded, keep, relaxedPlan}
 use Rattle.planning.specs.Painting.{causalArc, blackArc, onCycle, cyclic, fits, leaves, orZero, target, arcFrom, outside, returnBy, lacksReturn}
 use Rattle.planning.specs.Painting.{unreturned, acyclicCheck, returnCheck}
 use Rattle.planning.specs.Repair.{known, union, everAfter, usableArc, adjacent, pathIn, shortest, toward, after, pass, fill, ready, clientsFirst}
@@ -104,6 +104,12 @@ newest =
     16 ∷ 96 ∷ 20 ∷ 24 ∷ 16 ∷ 1 ∷ 1 ∷ 4 ∷ 16 ∷ 0 ∷ 0 ∷ 1 ∷ 4 ∷ 128 ∷ 0 ∷ 0 ∷ 66 ∷ 4 ∷ 0 ∷ 16 ∷ 68 ∷ 0 ∷ 64 ∷ 0 ∷ 0 ∷ 4 ∷
     132 ∷ 0 ∷ 65 ∷ 0 ∷ 16 ∷ 64 ∷ 0 ∷ 72 ∷ 64 ∷ 4 ∷ 16 ∷ 65 ∷ 0 ∷ 0 ∷ 8 ∷ 132 ∷ 16 ∷ 66 ∷ 0 ∷ 32 ∷ 0 ∷ []
 
+-- two-shelves-with-4, 12.18
+unfoldable pub withFour : List ℕ
+withFour =
+    16 ∷ 64 ∷ 20 ∷ 24 ∷ 16 ∷ 2 ∷ 3 ∷ 0 ∷ 0 ∷ 16 ∷ 68 ∷ 0 ∷ 0 ∷ 4 ∷ 0 ∷ 16 ∷ 68 ∷ 0 ∷ 64 ∷ 0 ∷ 0 ∷ 4 ∷ 132 ∷ 0 ∷ 65 ∷ 4 ∷
+    16 ∷ 128 ∷ 0 ∷ 72 ∷ 64 ∷ 0 ∷ 16 ∷ 129 ∷ 0 ∷ 0 ∷ 12 ∷ 68 ∷ 0 ∷ 0 ∷ 4 ∷ []
+
 -- how a clause writes facts, actions and variables
 abbrev pub fact : ℕ → ℕ → Fact
 fact v d = record { var = v; val = d }
@@ -123,6 +129,9 @@ task vs l = record { vars = vs; acts = l }
 -- two shelves, with the box's goal and the actions
 abbrev pub driveOut : Action
 driveOut = action 4 (fact 0 0 ∷ []) (fact 0 1 ∷ [])
+
+abbrev pub driveOutFor3 : Action
+driveOutFor3 = action 3 (fact 0 0 ∷ []) (fact 0 1 ∷ [])
 
 abbrev pub driveBack : Action
 driveBack = action 4 (fact 0 1 ∷ []) (fact 0 0 ∷ [])
@@ -248,13 +257,19 @@ pub starred :
     × (taskOf door ≡ doorTask)
     × (called door 8 ≡ plan 7 (0 ∷ 2 ∷ 1 ∷ 4 ∷ 0 ∷ 3 ∷ 1 ∷ 65535 ∷ []) 14 true 7)
     × (taskOf litReturn ≡ litTask)
-    × (forwardRun (taskOf litReturn) ≡ 1 ∷ 2 ∷ 3 ∷ 4 ∷ [])
+    × (forwardRun (taskOf litReturn) ≡ 1 ∷ 3 ∷ 4 ∷ [])
     × (relaxedPlan (taskOf litReturn) ≡ 1 ∷ 3 ∷ 4 ∷ [])
     × (called litReturn 6 ≡ plan 5 (1 ∷ 3 ∷ 2 ∷ 4 ∷ 0 ∷ 65535 ∷ []) 13 true 5)
     × (taskOf repeatedVariable ≡ task (redOne 2 0 none ∷ []) (action 1 [] (fact 0 0 ∷ fact 0 1 ∷ []) ∷ []))
     × (called repeatedVariable 1 ≡ refusal 5 78 (65535 ∷ []))
     × (taskOf newest ≡ newestTask)
     × (called newest 4 ≡ plan 3 (0 ∷ 2 ∷ 1 ∷ 65535 ∷ []) 9 true 3)
+    × (taskOf withFour ≡ shelves 0 (driveOut ∷ driveBack ∷ pickUp ∷ putDown ∷ driveOutFor3 ∷ []))
+    × (recordEnd withFour ≡ 326)
+    × (forwardRun (taskOf withFour) ≡ 4 ∷ 2 ∷ 3 ∷ [])
+    × (relaxedPlan (taskOf withFour) ≡ 4 ∷ 2 ∷ 3 ∷ [])
+    × (called withFour 5 ≡ plan 4 (4 ∷ 2 ∷ 1 ∷ 3 ∷ 65535 ∷ []) 9 true 4)
+    × (forwardRun (taskOf tray) ≡ 0 ∷ 1 ∷ [])
     × (desk newest [] 3 ≡ shown 0 0 (0 ∷ 0 ∷ 0 ∷ []))
     × (desk newest (0 ∷ 2 ∷ 1 ∷ []) 3 ≡ shown 3 3 (0 ∷ 1 ∷ 1 ∷ []))
     × (desk newest (0 ∷ 2 ∷ 3 ∷ []) 3 ≡ shown 3 3 (1 ∷ 0 ∷ 1 ∷ []))
@@ -270,13 +285,19 @@ unfolding times share blackProduct check andThen inOrder answer bitAt bitsAt hol
     actionsIn goalOf variableAt variablesAt factsAt preconditionsIn effectsIn effectsFrom actionEnd actionAt actionsAt actionsEnd taskOf fieldCheck
     headerChecks goalFits variableChecks variablesChecks countIn factChecks factsChecks actionChecks actionsChecks endsAt recordEnd recordChecks
     recordCheck has touches look holds step variable act count black initial goalsFrom goals runBy runsBy stepsBy allBelow isPlan size factsIn costOf
-    adds forward addable forwardRun forwardEnd reachesGoals factsReached firstAchiever is reachedNeeded keep relaxedPlan causalArc blackArc onCycle
+    adds cheapest forward addable forwardRun forwardEnd reachesGoals factsReached firstAchiever is reachedNeeded keep relaxedPlan causalArc blackArc onCycle
     cyclic fits leaves orZero target arcFrom outside returnBy lacksReturn unreturned acyclicCheck returnCheck known union everAfter usableArc adjacent
     pathIn shortest toward after pass fill ready clientsFirst order value blackMet moves stageSteps allSteps stagesFrom stages repaired lent
     capacity capacityOf roomCheck goalsCheck planned planOf planCall planList called outcome redPairs variables64 variables65 twoShelves withoutOne withoutTwo lampOne lampTwo
-    bothBlack goalMet tray door litReturn repeatedVariable initialValues newer tracked track redBlackSteps stopsIn tabulate newestValues progress
+    bothBlack goalMet tray door litReturn repeatedVariable withFour initialValues newer tracked track redBlackSteps stopsIn tabulate newestValues progress
     newestCall newestList lengthCheck notBelow entriesCheck deskOf desk newest
 starred = (
+  refl,
+  refl,
+  refl,
+  refl,
+  refl,
+  refl,
   refl,
   refl,
   refl,

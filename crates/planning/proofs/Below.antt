@@ -1,13 +1,13 @@
 -- Tests, sums and products over the numbers below a bound. The law that carries the proofs above is tally-cases: a set within
 -- another has the same elements, or strictly fewer. It proves path lengths, the end of the forward run and the clients-first order.
 use Prim.Native.Nat.{ℕ, zero, suc, _+_, _*_, _≤_, _<_, pred}
-use mathlib.Core.Path.{_≡_, refl, subst}
+use mathlib.Core.Path.{_≡_, refl, ap, subst}
 use mathlib.Core.Logic.{_⊎_, inl, inr, _≢_}
 use mathlib.Core.Bool.{Bool, true, false}
 use mathlib.Core.Option.{Option, none, some}
 use lib.Dec.{T}
 use native.Mathlib.Omega.{arith}
-use native.Mathlib.Decide.{ℕ-discrete}
+use native.Mathlib.Decide.{ℕ-discrete, decLt}
 use native.Mathlib.Nat.{mul-assoc}
 use Rattle.planning.specs.Basics.{someBelow, oneIf, tally, first, total, times}
 use Rattle.planning.proofs.Tests.{or-l, or-r, or-cases}
@@ -58,6 +58,26 @@ first-is (suc n) p = go (first n p) (first-is n p)
 
 pub first-none : (n : ℕ) (p : ℕ → Bool) → first n p ≡ none → (i : ℕ) → i < n → T (p i) → ⊥
 first-none n p e = subst (First? n p) e (first-is n p)
+
+-- the least number that passes, named
+pub first-some-is : (n : ℕ) (p : ℕ → Bool) (i : ℕ) → First n p i → first n p ≡ some i
+first-some-is n p i F = go (first n p) (first-is n p)
+  where
+    go : (o : Option ℕ) → First? n p o → o ≡ some i
+    go none h = absurd (h i (F .below) (F .passes))
+    go (some j) G = go₂ (ℕ-discrete j i) (decLt j i)
+      where
+        go₂ : Dec (j ≡ i) → Dec (j < i) → some j ≡ some i
+        go₂ (yes e) d = ap some e
+        go₂ (no q) (yes l) = absurd (F .least j l (G .passes))
+        go₂ (no q) (no l) = absurd (G .least i (omega arith) (F .passes))
+
+pub first-none-is : (n : ℕ) (p : ℕ → Bool) → ((i : ℕ) → i < n → T (p i) → ⊥) → first n p ≡ none
+first-none-is n p h = go (first n p) (first-is n p)
+  where
+    go : (o : Option ℕ) → First? n p o → o ≡ none
+    go none k = refl
+    go (some j) G = absurd (h j (G .below) (G .passes))
 
 pub oneIf-le : (b : Bool) → oneIf b ≤ 1
 unfolding oneIf

@@ -10,15 +10,16 @@ use mathlib.Core.Option.{Option, none, some}
 use lib.Dec.{T, T-not}
 use lib.ListN.{length}
 use native.Mathlib.Omega.{arith}
-use Rattle.planning.specs.Basics.{tally, first, total}
+use Rattle.planning.specs.Basics.{tally, total}
 use Rattle.planning.specs.Record.{Fact, Action, Task}
 use Rattle.planning.specs.Runs.{State, has, holds, Mode, step, variables, actions, variable, act, count, relaxed, initial, goals, run, runs, isPlan, size, runBy, runsBy}
-use Rattle.planning.specs.Relaxed.{adds, forward, addable, forwardRun, forwardEnd, reachesGoals}
+use Rattle.planning.specs.Relaxed.{adds, choice, forward, addable, forwardRun, forwardEnd, reachesGoals}
 use Rattle.planning.proofs.Tests.{and-l, and-r, and-i, T-cases}
-use Rattle.planning.proofs.Below.{First?, first-is, tally-le, tally-cases, tally-pos, tally-sub, total-le, total-lt, total-pred, total-one}
+use Rattle.planning.proofs.Below.{tally-le, tally-cases, tally-pos, tally-sub, total-le, total-lt, total-pred, total-one}
 use Rattle.planning.proofs.Facts.{_⊆_, holds→sub, sub→holds, holds-missing}
 use Rattle.planning.proofs.Steps.{step-eff, step-keep, step-cases, run-grows, All, all-map}
 use Rattle.planning.proofs.Formed.{Formed, sorted-has, initial-holds}
+use Rattle.planning.proofs.Choice.{Chosen, choice-chosen}
 use Rattle.planning.proofs.Plans.{Plan, isPlan-elim, plan-mono}
 
 -- the size of a state: at most all facts, and larger where a fact is added
@@ -86,31 +87,31 @@ module _ (act : ℕ → Action) (A nv : ℕ) (count : ℕ → ℕ) (goal : List 
       | inr n ↦ inr (none-adds-closed s (λ i b t. omega (arith, adds-grows s i b t, size-le nv count (next s i))), n)
     ];
   }
-  forward-ran (suc k) s f = go (holds s goal) refl (first A (adds act s)) (first-is A (adds act s)) (forward-ran k)
+  forward-ran (suc k) s f = go (holds s goal) refl (choice act A s) (choice-chosen act A s) (forward-ran k)
     where
-      go : (b : Bool) → holds s goal ≡ b → (o : Option ℕ) → First? A (adds act s) o → ((s : State) → Enough k s → Ran act A nv count goal s (forward act A goal k s))
+      go : (b : Bool) → holds s goal ≡ b → (o : Option ℕ) → Chosen act A s o → ((s : State) → Enough k s → Ran act A nv count goal s (forward act A goal k s))
           → Ran act A nv count goal s (elim b [ true ↦ [] | false ↦ elim o [ none ↦ [] | some i ↦ i ∷ forward act A goal k (next s i) ] ])
       go true e o h rec = record { below = tt; runs′ = tt; grown = omega arith; ends = inl (holds→sub s goal (rw e tt)) }
       go false e none h rec = record { below = tt; runs′ = tt; grown = omega arith; ends = inr (none-adds-closed s h, rw e tt) }
       go false e (some i) h rec =
-          let g = adds-grows s i (h .below) (h .passes) in
+          let g = adds-grows s i (h .0) (h .1) in
           let R = rec (next s i) (omega arith) in
-          let p = and-l (holds s (act i .pre)) (not (holds s (act i .eff))) (h .passes) in
+          let p = and-l (holds s (act i .pre)) (not (holds s (act i .eff))) (h .1) in
           record {
-            below = (h .below, R .below);
+            below = (h .0, R .below);
             runs′ = and-i (holds s (act i .pre)) (runs act relaxed (forward act A goal k (next s i)) (next s i)) p (R .runs′);
             grown = omega (arith, R .grown);
             ends = R .ends;
           }
 
   -- for a loop that takes actions until the goals hold or none adds a fact: the fuel of the definition is never short
-  pub forward-take : (k i : ℕ) (s : State) → Enough k s → holds s goal ≡ false → first A (adds act s) ≡ some i
+  pub forward-take : (k i : ℕ) (s : State) → Enough k s → holds s goal ≡ false → choice act A s ≡ some i
       → (forward act A goal k s ≡ i ∷ forward act A goal (pred k) (next s i)) × Enough (pred k) (next s i)
   unfolding forward
   forward-take k i s f h e = go k f
     where
       g : size nv count s < size nv count (next s i)
-      g = let I = subst (First? A (adds act s)) e (first-is A (adds act s)) in adds-grows s i (I .below) (I .passes)
+      g = let I = subst (Chosen act A s) e (choice-chosen act A s) in adds-grows s i (I .0) (I .1)
 
       go : (k : ℕ) → Enough k s → (forward act A goal k s ≡ i ∷ forward act A goal (pred k) (next s i)) × Enough (pred k) (next s i)
       go zero f = absurd (omega (arith, g, size-le nv count (next s i)))
@@ -121,12 +122,12 @@ unfolding forward
 forward-goal act A goal zero s h = refl
 forward-goal act A goal (suc k) s h = rw (h, forward) refl
 
-pub forward-none : (act : ℕ → Action) (A : ℕ) (goal : List Fact) (k : ℕ) (s : State) → first A (adds act s) ≡ none → forward act A goal k s ≡ []
+pub forward-none : (act : ℕ → Action) (A : ℕ) (goal : List Fact) (k : ℕ) (s : State) → choice act A s ≡ none → forward act A goal k s ≡ []
 unfolding forward
 forward-none act A goal zero s e = refl
 forward-none act A goal (suc k) s e = go (holds s goal)
   where
-    go : (b : Bool) → _≡_ {A = List ℕ} (elim b [ true ↦ [] | false ↦ elim (first A (adds act s)) [ none ↦ [] | some i ↦ i ∷ forward act A goal k (step relaxed (act i) s) ] ]) []
+    go : (b : Bool) → _≡_ {A = List ℕ} (elim b [ true ↦ [] | false ↦ elim (choice act A s) [ none ↦ [] | some i ↦ i ∷ forward act A goal k (step relaxed (act i) s) ] ]) []
     go true = refl
     go false = rw e refl
 
@@ -140,22 +141,22 @@ module _ (act : ℕ → Action) (A : ℕ) (goal : List Fact) where
   forward-new : (k : ℕ) (s : State) → All (λ j. has (act j .eff) ⊆ s → ⊥) (forward act A goal k s)
   unfolding forward adds
   forward-new zero s = tt
-  forward-new (suc k) s = go (holds s goal) (first A (adds act s)) (first-is A (adds act s)) (forward-new k)
+  forward-new (suc k) s = go (holds s goal) (choice act A s) (choice-chosen act A s) (forward-new k)
     where
-      go : (b : Bool) (o : Option ℕ) → First? A (adds act s) o → ((s : State) → All (λ j. has (act j .eff) ⊆ s → ⊥) (forward act A goal k s))
+      go : (b : Bool) (o : Option ℕ) → Chosen act A s o → ((s : State) → All (λ j. has (act j .eff) ⊆ s → ⊥) (forward act A goal k s))
           → All (λ j. has (act j .eff) ⊆ s → ⊥) (elim b [ true ↦ [] | false ↦ elim o [ none ↦ [] | some i ↦ i ∷ forward act A goal k (step relaxed (act i) s) ] ])
       go true o f rec = tt
       go false none f rec = tt
       go false (some i) f rec =
           let s′ : State = step relaxed (act i) s in (
-            λ h. T-not (holds s (act i .eff)) (and-r (holds s (act i .pre)) (not (holds s (act i .eff))) (f .passes)) (sub→holds s (act i .eff) h),
+            λ h. T-not (holds s (act i .eff)) (and-r (holds s (act i .pre)) (not (holds s (act i .eff))) (f .1)) (sub→holds s (act i .eff) h),
             all-map (λ j. has (act j .eff) ⊆ s′ → ⊥) (λ j. has (act j .eff) ⊆ s → ⊥) (λ j n h. n (λ v d t. step-keep relaxed (act i) s v d (h v d t) (λ x _. x))) (forward act A goal k s′) (rec s′),
           )
 
   pub forward-once : (k : ℕ) (s : State) → Once (forward act A goal k s)
   unfolding forward
   forward-once zero s = tt
-  forward-once (suc k) s = go (holds s goal) (first A (adds act s)) (forward-once k)
+  forward-once (suc k) s = go (holds s goal) (choice act A s) (forward-once k)
     where
       go : (b : Bool) (o : Option ℕ) → ((s : State) → Once (forward act A goal k s))
           → Once (elim b [ true ↦ [] | false ↦ elim o [ none ↦ [] | some i ↦ i ∷ forward act A goal k (step relaxed (act i) s) ] ])

@@ -13,6 +13,7 @@ pub mod Fields
 pub mod Formed
 pub mod Plans
 pub mod Newest
+pub mod Choice
 pub mod Forward
 pub mod Achievers
 pub mod Arcs

@@ -1,4 +1,4 @@
--- Listings byte for byte: that of 10.4, of two shelves without action 2, and of the tray. antt computes them.
+-- Listings byte for byte: that of 10.4, of two shelves with action 4 and without action 2, and of the tray. antt computes them.
 use mathlib.Core.Path.{_≡_, refl}
 use mathlib.Core.List.{List, [], _∷_}
 use Rattle.planning.specs.Basics.{times, check, andThen, inOrder, answer, bitAt, bitsAt, holdsField, someBelow, oneIf, tally, first, total, refuseAt, reach}
@@ -7,21 +7,26 @@ use Rattle.planning.specs.Record.{actionAt, actionsAt, actionsEnd, taskO
 use Rattle.planning.specs.Record.{countIn, factChecks, factsChecks, actionChecks, actionsChecks, endsAt, recordEnd, recordChecks, recordCheck}
 use Rattle.planning.specs.Runs.{has, touches, look, holds, step, variable, act, count, black, initial, goalsFrom, goals, runBy, runsBy, stepsBy, allBelow}
 use Rattle.planning.specs.Runs.{isPlan, size, factsIn, costOf}
-use Rattle.planning.specs.Relaxed.{adds, forward, addable, forwardRun, forwardEnd, reachesGoals, factsReached, firstAchiever, is, reachedNeeded, keep, relaxedPlan}
+use Rattle.planning.specs.Relaxed.{adds, cheapest, forward, addable, forwardRun, forwardEnd, reachesGoals, factsReached, firstAchiever, is, reachedNeeded, keep, relaxedPlan}
 use Rattle.planning.specs.Painting.{causalArc, blackArc, onCycle, cyclic, fits, leaves, orZero, target, arcFrom, outside, returnBy, lacksReturn}
 use Rattle.planning.specs.Painting.{unreturned, acyclicCheck, returnCheck}
 use Rattle.planning.specs.Repair.{known, union, everAfter, usableArc, adjacent, pathIn, shortest, toward, after, pass, fill, ready, clientsFirst}
 use Rattle.planning.specs.Repair.{order, value, blackMet, moves, stageSteps, allSteps, stagesFrom, stages, repaired}
 use Rattle.planning.specs.Calls.{capacity, capacityOf, roomCheck, goalsCheck, planned, planOf, planCall, runnable}
 use Rattle.planning.specs.Listing.{digitsUpto, decimal, numbers, line, verdictWord, listing, listingOf}
-use Rattle.planning.proofs.Acceptance.{twoShelves, withoutTwo, tray}
+use Rattle.planning.proofs.Acceptance.{twoShelves, withFour, withoutTwo, tray}
 
--- the second is the line refused 10 3; the last ends with the line unreal 1
+-- the second has the lines relaxed 3 4 2 3 and plan 4 9 4 2 1 3, the third is refused 10 3; the last ends with the line unreal 1
 pub listed :
     (listingOf twoShelves
     ≡ (114 ∷ 101 ∷ 97 ∷ 99 ∷ 104 ∷ 101 ∷ 100 ∷ 32 ∷ 53 ∷ 10
     ∷ 114 ∷ 101 ∷ 108 ∷ 97 ∷ 120 ∷ 101 ∷ 100 ∷ 32 ∷ 51 ∷ 32 ∷ 48 ∷ 32 ∷ 50 ∷ 32 ∷ 51 ∷ 10
     ∷ 112 ∷ 108 ∷ 97 ∷ 110 ∷ 32 ∷ 52 ∷ 32 ∷ 49 ∷ 48 ∷ 32 ∷ 48 ∷ 32 ∷ 50 ∷ 32 ∷ 49 ∷ 32 ∷ 51 ∷ 10
+    ∷ 114 ∷ 101 ∷ 97 ∷ 108 ∷ 32 ∷ 52 ∷ 10 ∷ []))
+    × (listingOf withFour
+    ≡ (114 ∷ 101 ∷ 97 ∷ 99 ∷ 104 ∷ 101 ∷ 100 ∷ 32 ∷ 53 ∷ 10
+    ∷ 114 ∷ 101 ∷ 108 ∷ 97 ∷ 120 ∷ 101 ∷ 100 ∷ 32 ∷ 51 ∷ 32 ∷ 52 ∷ 32 ∷ 50 ∷ 32 ∷ 51 ∷ 10
+    ∷ 112 ∷ 108 ∷ 97 ∷ 110 ∷ 32 ∷ 52 ∷ 32 ∷ 57 ∷ 32 ∷ 52 ∷ 32 ∷ 50 ∷ 32 ∷ 49 ∷ 32 ∷ 51 ∷ 10
     ∷ 114 ∷ 101 ∷ 97 ∷ 108 ∷ 32 ∷ 52 ∷ 10 ∷ []))
     × (listingOf withoutTwo ≡ (114 ∷ 101 ∷ 102 ∷ 117 ∷ 115 ∷ 101 ∷ 100 ∷ 32 ∷ 49 ∷ 48 ∷ 32 ∷ 51 ∷ 10 ∷ []))
     × (listingOf tray
@@ -33,9 +38,9 @@ unfolding listingOf listing digitsUpto decimal numbers line verdictWord times ch
     tally first total refuseAt reach variablesIn actionsIn goalOf variableAt variablesAt factsAt preconditionsIn effectsIn effectsFrom actionEnd
     actionAt actionsAt actionsEnd taskOf fieldCheck headerChecks goalFits variableChecks variablesChecks countIn factChecks factsChecks
     actionChecks actionsChecks endsAt recordEnd recordChecks recordCheck has touches look holds step variable act count black initial goalsFrom
-    goals runBy runsBy stepsBy allBelow isPlan size factsIn costOf adds forward addable forwardRun forwardEnd reachesGoals factsReached
+    goals runBy runsBy stepsBy allBelow isPlan size factsIn costOf adds cheapest forward addable forwardRun forwardEnd reachesGoals factsReached
     firstAchiever is reachedNeeded keep relaxedPlan causalArc blackArc onCycle cyclic fits leaves orZero target arcFrom outside returnBy
     lacksReturn unreturned acyclicCheck returnCheck known union everAfter usableArc adjacent pathIn shortest toward after pass fill ready
     clientsFirst order value blackMet moves stageSteps allSteps stagesFrom stages repaired capacity capacityOf roomCheck goalsCheck planned planOf planCall runnable
-    twoShelves withoutTwo tray
-listed = (refl, refl, refl)
+    twoShelves withFour withoutTwo tray
+listed = (refl, refl, refl, refl)

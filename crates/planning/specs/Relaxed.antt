@@ -3,8 +3,8 @@ use Prim.Native.Nat.{ℕ, zero, suc, pred}
 use mathlib.Core.Bool.{Bool, true, false, not, _&&_, _||_}
 use mathlib.Core.List.{List, [], _∷_}
 use mathlib.Core.Option.{Option, none, some}
-use lib.Dec.{eqb}
-use Rattle.planning.specs.Basics.{first, total}
+use lib.Dec.{eqb, ltb}
+use Rattle.planning.specs.Basics.{someBelow, first, total}
 use Rattle.planning.specs.Record.{Fact, Action, Task}
 use Rattle.planning.specs.Runs.{State, has, holds, step, relaxed, run, variables, actions, count, act, initial, goals, factsIn}
 
@@ -12,9 +12,13 @@ use Rattle.planning.specs.Runs.{State, has, holds, step, relaxed, run, v
 unfoldable pub adds : (ℕ → Action) → State → ℕ → Bool
 adds act s i = holds s (act i .pre) && not (holds s (act i .eff))
 
+-- 4.2: action i adds a fact, and none that adds one costs less
+unfoldable pub cheapest : (ℕ → Action) → ℕ → State → ℕ → Bool
+cheapest act A s i = adds act s i && not (someBelow A (λ j. adds act s j && ltb (act j .cost) (act i .cost)))
+
 -- 4.2: the action taken next, if one adds a fact
 abbrev pub choice : (ℕ → Action) → ℕ → State → Option ℕ
-choice act A s = first A (adds act s)
+choice act A s = first A (cheapest act A s)
 
 -- 4.2: the forward run from the state s, cut after k actions
 unfoldable pub forward : (ℕ → Action) → ℕ → List Fact → ℕ → State → List ℕ
