@@ -1,4 +1,4 @@
--- Where each action waits: what settling an action, taking a chain off and a larger state do to it. A chain is a list that the links
+-- Where each action waits, by its rank: what settling an action, taking a chain off and a larger state do to it. A chain is a list that the links
 -- follow; an action is on one chain at most, since each number of a chain has its place there (`owns`), so a link may be changed
 -- where its action is on none.
 use mathlib.Core.Path.{_≡_, refl, sym, ap, _∙_, subst}
@@ -13,16 +13,18 @@ use borrow.Author.Tests.{ne-eqb, eq-eqb}
 use lib.Dec.{T, T-not, not-T, eqb, eqb→eq, eqb-refl}
 use lib.ListN.{length, getD, set, length-set, replicate, length-replicate, getD-replicate, List·getD-eq-default}
 use lib.Seq.{getD-set-same, getD-set-other}
-use Rattle.planning.specs.Basics.{tally, first}
-use Rattle.planning.specs.Runs.{State, has, holds, act}
-use Rattle.planning.specs.Relaxed.{adds}
+use Rattle.planning.specs.Basics.{tally}
+use Rattle.planning.specs.Runs.{State, has, holds, actions, act}
+use Rattle.planning.specs.Relaxed.{adds, choice}
 use Rattle.planning.proofs.Tests.{and-l, and-r, and-i, or-l, or-r, or-cases}
-use Rattle.planning.proofs.Below.{First, First?, first-is, tally-le, tally-cases}
+use Rattle.planning.proofs.Below.{tally-le, tally-cases}
+use Rattle.planning.proofs.Choice.{choice-some, choice-none}
 use Rattle.planning.proofs.Facts.{_⊆_, holds→sub, sub→holds}
 use Rattle.task.specs.Task.{preAt, effAt, taskIn}
 use Rattle.state.specs.Sets.{setsOf}
 use Rattle.state.proofs.Members.{inSet-empty}
-use Rattle.forward.specs.Waiting.{reaches, member, Passing, Lowest, With, Without, headAt, linkAt, placeAt, hung, Looked, Settles, goes, waits, mem, Each, Chain, Sites}
+use Rattle.ranking.specs.Ranked.{Before, Ranked}
+use Rattle.forward.specs.Waiting.{reaches, member, Passing, Lowest, With, Without, ranked, headAt, linkAt, placeAt, hung, Looked, Settles, goes, waits, mem, Each, Chain, Sites}
 
 -- a function changed at one place
 pub put : {B : Type 0} → (ℕ → B) → ℕ → B → ℕ → B
@@ -88,25 +90,6 @@ distinct-length n l b d = omega (arith, distinct-tally n l b d)
 below-or : (x y : ℕ) → x ≢ y → (x < y) ⊎ (y < x)
 below-or x y n = elim (decLt x y) [ yes l ↦ inl l | no l ↦ inr (omega arith) ]
 
--- the least number that passes, named
-first-some-is : (n : ℕ) (p : ℕ → Bool) (i : ℕ) → First n p i → first n p ≡ some i
-first-some-is n p i F = go (first n p) (first-is n p)
-  where
-    go : (o : Option ℕ) → First? n p o → o ≡ some i
-    go none h = absurd (h i (F .below) (F .passes))
-    go (some j) G = go₂ (ℕ-discrete j i)
-      where
-        go₂ : Dec (j ≡ i) → some j ≡ some i
-        go₂ (yes e) = ap some e
-        go₂ (no q) = elim (below-or j i q) [ inl l ↦ absurd (F .least j l (G .passes)) | inr l ↦ absurd (G .least i l (F .passes)) ]
-
-first-none-is : (n : ℕ) (p : ℕ → Bool) → ((i : ℕ) → i < n → T (p i) → ⊥) → first n p ≡ none
-first-none-is n p h = go (first n p) (first-is n p)
-  where
-    go : (o : Option ℕ) → First? n p o → o ≡ none
-    go none k = refl
-    go (some j) G = absurd (h j (G .below) (G .passes))
-
 -- chains
 chain-distinct : (work : List ℕ) (l : List ℕ) (h : ℕ) → Chain work h l → Distinct l
 chain-distinct work [] h c = tt
@@ -159,11 +142,12 @@ pub passing-up : (s s′ : State) (l : List ℕ) (a b k : ℕ) → s ⊆ s′ �
 unfolding reaches
 passing-up s s′ l a b k up P = record { from = P .from; to = P .to; passed = λ x p q. up (getD l x 0 / 64) (getD l x 0 % 64) (P .passed x p q) }
 
-module _ {task : List ℕ} {A : ℕ} {s owed : State} {work ready : List ℕ} where
+module _ {task order : List ℕ} {A : ℕ} {s owed : State} {work ready : List ℕ} where
   -- nothing is left to settle
-  at-rest : {h n : ℕ} (S : Sites task A s owed work ready h n) → S .rest ≡ [] → Sites task A s owed work ready 65535 0
+  at-rest : {h n : ℕ} (S : Sites task order A s owed work ready h n) → S .rest ≡ [] → Sites task order A s owed work ready 65535 0
   at-rest S e = record {
     few = S .few;
+    named = S .named;
     long = S .long;
     ready-long = S .ready-long;
     w = S .w;
@@ -183,23 +167,24 @@ module _ {task : List ℕ} {A : ℕ} {s owed : State} {work ready : List ℕ} wh
     places = S .places;
   }
 
-  pub sites-ended : {h n : ℕ} → Sites task A s owed work ready h n → 1024 ≤ h → Sites task A s owed work ready 65535 0
+  pub sites-ended : {h n : ℕ} → Sites task order A s owed work ready h n → 1024 ≤ h → Sites task order A s owed work ready 65535 0
   sites-ended {h} S e = at-rest S (empty-by-end work (S .rest) h (S .chained-rest) e)
 
-  pub sites-spent : {h n : ℕ} → Sites task A s owed work ready h n → n ≤ 0 → Sites task A s owed work ready 65535 0
+  pub sites-spent : {h n : ℕ} → Sites task order A s owed work ready h n → n ≤ 0 → Sites task order A s owed work ready 65535 0
   sites-spent S e = at-rest S (empty-by-length (S .rest) (omega (arith, S .left)))
 
   -- the place of action x is noted
-  module _ {h n : ℕ} (S : Sites task A s owed work ready h n) (x p : ℕ) (b : x < 1024) (P : x < A → Looked s task x p) where
+  module _ {h n : ℕ} (S : Sites task order A s owed work ready h n) (x p : ℕ) (b : x < 1024) (P : x < A → Looked s task (getD order x 0) p) where
     abbrev noted : List ℕ
     noted = set work (5120 + x) p
 
     pub noted-link : (i : ℕ) → i < 1024 → linkAt noted i ≡ linkAt work i
     noted-link i l = getD-set-other work (5120 + x) (4096 + i) p 0 (omega arith)
 
-    pub sites-noted : Sites task A s owed noted ready h n
+    pub sites-noted : Sites task order A s owed noted ready h n
     sites-noted = record {
       few = S .few;
+      named = S .named;
       long = simp length-set (S .long);
       ready-long = S .ready-long;
       w = S .w;
@@ -220,12 +205,12 @@ module _ {task : List ℕ} {A : ℕ} {s owed : State} {work ready : List ℕ} wh
       places = λ j l. go j l (ℕ-discrete j x);
     }
       where
-        go : (j : ℕ) → j < A → Dec (j ≡ x) → Looked s task j (placeAt noted j)
+        go : (j : ℕ) → j < A → Dec (j ≡ x) → Looked s task (getD order j 0) (placeAt noted j)
         go j l (yes e) = rw (e, getD-set-same work (5120 + x) p 0 (omega (arith, S .long))) (P (omega arith))
         go j l (no q) = rw (getD-set-other work (5120 + x) (5120 + j) p 0 (omega arith)) (S .places j l)
 
   -- the action in front of those that are left is settled
-  pub record Front (h n : ℕ) (S : Sites task A s owed work ready h n) : Type 0 where
+  pub record Front (h n : ℕ) (S : Sites task order A s owed work ready h n) : Type 0 where
     pub below : h < A
     pub place : S .w h ≡ 4096
     pub tail : List ℕ
@@ -235,7 +220,7 @@ module _ {task : List ℕ} {A : ℕ} {s owed : State} {work ready : List ℕ} wh
     pub own : Each (λ j. (S .w j ≡ 4096) × (j < A)) tail
     pub others : (j : ℕ) → j ≢ h → j < A → S .w j ≡ 4096 → T (mem j tail)
 
-  pub front : {h n : ℕ} (S : Sites task A s owed work ready h n) → h < 1024 → Front h n S
+  pub front : {h n : ℕ} (S : Sites task order A s owed work ready h n) → h < 1024 → Front h n S
   unfolding mem
   front {h} {n} S b = go (S .rest) (S .left) (S .chained-rest) (S .owns-rest) (S .on-rest)
     where
@@ -254,7 +239,7 @@ module _ {task : List ℕ} {A : ℕ} {s owed : State} {work ready : List ℕ} wh
             others = λ j q l p. elim (or-cases (eqb j i) (mem j r) (f j l p)) [ inl z ↦ absurd (q (eqb→eq j i z ∙ sym e)) | inr z ↦ z ];
           }
 
-  module _ {h n : ℕ} (S : Sites task A s owed work ready h n) (b : h < 1024) where
+  module _ {h n : ℕ} (S : Sites task order A s owed work ready h n) (b : h < 1024) where
     F : Front h n S
     F = front S b
 
@@ -267,9 +252,10 @@ module _ {task : List ℕ} {A : ℕ} {s owed : State} {work ready : List ℕ} wh
     still v f l a o =
         each-both (λ i. i ≢ h) (λ j. (S .w j ≡ f) × (j < A)) (λ j. (put (S .w) h v j ≡ f) × (j < A)) (λ j q p. (put-other (S .w) h v j q ∙ p .0, p .1)) l a o
 
-    settled-goes : (ready′ : List ℕ) → T (holds s (act (taskIn task) h .pre)) → With ready h ready′ → Sites task A s owed work ready′ (linkAt work h) (n - 1)
+    settled-goes : (ready′ : List ℕ) → T (holds s (ranked task order h .pre)) → With ready h ready′ → Sites task order A s owed work ready′ (linkAt work h) (n - 1)
     settled-goes ready′ p W = record {
       few = S .few;
+      named = S .named;
       long = S .long;
       ready-long = W .long ∙ S .ready-long;
       w = put (S .w) h 4097;
@@ -282,9 +268,9 @@ module _ {task : List ℕ} {A : ℕ} {s owed : State} {work ready : List ℕ} wh
       owns-rest = still 4097 4096 (F .tail) (F .apart) (F .own);
       on-line = put-cases (λ j y. j < A → y < 4096 → T (mem j (S .line y))) (S .w) h 4097 (λ _ l. absurd (omega arith)) (λ j _. S .on-line j);
       on-rest = put-cases (λ j y. j < A → y ≡ 4096 → T (mem j (F .tail))) (S .w) h 4097 (λ _ l. absurd (omega arith)) (λ j q. F .others j q);
-      needs = put-cases (λ j y. j < A → y < 4096 → T (has (act (taskIn task) j .pre) (y / 64) (y % 64))) (S .w) h 4097 (λ _ l. absurd (omega arith)) (λ j _. S .needs j);
+      needs = put-cases (λ j y. j < A → y < 4096 → T (has (ranked task order j .pre) (y / 64) (y % 64))) (S .w) h 4097 (λ _ l. absurd (omega arith)) (λ j _. S .needs j);
       unreached = put-cases (λ j y. j < A → y < 4096 → T (reaches s y) → T (reaches owed y)) (S .w) h 4097 (λ _ l. absurd (omega arith)) (λ j _. S .unreached j);
-      out = put-cases (λ j y. j < A → 4096 < y → T (member ready′ j) ⊎ T (holds s (act (taskIn task) j .eff))) (S .w) h 4097
+      out = put-cases (λ j y. j < A → 4096 < y → T (member ready′ j) ⊎ T (holds s (ranked task order j .eff))) (S .w) h 4097
           (λ _ _. inl (rw (W .are h) (or-l (eqb h h) (member ready h) (eqb-refl h))))
           (λ j _ l g. elim (S .out j l g) [ inl m ↦ inl (rw (W .are j) (or-r (eqb j h) (member ready j) m)) | inr e ↦ inr e ]);
       sound = λ j m. elim (or-cases (eqb j h) (member ready j) (rw (W .are j) at m)) [
@@ -308,10 +294,11 @@ module _ {task : List ℕ} {A : ℕ} {s owed : State} {work ready : List ℕ} wh
       unfolding mem
       lined j = put-cases (λ y l. T (mem j (S .line y)) → T (mem j l)) (S .line) f (h ∷ S .line f) (λ t. or-r (eqb j h) (mem j (S .line f)) t) (λ y _ t. t)
 
-      settled-waits : T (has (act (taskIn task) h .pre) (f / 64) (f % 64)) → reaches s f ≡ false → Sites task A s owed new ready (linkAt work h) (n - 1)
+      settled-waits : T (has (ranked task order h .pre) (f / 64) (f % 64)) → reaches s f ≡ false → Sites task order A s owed new ready (linkAt work h) (n - 1)
       unfolding mem
       settled-waits p u = record {
         few = S .few;
+        named = S .named;
         long = hung-long work f h (S .long) g b;
         ready-long = S .ready-long;
         w = put (S .w) h f;
@@ -335,15 +322,15 @@ module _ {task : List ℕ} {A : ℕ} {s owed : State} {work ready : List ℕ} wh
             (λ _ _. rw (put-same (S .line) f (h ∷ S .line f)) (or-l (eqb h h) (mem h (S .line f)) (eqb-refl h)))
             (λ j _ l k. lined j (S .w j) (S .on-line j l k));
         on-rest = put-cases (λ j y. j < A → y ≡ 4096 → T (mem j (F .tail))) (S .w) h f (λ _ l. absurd (omega arith)) (λ j q. F .others j q);
-        needs = put-cases (λ j y. j < A → y < 4096 → T (has (act (taskIn task) j .pre) (y / 64) (y % 64))) (S .w) h f (λ _ _. p) (λ j _. S .needs j);
+        needs = put-cases (λ j y. j < A → y < 4096 → T (has (ranked task order j .pre) (y / 64) (y % 64))) (S .w) h f (λ _ _. p) (λ j _. S .needs j);
         unreached = put-cases (λ j y. j < A → y < 4096 → T (reaches s y) → T (reaches owed y)) (S .w) h f (λ _ _ t. absurd (rw u at t)) (λ j _. S .unreached j);
-        out = put-cases (λ j y. j < A → 4096 < y → T (member ready j) ⊎ T (holds s (act (taskIn task) j .eff))) (S .w) h f (λ _ l. absurd (omega arith)) (λ j _. S .out j);
+        out = put-cases (λ j y. j < A → 4096 < y → T (member ready j) ⊎ T (holds s (ranked task order j .eff))) (S .w) h f (λ _ l. absurd (omega arith)) (λ j _. S .out j);
         sound = S .sound;
         places = λ j l. rw (hung-places work f h (S .long) g b j) (S .places j l);
       }
 
   -- the chain of fact f is taken off, to be settled
-  module _ (S : Sites task A s owed work ready 65535 0) (f : ℕ) (g : f < 4096) where
+  module _ (S : Sites task order A s owed work ready 65535 0) (f : ℕ) (g : f < 4096) where
     abbrev taken : List ℕ
     taken = set work f 65535
 
@@ -368,9 +355,10 @@ module _ {task : List ℕ} {A : ℕ} {s owed : State} {work ready : List ℕ} wh
     rechained x l =
         chain-same work taken (λ j. (S .w j ≡ x) × (j < A)) (λ i _ _. getD-set-other work f (4096 + i) 65535 0 (omega arith)) (S .line x) (headAt work x) (S .owns x l) (S .chained x l)
 
-    pub sites-off : (owed′ : State) → ((y : ℕ) → y ≢ f → T (reaches owed y) → T (reaches owed′ y)) → Sites task A s owed′ taken ready (headAt work f) 1024
+    pub sites-off : (owed′ : State) → ((y : ℕ) → y ≢ f → T (reaches owed y) → T (reaches owed′ y)) → Sites task order A s owed′ taken ready (headAt work f) 1024
     sites-off owed′ o = record {
       few = S .few;
+      named = S .named;
       long = simp length-set (S .long);
       ready-long = S .ready-long;
       w = w′;
@@ -393,19 +381,20 @@ module _ {task : List ℕ} {A : ℕ} {s owed : State} {work ready : List ℕ} wh
         | yes q ↦ subst (λ y. T (mem j (S .line y))) q (S .on-line j b (omega arith))
         | no q ↦ absurd (none-left j b (sym (w-other j q) ∙ e))
       ];
-      needs = λ j b l. stays (λ y. y < 4096 → T (has (act (taskIn task) j .pre) (y / 64) (y % 64))) j (omega arith) (λ _. S .needs j b) l;
+      needs = λ j b l. stays (λ y. y < 4096 → T (has (ranked task order j .pre) (y / 64) (y % 64))) j (omega arith) (λ _. S .needs j b) l;
       unreached = λ j b l. stays (λ y. y < 4096 → T (reaches s y) → T (reaches owed′ y)) j (omega arith) (λ q k t. o (S .w j) q (S .unreached j b k t)) l;
-      out = λ j b l. stays (λ y. 4096 < y → T (member ready j) ⊎ T (holds s (act (taskIn task) j .eff))) j (omega arith) (λ _. S .out j b) l;
+      out = λ j b l. stays (λ y. 4096 < y → T (member ready j) ⊎ T (holds s (ranked task order j .eff))) j (omega arith) (λ _. S .out j b) l;
       sound = S .sound;
       places = λ j b. rw (getD-set-other work f (5120 + j) 65535 0 (omega arith)) (S .places j b);
     }
 
   -- the state grows, and i, whose effects it then has, leaves the ready ones
-  pub sites-leave : (s′ owed′ : State) (i : ℕ) (ready′ : List ℕ) → Sites task A s owed work ready 65535 0 → s ⊆ s′ → T (holds s′ (act (taskIn task) i .eff))
+  pub sites-leave : (s′ owed′ : State) (i : ℕ) (ready′ : List ℕ) → Sites task order A s owed work ready 65535 0 → s ⊆ s′ → T (holds s′ (ranked task order i .eff))
       → ((y : ℕ) → T (reaches s′ y) → T (reaches s y) ⊎ T (reaches owed′ y)) → ((y : ℕ) → T (reaches owed y) → T (reaches owed′ y)) → Without ready i ready′
-      → Sites task A s′ owed′ work ready′ 65535 0
+      → Sites task order A s′ owed′ work ready′ 65535 0
   sites-leave s′ owed′ i ready′ S up e more owes W = record {
     few = S .few;
+    named = S .named;
     long = S .long;
     ready-long = W .long ∙ S .ready-long;
     w = S .w;
@@ -421,32 +410,32 @@ module _ {task : List ℕ} {A : ℕ} {s owed : State} {work ready : List ℕ} wh
     needs = S .needs;
     unreached = λ j b l t. elim (more (S .w j) t) [ inl p ↦ owes (S .w j) (S .unreached j b l p) | inr p ↦ p ];
     out = λ j b l. leaves j b (S .out j b l) (ℕ-discrete j i);
-    sound = λ j m. let k = S .sound j (and-l (member ready j) (not (eqb j i)) (rw (W .are j) at m)) in (k .0, grows (act (taskIn task) j .pre) (k .1));
-    places = λ j b. passing-up s s′ task (preAt task j) (effAt task j) (placeAt work j) up (S .places j b);
+    sound = λ j m. let k = S .sound j (and-l (member ready j) (not (eqb j i)) (rw (W .are j) at m)) in (k .0, grows (ranked task order j .pre) (k .1));
+    places = λ j b. passing-up s s′ task (preAt task (getD order j 0)) (effAt task (getD order j 0)) (placeAt work j) up (S .places j b);
   }
     where
       grows : (fs : List _) → T (holds s fs) → T (holds s′ fs)
       grows fs t = sub→holds s′ fs (λ v d h. up v d (holds→sub s fs t v d h))
 
-      leaves : (j : ℕ) → j < A → T (member ready j) ⊎ T (holds s (act (taskIn task) j .eff)) → Dec (j ≡ i) → T (member ready′ j) ⊎ T (holds s′ (act (taskIn task) j .eff))
+      leaves : (j : ℕ) → j < A → T (member ready j) ⊎ T (holds s (ranked task order j .eff)) → Dec (j ≡ i) → T (member ready′ j) ⊎ T (holds s′ (ranked task order j .eff))
       leaves j b p (yes q) = inr (rw q e)
       leaves j b (inl p) (no q) = inl (rw (W .are j, ne-eqb j i q) (and-i (member ready j) true p tt))
-      leaves j b (inr p) (no q) = inr (grows (act (taskIn task) j .eff) p)
+      leaves j b (inr p) (no q) = inr (grows (ranked task order j .eff) p)
 
   -- what adds a fact is ready
-  module _ (S : Sites task A s owed work ready 65535 0) (free : (y : ℕ) → T (reaches owed y) → ⊥) where
-    adds-ready : (j : ℕ) → j < A → T (adds (act (taskIn task)) s j) → T (member ready j)
+  module _ (S : Sites task order A s owed work ready 65535 0) (free : (y : ℕ) → T (reaches owed y) → ⊥) where
+    adds-ready : (j : ℕ) → j < A → T (adds (ranked task order) s j) → T (member ready j)
     unfolding adds reaches mem
     adds-ready j b t = go (ℕ-discrete (S .w j) 4096)
       where
-        pre : T (holds s (act (taskIn task) j .pre))
-        pre = and-l (holds s (act (taskIn task) j .pre)) (not (holds s (act (taskIn task) j .eff))) t
+        pre : T (holds s (ranked task order j .pre))
+        pre = and-l (holds s (ranked task order j .pre)) (not (holds s (ranked task order j .eff))) t
 
-        new : T (holds s (act (taskIn task) j .eff)) → ⊥
-        new = T-not (holds s (act (taskIn task) j .eff)) (and-r (holds s (act (taskIn task) j .pre)) (not (holds s (act (taskIn task) j .eff))) t)
+        new : T (holds s (ranked task order j .eff)) → ⊥
+        new = T-not (holds s (ranked task order j .eff)) (and-r (holds s (ranked task order j .pre)) (not (holds s (ranked task order j .eff))) t)
 
         on : S .w j < 4096 → T (member ready j)
-        on l = absurd (free (S .w j) (S .unreached j b l (holds→sub s (act (taskIn task) j .pre) pre (S .w j / 64) (S .w j % 64) (S .needs j b l))))
+        on l = absurd (free (S .w j) (S .unreached j b l (holds→sub s (ranked task order j .pre) pre (S .w j / 64) (S .w j % 64) (S .needs j b l))))
 
         off : 4096 < S .w j → T (member ready j)
         off l = elim (S .out j b l) [ inl m ↦ m | inr e ↦ absurd (new e) ]
@@ -455,42 +444,58 @@ module _ {task : List ℕ} {A : ℕ} {s owed : State} {work ready : List ℕ} wh
         go (yes e) = absurd (rw (empty-by-length (S .rest) (S .left)) at (S .on-rest j b e))
         go (no n) = elim (below-or (S .w j) 4096 n) [ inl l ↦ on l | inr l ↦ off l ]
 
-    pub sites-none : Lowest ready 1024 → first A (adds (act (taskIn task)) s) ≡ none
-    sites-none L = first-none-is A (adds (act (taskIn task)) s) (λ i b t. L .least i (omega (arith, S .few)) (adds-ready i b t))
+    module _ (R : Ranked (λ i. act (taskIn task) i .cost) A order) where
+      -- an action that adds a fact has a rank, and is ready
+      rank-ready : (i : ℕ) → i < A → T (adds (act (taskIn task)) s i) → (q : ℕ) × (q < A) × (getD order q 0 ≡ i) × T (member ready q)
+      unfolding adds
+      rank-ready i b t = let r = R .every i b in (r .0, r .1, r .2, adds-ready (r .0) (r .1) (rw (r .2) t))
 
-    pub sites-first : (i : ℕ) → Lowest ready i → i < 1024 → holds s (act (taskIn task) i .eff) ≡ false → first A (adds (act (taskIn task)) s) ≡ some i
-    unfolding adds
-    sites-first i L b e =
-        let k = S .sound i (L .is b) in
-        first-some-is A (adds (act (taskIn task)) s) i
-        (record {
-          below = k .0;
-          passes = and-i (holds s (act (taskIn task) i .pre)) (not (holds s (act (taskIn task) i .eff))) (k .1) (rw e tt);
-          least = λ j l t. L .least j l (adds-ready j (omega (arith, k .0)) t);
-        })
+      pub sites-none : Lowest ready 1024 → choice (act (taskIn task)) A s ≡ none
+      sites-none L = choice-none (act (taskIn task)) A s (λ i b t. let r = rank-ready i b t in L .least (r .0) (omega (arith, S .few, r .1)) (r .3))
+
+      pub sites-first : (p : ℕ) → Lowest ready p → p < 1024 → holds s (ranked task order p .eff) ≡ false → choice (act (taskIn task)) A s ≡ some (getD order p 0)
+      unfolding adds
+      sites-first p L b e =
+          let k = S .sound p (L .is b) in
+          choice-some (act (taskIn task)) A s (getD order p 0) (R .named p (k .0))
+          (and-i (holds s (ranked task order p .pre)) (not (holds s (ranked task order p .eff))) (k .1) (rw e tt))
+          (λ j l t. let r = rank-ready j l t in subst Dearer (r .2) (later (r .0) (r .1) (r .3) (ℕ-discrete p (r .0))))
+        where
+          Dearer : ℕ → Type 0
+          Dearer j = (ranked task order p .cost < act (taskIn task) j .cost) ⊎ ((ranked task order p .cost ≡ act (taskIn task) j .cost) × (getD order p 0 ≤ j))
+
+          weaken : (j : ℕ) → Before (λ i. act (taskIn task) i .cost) (getD order p 0) j → Dearer j
+          weaken j (inl l) = inl l
+          weaken j (inr l) = inr (l .0, omega (arith, l .1))
+
+          later : (q : ℕ) → q < A → T (member ready q) → Dec (p ≡ q) → Dearer (getD order q 0)
+          later q l m (yes z) = rw (← z) (inr (refl, omega arith))
+          later q l m (no z) = elim (below-or p q z) [ inl u ↦ weaken (getD order q 0) (R .rises p q u l) | inr u ↦ absurd (L .least q u m) ]
 
 -- an action is settled: its place is noted, and it is ready or waits
-pub sites-settled : {task : List ℕ} {A : ℕ} {s owed : State} {work ready : List ℕ} {h n : ℕ} → Sites task A s owed work ready h n → h < 1024
-    → (work′ ready′ : List ℕ) → Settles s task h work ready work′ ready′ → Sites task A s owed work′ ready′ (linkAt work h) (n - 1)
-sites-settled {task} {A} {s} {owed} {work} {ready} {h} {n} S b work′ ready′ (goes k P p W e) =
+pub sites-settled : {task order : List ℕ} {A : ℕ} {s owed : State} {work ready : List ℕ} {h n : ℕ} → Sites task order A s owed work ready h n → h < 1024
+    → (work′ ready′ : List ℕ) → Settles s task order h work ready work′ ready′ → Sites task order A s owed work′ ready′ (linkAt work h) (n - 1)
+sites-settled {task} {order} {A} {s} {owed} {work} {ready} {h} {n} S b work′ ready′ (goes k P p W e) =
     rw (e, ← noted-link S h k b (λ _. P) h b) (settled-goes (sites-noted S h k b (λ _. P)) b ready′ p W)
-sites-settled {task} {A} {s} {owed} {work} {ready} {h} {n} S b work′ ready′ (waits k P f g p u e er) =
+sites-settled {task} {order} {A} {s} {owed} {work} {ready} {h} {n} S b work′ ready′ (waits k P f g p u e er) =
     rw (e, er, ← noted-link S h k b (λ _. P) h b) (settled-waits (sites-noted S h k b (λ _. P)) b f g p u)
 
 pub zeros : (n x : ℕ) → _≡_ {A = ℕ} (getD (replicate n 0) x 0) 0
 zeros n x = let z : ℕ = 0 in elim (decLt x n) [ yes l ↦ getD-replicate n x z z l | no l ↦ List·getD-eq-default (replicate n z) z (rw (length-replicate n z) (omega arith)) ]
 
 -- the actions below j are settled, and no link is set from j on
-pub record Entered (task : List ℕ) (s owed : State) (work ready : List ℕ) (j : ℕ) : Type 0 where
-  pub sites : Sites task j s owed work ready 65535 0
+pub record Entered (task order : List ℕ) (s owed : State) (work ready : List ℕ) (j : ℕ) : Type 0 where
+  pub sites : Sites task order j s owed work ready 65535 0
   pub unlinked : (x : ℕ) → j ≤ x → x < 1024 → linkAt work x ≡ 65535
 
 -- One action more: it is on no chain, and left to settle.
-module _ {task : List ℕ} {s owed : State} where
-  sites-enter : {j : ℕ} {work ready : List ℕ} → Sites task j s owed work ready 65535 0 → j < 1024 → 1024 ≤ linkAt work j → Looked s task j (placeAt work j) → Sites task (j + 1) s owed work ready j 1
+module _ {task order : List ℕ} {s owed : State} where
+  sites-enter : {j : ℕ} {work ready : List ℕ} → Sites task order j s owed work ready 65535 0 → j < 1024 → 1024 ≤ linkAt work j → getD order j 0 < actions (taskIn task) → Looked s task (getD order j 0) (placeAt work j)
+      → Sites task order (j + 1) s owed work ready j 1
   unfolding mem
-  sites-enter {j} {work} {ready} S b e P = record {
+  sites-enter {j} {work} {ready} S b e m P = record {
     few = omega arith;
+    named = λ i l. named i l (ℕ-discrete i j);
     long = S .long;
     ready-long = S .ready-long;
     w = put (S .w) j 4096;
@@ -505,22 +510,27 @@ module _ {task : List ℕ} {s owed : State} where
     on-line = put-cases (λ i y. i < j + 1 → y < 4096 → T (mem i (S .line y))) (S .w) j 4096 (λ _ l. absurd (omega arith)) (λ i q l. S .on-line i (omega arith));
     on-rest = put-cases (λ i y. i < j + 1 → y ≡ 4096 → T (mem i (j ∷ []))) (S .w) j 4096 (λ _ _. or-l (eqb j j) (mem j []) (eqb-refl j))
         (λ i q l z. absurd (rw (empty-by-length (S .rest) (S .left)) at (S .on-rest i (omega arith) z)));
-    needs = put-cases (λ i y. i < j + 1 → y < 4096 → T (has (act (taskIn task) i .pre) (y / 64) (y % 64))) (S .w) j 4096 (λ _ l. absurd (omega arith)) (λ i q l. S .needs i (omega arith));
+    needs = put-cases (λ i y. i < j + 1 → y < 4096 → T (has (ranked task order i .pre) (y / 64) (y % 64))) (S .w) j 4096 (λ _ l. absurd (omega arith)) (λ i q l. S .needs i (omega arith));
     unreached = put-cases (λ i y. i < j + 1 → y < 4096 → T (reaches s y) → T (reaches owed y)) (S .w) j 4096 (λ _ l. absurd (omega arith)) (λ i q l. S .unreached i (omega arith));
-    out = put-cases (λ i y. i < j + 1 → 4096 < y → T (member ready i) ⊎ T (holds s (act (taskIn task) i .eff))) (S .w) j 4096 (λ _ l. absurd (omega arith)) (λ i q l. S .out i (omega arith));
+    out = put-cases (λ i y. i < j + 1 → 4096 < y → T (member ready i) ⊎ T (holds s (ranked task order i .eff))) (S .w) j 4096 (λ _ l. absurd (omega arith)) (λ i q l. S .out i (omega arith));
     sound = λ i m. let k = S .sound i m in (omega (arith, k .0), k .1);
     places = λ i l. go i l (ℕ-discrete i j);
   }
     where
-      go : (i : ℕ) → i < j + 1 → Dec (i ≡ j) → Looked s task i (placeAt work i)
+      named : (i : ℕ) → i < j + 1 → Dec (i ≡ j) → getD order i 0 < actions (taskIn task)
+      named i l (yes q) = rw q m
+      named i l (no q) = S .named i (omega arith)
+
+      go : (i : ℕ) → i < j + 1 → Dec (i ≡ j) → Looked s task (getD order i 0) (placeAt work i)
       go i l (yes q) = rw q P
       go i l (no q) = S .places i (omega arith)
 
-  pub entered-start : {work ready : List ℕ} → work ≡ replicate 6144 65535 → ready ≡ replicate 16 0 → Entered task s owed work ready 0
+  pub entered-start : {work ready : List ℕ} → work ≡ replicate 6144 65535 → ready ≡ replicate 16 0 → Entered task order s owed work ready 0
   unfolding member setsOf
   entered-start ew er = rw (ew, er) (record {
     sites = record {
       few = omega arith;
+      named = λ j b. absurd (omega arith);
       long = length-replicate {A = ℕ} 6144 65535;
       ready-long = length-replicate {A = ℕ} 16 0;
       w = λ _. 0;
@@ -543,23 +553,23 @@ module _ {task : List ℕ} {s owed : State} where
   })
 
   -- action j enters, with the place of its first precondition, and is settled
-  module _ {work ready : List ℕ} {j : ℕ} (E : Entered task s owed work ready j) (b : j < 1024) (p : ℕ) (ep : p ≡ preAt task j) (o : preAt task j ≤ effAt task j) where
-    begun : Looked s task j p
+  module _ {work ready : List ℕ} {j : ℕ} (E : Entered task order s owed work ready j) (b : j < 1024) (m : getD order j 0 < actions (taskIn task)) (p : ℕ) (ep : p ≡ preAt task (getD order j 0)) (o : preAt task (getD order j 0) ≤ effAt task (getD order j 0)) where
+    begun : Looked s task (getD order j 0) p
     begun = record { from = omega arith; to = omega arith; passed = λ x l m. absurd (omega arith) }
 
-    pub entered-place : Looked s task j (placeAt (set work (5120 + j) p) j)
+    pub entered-place : Looked s task (getD order j 0) (placeAt (set work (5120 + j) p) j)
     entered-place = rw (getD-set-same work (5120 + j) p 0 (omega (arith, E .sites .long))) begun
 
-    pub entered-turn : (work′ ready′ : List ℕ) → Settles s task j (set work (5120 + j) p) ready work′ ready′ → Entered task s owed work′ ready′ (j + 1)
+    pub entered-turn : (work′ ready′ : List ℕ) → Settles s task order j (set work (5120 + j) p) ready work′ ready′ → Entered task order s owed work′ ready′ (j + 1)
     entered-turn work′ ready′ Z =
         let link : (x : ℕ) → x < 1024 → linkAt (set work (5120 + j) p) x ≡ linkAt work x = noted-link (E .sites) j p b (λ _. begun) in
         let e : 1024 ≤ linkAt (set work (5120 + j) p) j = omega (arith, link j b, E .unlinked j (omega arith) b) in
         record {
-          sites = sites-ended (sites-settled (sites-enter (sites-noted (E .sites) j p b (λ _. begun)) b e entered-place) b work′ ready′ Z) e;
+          sites = sites-ended (sites-settled (sites-enter (sites-noted (E .sites) j p b (λ _. begun)) b e m entered-place) b work′ ready′ Z) e;
           unlinked = λ x q l. links Z x (omega arith) l ∙ link x l ∙ E .unlinked x (omega arith) l;
         }
       where
-        links : Settles s task j (set work (5120 + j) p) ready work′ ready′ → (x : ℕ) → x ≢ j → x < 1024 → linkAt work′ x ≡ linkAt (set work (5120 + j) p) x
+        links : Settles s task order j (set work (5120 + j) p) ready work′ ready′ → (x : ℕ) → x ≢ j → x < 1024 → linkAt work′ x ≡ linkAt (set work (5120 + j) p) x
         links (goes k P r W ew) x q l = rw ew (getD-set-other (set work (5120 + j) p) (5120 + j) (4096 + x) k 0 (omega arith))
         links (waits k P f g r u ew er) x q l =
             let n : length (set (set work (5120 + j) p) (5120 + j) k) ≡ 6144 = simp length-set (E .sites .long) in

@@ -1,4 +1,4 @@
--- One turn of the forward run. The lowest ready action is taken out of the ready ones for good: if it adds a fact it is the
+-- One turn of the forward run. The ready action of lowest rank is taken out of the ready ones for good: if it adds a fact it is the
 -- definition's next action, else it never will.
 use mathlib.Core.Path.{_≡_, refl, sym, subst}
 use mathlib.Core.Logic.{_⊎_, inl, inr, _≢_}
@@ -9,11 +9,11 @@ use Prim.Native.Nat.{ℕ, _+_, _-_, _*_, _/_, _%_, _<_, _≤_}
 use native.Mathlib.Omega.{arith}
 use native.Mathlib.Decide.{decLt}
 use lib.Dec.{T, T-not, not-T, eqb, eqb-refl}
-use lib.ListN.{length, set, replicate}
-use Rattle.planning.specs.Basics.{first, tally}
+use lib.ListN.{length, getD, set, replicate}
+use Rattle.planning.specs.Basics.{tally}
 use Rattle.planning.specs.Record.{Action, Task}
 use Rattle.planning.specs.Runs.{State, has, holds, step, relaxed, actions, act, initial, goals}
-use Rattle.planning.specs.Relaxed.{adds}
+use Rattle.planning.specs.Relaxed.{choice}
 use Rattle.planning.proofs.Tests.{and-l, and-r}
 use Rattle.planning.proofs.Below.{tally-le}
 use Rattle.planning.proofs.Facts.{_⊆_, holds→sub, sub→holds}
@@ -25,7 +25,7 @@ use Rattle.state.proofs.Listed.{Listed}
 use Rattle.state.proofs.Listing.{loaded-listed}
 use Rattle.state.proofs.Effects.{factsIn-none}
 use Rattle.forward.specs.declared.Ran.{Ran}
-use Rattle.forward.specs.Waiting.{reaches, member, Passing, Unmet, Lowest, Without, Noted, Settled}
+use Rattle.forward.specs.Waiting.{reaches, member, Passing, Unmet, Lowest, Without, Noted, Settled, ByCost}
 use Rattle.forward.specs.Running.{RanOf}
 use Rattle.forward.proofs.Places.{passing-more}
 use Rattle.forward.proofs.Chains.{tally-fewer, passing-up, sites-none, sites-first, sites-leave}
@@ -33,14 +33,15 @@ use Rattle.forward.proofs.Running.{Going, going-start, going-on, going-
 
 -- what holds before each turn: the goals before place k are reached, and each action is where it belongs, but for those that wait for
 -- the facts from place a up to b, the effects of the action taken last
-pub record Looping (task : List ℕ) (g : Goals) (first plan sets work ready : List ℕ) (n k a b : ℕ) : Type 0 where
+pub record Looping (task order : List ℕ) (g : Goals) (first plan sets work ready : List ℕ) (n k a b : ℕ) : Type 0 where
   pub loaded : Loaded task
+  pub by-cost : ByCost task order
   pub goals-are : GoalsOf (taskIn task) g
   pub room : g .count ≤ length (g .facts)
   pub met : Passing (setsOf sets) (g .facts) 0 (g .count) k
   pub going : Going (taskIn task) plan first (setsOf sets) n
   pub facts : Facts task a b
-  pub settled : Settled task (setsOf sets) (has (factsIn task a b)) work ready
+  pub settled : Settled task order (setsOf sets) (has (factsIn task a b)) work ready
 
 -- What falls with each turn: actions whose effects are not all reached, then whether facts are to be looked at, then ready actions.
 unfoldable pub left : List ℕ → List ℕ → List ℕ → ℕ → ℕ → ℕ
@@ -51,11 +52,12 @@ left task sets ready a b =
 facts-none : {task : List ℕ} {k : ℕ} → k ≤ length task → Facts task k k
 facts-none h = record { rises = omega arith; within = h; small = λ x p q. absurd (omega arith) }
 
-pub looping-start : {task : List ℕ} {g : Goals} {fst plan sets work ready : List ℕ} → Loaded task → GoalsOf (taskIn task) g → length (g .facts) ≡ 64
-    → fst ≡ replicate 4096 65535 → length plan ≡ 1024 → setsOf sets ≡ initial (taskIn task) → Settled task (setsOf sets) (has []) work ready
-    → Looping task g fst plan sets work ready 0 0 0 0
-looping-start {task} {g} {fst} {plan} {sets} L G l f p i S = record {
+pub looping-start : {task order : List ℕ} {g : Goals} {fst plan sets work ready : List ℕ} → Loaded task → ByCost task order → GoalsOf (taskIn task) g → length (g .facts) ≡ 64
+    → fst ≡ replicate 4096 65535 → length plan ≡ 1024 → setsOf sets ≡ initial (taskIn task) → Settled task order (setsOf sets) (has []) work ready
+    → Looping task order g fst plan sets work ready 0 0 0 0
+looping-start {task} {order} {g} {fst} {plan} {sets} L R G l f p i S = record {
   loaded = L;
+  by-cost = R;
   goals-are = G;
   room = omega (arith, G .few);
   met = record { from = omega arith; to = omega arith; passed = λ x a b. absurd (omega arith) };
@@ -65,12 +67,12 @@ looping-start {task} {g} {fst} {plan} {sets} L G l f p i S = record {
 }
 
 -- the goals are yet to be looked at
-pub looping-goals : {task : List ℕ} {g : Goals} {fst plan sets work ready : List ℕ} {n k a b : ℕ} → Looping task g fst plan sets work ready n k a b → Facts (g .facts) k (g .count)
+pub looping-goals : {task order : List ℕ} {g : Goals} {fst plan sets work ready : List ℕ} {n k a b : ℕ} → Looping task order g fst plan sets work ready n k a b → Facts (g .facts) k (g .count)
 looping-goals L = record { rises = L .met .to; within = L .room; small = λ x p q. L .goals-are .small x q }
 
 -- the facts are looked at, and each action is where it belongs
-module _ {task : List ℕ} {g : Goals} {fst plan sets work₀ ready₀ work ready : List ℕ} {n k a b : ℕ} (L : Looping task g fst plan sets work₀ ready₀ n k a b)
-    (S : Settled task (setsOf sets) (has []) work ready) where
+module _ {task order : List ℕ} {g : Goals} {fst plan sets work₀ ready₀ work ready : List ℕ} {n k a b : ℕ} (L : Looping task order g fst plan sets work₀ ready₀ n k a b)
+    (S : Settled task order (setsOf sets) (has []) work ready) where
   abbrev t : Task
   t = taskIn task
 
@@ -89,35 +91,40 @@ module _ {task : List ℕ} {g : Goals} {fst plan sets work₀ ready₀ work read
     pub looping-solved : r ≡ g .count → (q : Ran) → q .steps ≡ n → q .solved ≡ true → setsOf (q .state .sets) ≡ s → RanOf t plan fst q
     looping-solved e = ended-met (L .loaded .formed) (L .going) (goals-met t (L .room) (L .goals-are .are) upto e)
 
-    module _ (open′ : r ≢ g .count) {i : ℕ} (W : Lowest ready i) where
+    module _ (open′ : r ≢ g .count) {p : ℕ} (W : Lowest ready p) where
       unmet-goal : holds s (goals t) ≡ false
       unmet-goal = goals-open t (L .room) (L .goals-are .are) upto open′ (U .open′ (omega (arith, U .passing .to)))
 
       -- no action adds a fact
-      pub looping-none : 1024 ≤ i → (q : Ran) → q .steps ≡ n → q .solved ≡ false → setsOf (q .state .sets) ≡ s → RanOf t plan fst q
-      looping-none full = ended-none (L .loaded .formed) (L .going) unmet-goal (sites-none S free (subst (Lowest ready) (omega (arith, W .few)) W))
+      pub looping-none : 1024 ≤ p → (q : Ran) → q .steps ≡ n → q .solved ≡ false → setsOf (q .state .sets) ≡ s → RanOf t plan fst q
+      looping-none full = ended-none (L .loaded .formed) (L .going) unmet-goal (sites-none S free (L .by-cost) (subst (Lowest ready) (omega (arith, W .few)) W))
 
-      module _ (below : i < 1024) where
-        pub chosen-below : i < actions t
-        chosen-below = S .sound i (W .is below) .0
+      module _ (below : p < 1024) where
+        pub rank-below : p < actions t
+        rank-below = S .sound p (W .is below) .0
 
-        module _ {ready′ fst′ : List ℕ} (O : Without ready i ready′) (N : Noted s (has (act t i .eff)) i fst fst′) where
+        module _ {i : ℕ} (is : i ≡ getD order p 0) where
+          pub chosen-below : i < actions t
+          chosen-below = rw is (S .named p rank-below)
+
+        module _ {i : ℕ} (is : i ≡ getD order p 0) {ready′ fst′ : List ℕ} (O : Without ready p ready′) (N : Noted s (has (act t i .eff)) i fst fst′) where
           fewer-ready : tally 1024 (member ready′) < tally 1024 (member ready)
           fewer-ready =
-              tally-fewer 1024 (member ready′) (member ready) (λ j _ m. and-l (member ready j) (not (eqb j i)) (rw (O .are j) at m)) i below (W .is below)
-              (λ m. T-not (eqb i i) (and-r (member ready i) (not (eqb i i)) (rw (O .are i) at m)) (eqb-refl i))
+              tally-fewer 1024 (member ready′) (member ready) (λ j _ m. and-l (member ready j) (not (eqb j p)) (rw (O .are j) at m)) p below (W .is below)
+              (λ m. T-not (eqb p p) (and-r (member ready p) (not (eqb p p)) (rw (O .are p) at m)) (eqb-refl p))
 
           -- the action adds nothing, and is dropped
           module _ (h : holds s (act t i .eff) ≡ true) where
-            pub looping-drop : Looping task g fst′ plan sets work ready′ n r b b
+            pub looping-drop : Looping task order g fst′ plan sets work ready′ n r b b
             looping-drop = record {
               loaded = L .loaded;
+              by-cost = L .by-cost;
               goals-are = L .goals-are;
               room = L .room;
               met = upto;
               going = going-drop (L .loaded .formed) (L .going) i fst′ h N;
               facts = facts-none (L .facts .within);
-              settled = rw (factsIn-none task b b refl) (sites-leave s (has []) i ready′ S (λ v d x. x) (rw h tt) (λ y x. inl x) (λ y x. x) O);
+              settled = rw (factsIn-none task b b refl) (sites-leave s (has []) p ready′ S (λ v d x. x) (rw (← is, h) tt) (λ y x. inl x) (λ y x. x) O);
             }
 
             pub drop-less : (b ≤ a → ready ≡ ready₀) → left task sets ready′ b b < left task sets ready₀ a b
@@ -130,8 +137,8 @@ module _ {task : List ℕ} {g : Goals} {fst plan sets work₀ ready₀ work read
 
           -- the action adds a fact, and is taken
           module _ (h : holds s (act t i .eff) ≡ false) where
-            is-next : first (actions t) (adds (act t) s) ≡ some i
-            is-next = sites-first S free i W below h
+            is-next : choice (act t) (actions t) s ≡ some i
+            is-next = rw is (sites-first S free (L .by-cost) p W below (rw (← is) h))
 
             pub take-room : n < 1024
             take-room = going-on (L .loaded .formed) (L .going) i unmet-goal is-next
@@ -147,17 +154,18 @@ module _ {task : List ℕ} {g : Goals} {fst plan sets work₀ ready₀ work read
               unfolding reaches
               comes y x = elim (step-cases relaxed (act t i) s (y / 64) (y % 64) (subst (λ (z : State). T (z (y / 64) (y % 64))) stepped x)) [ inl p ↦ inr p | inr p ↦ inl (p .0) ]
 
-              taken : Settled task (setsOf sets′) (has (act t i .eff)) work ready′
-              taken = sites-leave (setsOf sets′) (has (act t i .eff)) i ready′ S grows has-all comes (λ y x. absurd (free y x)) O
+              taken : Settled task order (setsOf sets′) (has (act t i .eff)) work ready′
+              taken = sites-leave (setsOf sets′) (has (act t i .eff)) p ready′ S grows (rw (← is) has-all) comes (λ y x. absurd (free y x)) O
 
               module _ {a′ b′ : ℕ} (from : a′ ≡ effAt task i) (to : b′ ≡ endAt task i) where
                 listed : Listed task i
-                listed = loaded-listed task (L .loaded) i chosen-below
+                listed = loaded-listed task (L .loaded) i (chosen-below is)
 
-                pub looping-take : Looping task g fst′ (set plan n i) sets′ work ready′ (n + 1) r a′ b′
+                pub looping-take : Looping task order g fst′ (set plan n i) sets′ work ready′ (n + 1) r a′ b′
                 unfolding actionIn
                 looping-take = record {
                   loaded = L .loaded;
+                  by-cost = L .by-cost;
                   goals-are = L .goals-are;
                   room = L .room;
                   met = passing-up s (setsOf sets′) (g .facts) 0 (g .count) r grows upto;
@@ -167,7 +175,7 @@ module _ {task : List ℕ} {g : Goals} {fst plan sets work₀ ready₀ work read
                     within = omega (arith, listed .end-below);
                     small = λ x p q. listed .small x (omega (arith, listed .pre-below)) (omega arith);
                   };
-                  settled = rw (from, to) (subst (λ (x : Action). Settled task (setsOf sets′) (has (x .eff)) work ready′) (sym (listed .states)) taken);
+                  settled = rw (from, to) (subst (λ (x : Action). Settled task order (setsOf sets′) (has (x .eff)) work ready′) (sym (listed .states)) taken);
                 }
 
                 still-new : (j : ℕ) → T (not (holds (setsOf sets′) (act t j .eff))) → T (not (holds s (act t j .eff)))
@@ -185,5 +193,5 @@ module _ {task : List ℕ} {g : Goals} {fst plan sets work₀ ready₀ work read
                       arith,
                       fewer-ready,
                       tally-le 1024 (member ready),
-                      tally-fewer (actions t) (λ j. not (holds (setsOf sets′) (act t j .eff))) (λ j. not (holds s (act t j .eff))) (λ j _. still-new j) i chosen-below (rw h tt) old,
+                      tally-fewer (actions t) (λ j. not (holds (setsOf sets′) (act t j .eff))) (λ j. not (holds s (act t j .eff))) (λ j _. still-new j) i (chosen-below is) (rw h tt) old,
                     )

@@ -10,10 +10,10 @@ use native.Mathlib.Omega.{arith}
 use lib.Dec.{T}
 use lib.ListN.{length, getD, set, take, replicate, length-set, length-append, length-replicate, getD-replicate}
 use lib.Seq.{take-suc-set, length-take-le}
-use Rattle.planning.specs.Basics.{first, total, tally}
+use Rattle.planning.specs.Basics.{total, tally}
 use Rattle.planning.specs.Record.{Fact, Action, Task}
 use Rattle.planning.specs.Runs.{State, has, holds, step, relaxed, run, variables, actions, act, count, variable, initial, goals, size, runBy}
-use Rattle.planning.specs.Relaxed.{adds, forward, addable, forwardRun, forwardEnd, reachesGoals, firstAchiever}
+use Rattle.planning.specs.Relaxed.{choice, forward, addable, forwardRun, forwardEnd, reachesGoals, firstAchiever}
 use Rattle.planning.proofs.Tests.{T→true, F→false, and-l}
 use Rattle.planning.proofs.Below.{total-le, total-pred, total-one, tally-pos}
 use Rattle.planning.proofs.Facts.{_⊆_, holds→sub}
@@ -60,7 +60,7 @@ module _ (act : ℕ → Action) (A : ℕ) (goal : List Fact) (s : State) where
   forward-met zero h = refl
   forward-met (suc k) h = rw (h, forward) refl
 
-  forward-none : (k : ℕ) → holds s goal ≡ false → first A (adds act s) ≡ none → forward act A goal k s ≡ []
+  forward-none : (k : ℕ) → holds s goal ≡ false → choice act A s ≡ none → forward act A goal k s ≡ []
   unfolding forward
   forward-none zero h e = refl
   forward-none (suc k) h e = rw (h, e, forward) refl
@@ -164,14 +164,14 @@ module _ {t : Task} (F : Formed t) where
   }
 
   module _ {plan fst : List ℕ} {s : State} {n : ℕ} (G : Going t plan fst s n) where
-    pub going-on : (i : ℕ) → holds s (goals t) ≡ false → first (actions t) (adds (act t) s) ≡ some i → n < 1024
+    pub going-on : (i : ℕ) → holds s (goals t) ≡ false → choice (act t) (actions t) s ≡ some i → n < 1024
     going-on i h e =
         let T₁ = forward-take (act t) (actions t) (variables t) (count t) (goals t) eff-ranged (G .k) i s (G .fuel) h e in
         let r : List ℕ = forward (act t) (actions t) (goals t) (pred (G .k)) (step relaxed (act t i) s) in
         let e₂ : forwardRun t ≡ take n plan ++ (i ∷ r) = G .so-far ∙ rw (T₁ .0) refl in
         omega (arith, forwardRun-few t F, ap length e₂, length-append (take n plan) (i ∷ r), length-take-le n plan (omega (arith, G .long, G .within)))
 
-    pub going-take : (i : ℕ) (fst′ : List ℕ) (s′ : State) → holds s (goals t) ≡ false → first (actions t) (adds (act t) s) ≡ some i → Noted s (has (act t i .eff)) i fst fst′
+    pub going-take : (i : ℕ) (fst′ : List ℕ) (s′ : State) → holds s (goals t) ≡ false → choice (act t) (actions t) s ≡ some i → Noted s (has (act t i .eff)) i fst fst′
         → s′ ≡ step relaxed (act t i) s → Going t (set plan n i) fst′ s′ (n + 1)
     unfolding runBy
     going-take i fst′ s′ h e N es =
@@ -225,7 +225,7 @@ module _ {t : Task} (F : Formed t) where
     pub ended-met : holds s (goals t) ≡ true → (a : Ran) → a .steps ≡ n → a .solved ≡ true → setsOf (a .state .sets) ≡ s → RanOf t plan fst a
     ended-met h a en eb es = ended (forward-met (act t) (actions t) (goals t) s (G .k) h) a en (eb ∙ sym h) es
 
-    pub ended-none : holds s (goals t) ≡ false → first (actions t) (adds (act t) s) ≡ none → (a : Ran) → a .steps ≡ n → a .solved ≡ false → setsOf (a .state .sets) ≡ s → RanOf t plan fst a
+    pub ended-none : holds s (goals t) ≡ false → choice (act t) (actions t) s ≡ none → (a : Ran) → a .steps ≡ n → a .solved ≡ false → setsOf (a .state .sets) ≡ s → RanOf t plan fst a
     ended-none h e a en eb es = ended (forward-none (act t) (actions t) (goals t) s (G .k) h e) a en (eb ∙ sym h) es
 
 -- the goals as the loop tests them

@@ -1,7 +1,7 @@
--- Who waits for which fact. Each action that does not apply yet hangs on the chain of one of its preconditions that is not reached;
--- when the fact is reached its chain is taken off, and each action of it is settled anew: on another chain, or in the set of the
--- ready. Facts reached stay reached, so an action is looked at from the place on that it reached before. The lowest action that
--- applies and adds a fact is the lowest ready one that adds a fact.
+-- Who waits for which fact. Actions go by their rank, the place in the order by cost and number. Each action that does not apply yet
+-- hangs on the chain of one of its preconditions that is not reached; when the fact is reached its chain is taken off, and each
+-- action of it is settled anew: on another chain, or in the set of the ready. Facts reached stay reached, so an action is looked at
+-- from the place on that it reached before. The cheapest action that adds a fact is the ready one of lowest rank that adds a fact.
 use mathlib.Core.Path.{_≡_}
 use mathlib.Core.Logic.{_⊎_, _≢_}
 use mathlib.Core.Bool.{Bool, false, not, _&&_, _||_}
@@ -13,6 +13,7 @@ use Rattle.planning.specs.Record.{Action}
 use Rattle.planning.specs.Runs.{State, has, holds, actions, act}
 use Rattle.task.specs.Task.{preAt, effAt, taskIn}
 use Rattle.state.specs.Sets.{inSet, setsOf}
+use Rattle.ranking.specs.Ranked.{Ranked}
 
 -- fact f, 64 × variable + value, is in the state
 unfoldable pub reaches : State → ℕ → Bool
@@ -29,7 +30,7 @@ pub record Unmet (s : State) (facts : List ℕ) (a b k : ℕ) : Type 0 where
   pub passing : Passing s facts a b k
   pub open′ : k < b → reaches s (getD facts k 0) ≡ false
 
--- action i is in a set of 1,024, 64 to a number
+-- number i is in a set of 1,024, 64 to a number
 unfoldable pub member : List ℕ → ℕ → Bool
 member ready i = setsOf ready (i / 64) (i % 64)
 
@@ -54,8 +55,12 @@ pub record Without (ready : List ℕ) (i : ℕ) (new : List ℕ) : Type 0 where
   pub long : length new ≡ length ready
   pub are : (j : ℕ) → member new j ≡ (member ready j && not (eqb j i))
 
--- One list of 6,144 numbers says what waits: for each fact the first action of its chain, for each action the next one on its chain,
--- and for each action the place of the precondition that it waits for.
+-- the action of rank j
+abbrev pub ranked : List ℕ → List ℕ → ℕ → Action
+ranked task order j = act (taskIn task) (getD order j 0)
+
+-- One list of 6,144 numbers says what waits: for each fact the rank of the first action of its chain, for each rank that of the next
+-- one on its chain, and for each rank the place of the precondition that the action waits for.
 abbrev pub headAt : List ℕ → ℕ → ℕ
 headAt work f = getD work f 0
 
@@ -65,7 +70,7 @@ linkAt work j = getD work (4096 + j) 0
 abbrev pub placeAt : List ℕ → ℕ → ℕ
 placeAt work j = getD work (5120 + j) 0
 
--- action j in front of the chain of fact f
+-- rank j in front of the chain of fact f
 unfoldable pub hung : List ℕ → ℕ → ℕ → List ℕ
 hung work f j = set (set work (4096 + j) (getD work f 0)) f j
 
@@ -73,12 +78,12 @@ hung work f j = set (set work (4096 + j) (getD work f 0)) f j
 abbrev pub Looked : State → List ℕ → ℕ → ℕ → Type 0
 Looked s task j k = Passing s task (preAt task j) (effAt task j) k
 
--- what settling action j does: it is ready, or hangs on the chain of a precondition f that is not reached; its place is noted
-pub data Settles (s : State) (task : List ℕ) (j : ℕ) (work ready work′ ready′ : List ℕ) : Type 0 where
-  goes : (k : ℕ) → Looked s task j k → T (holds s (act (taskIn task) j .pre)) → With ready j ready′ → work′ ≡ set work (5120 + j) k
-      → Settles s task j work ready work′ ready′
-  waits : (k : ℕ) → Looked s task j k → (f : ℕ) → f < 4096 → T (has (act (taskIn task) j .pre) (f / 64) (f % 64)) → reaches s f ≡ false
-      → work′ ≡ hung (set work (5120 + j) k) f j → ready′ ≡ ready → Settles s task j work ready work′ ready′
+-- what settling the action of rank j does: it is ready, or hangs on the chain of a precondition f that is not reached; its place is noted
+pub data Settles (s : State) (task order : List ℕ) (j : ℕ) (work ready work′ ready′ : List ℕ) : Type 0 where
+  goes : (k : ℕ) → Looked s task (getD order j 0) k → T (holds s (ranked task order j .pre)) → With ready j ready′ → work′ ≡ set work (5120 + j) k
+      → Settles s task order j work ready work′ ready′
+  waits : (k : ℕ) → Looked s task (getD order j 0) k → (f : ℕ) → f < 4096 → T (has (ranked task order j .pre) (f / 64) (f % 64)) → reaches s f ≡ false
+      → work′ ≡ hung (set work (5120 + j) k) f j → ready′ ≡ ready → Settles s task order j work ready work′ ready′
 
 unfoldable pub mem : ℕ → List ℕ → Bool
 mem j [] = false
@@ -94,11 +99,12 @@ abbrev pub Chain : List ℕ → ℕ → List ℕ → Type 0
 Chain work h [] = 1024 ≤ h
 Chain work h (j ∷ l) = (h ≡ j) × (j < 1024) × Each (λ i. i ≢ j) l × Chain work (linkAt work j) l
 
--- Where each of the first A actions is, in the state s: place w j < 4,096 says that action j hangs on the chain of that fact, 4,096
--- that it is still to be settled, on the chain from h on, at most n long, and more that it is ready, or adds nothing any more. A
+-- Where each action of the first A ranks is, in the state s: w j < 4,096 says that the one of rank j hangs on the chain of that fact,
+-- 4,096 that it is still to be settled, on the chain from h on, at most n long, and more that it is ready, or adds nothing any more. A
 -- chain's fact is not reached, unless the chain is owed: it is to be taken off next.
-pub record Sites (task : List ℕ) (A : ℕ) (s owed : State) (work ready : List ℕ) (h n : ℕ) : Type 0 where
+pub record Sites (task order : List ℕ) (A : ℕ) (s owed : State) (work ready : List ℕ) (h n : ℕ) : Type 0 where
   pub few : A ≤ 1024
+  pub named : (j : ℕ) → j < A → getD order j 0 < actions (taskIn task)
   pub long : length work ≡ 6144
   pub ready-long : length ready ≡ 16
   pub w : ℕ → ℕ
@@ -111,15 +117,19 @@ pub record Sites (task : List ℕ) (A : ℕ) (s owed : State) (work ready : List
   pub owns-rest : Each (λ j. (w j ≡ 4096) × (j < A)) rest
   pub on-line : (j : ℕ) → j < A → w j < 4096 → T (mem j (line (w j)))
   pub on-rest : (j : ℕ) → j < A → w j ≡ 4096 → T (mem j rest)
-  pub needs : (j : ℕ) → j < A → w j < 4096 → T (has (act (taskIn task) j .pre) (w j / 64) (w j % 64))
+  pub needs : (j : ℕ) → j < A → w j < 4096 → T (has (ranked task order j .pre) (w j / 64) (w j % 64))
   pub unreached : (j : ℕ) → j < A → w j < 4096 → T (reaches s (w j)) → T (reaches owed (w j))
-  pub out : (j : ℕ) → j < A → 4096 < w j → T (member ready j) ⊎ T (holds s (act (taskIn task) j .eff))
-  pub sound : (j : ℕ) → T (member ready j) → (j < A) × T (holds s (act (taskIn task) j .pre))
-  pub places : (j : ℕ) → j < A → Looked s task j (placeAt work j)
+  pub out : (j : ℕ) → j < A → 4096 < w j → T (member ready j) ⊎ T (holds s (ranked task order j .eff))
+  pub sound : (j : ℕ) → T (member ready j) → (j < A) × T (holds s (ranked task order j .pre))
+  pub places : (j : ℕ) → j < A → Looked s task (getD order j 0) (placeAt work j)
 
 -- each action of the task has its site, and none is left to settle
-abbrev pub Settled : List ℕ → State → State → List ℕ → List ℕ → Type 0
-Settled task s owed work ready = Sites task (actions (taskIn task)) s owed work ready 65535 0
+abbrev pub Settled : List ℕ → List ℕ → State → State → List ℕ → List ℕ → Type 0
+Settled task order s owed work ready = Sites task order (actions (taskIn task)) s owed work ready 65535 0
+
+-- the order in which actions are looked at: by cost, equal ones by number
+abbrev pub ByCost : List ℕ → List ℕ → Type 0
+ByCost task order = Ranked (λ i. act (taskIn task) i .cost) (actions (taskIn task)) order
 
 -- each effect that was not reached is noted as reached by i
 pub record Noted (s : State) (effects : State) (i : ℕ) (first first′ : List ℕ) : Type 0 where

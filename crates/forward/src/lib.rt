@@ -1,5 +1,6 @@
 // The forward run. Its cost grows with the work and not with actions × steps: an action that does not apply waits for one of its
-// preconditions, and is looked at again, from that one on, when the fact is reached.
+// preconditions, and is looked at again, from that one on, when the fact is reached. Actions go by their rank, the place in an order by
+// cost and number that is made once.
 use answers::Checked;
 use answers::Refusal;
 use state::Goals;
@@ -8,14 +9,14 @@ ghost use mathlib.Core.Path.{_≡_};
 ghost use mathlib.Core.List.{[]};
 ghost use mathlib.Core.Option.{none};
 ghost use Prim.Native.Nat.{_<_, _≤_};
-ghost use lib.ListN.{length, replicate};
+ghost use lib.ListN.{length, getD, replicate};
 ghost use lib.Dec.{T};
 ghost use Rattle.planning.specs.Record.{recordCheck};
 ghost use Rattle.planning.specs.Runs.{has, actions, act};
 ghost use Rattle.planning.specs.Calls.{forwardCall, forwardList};
 ghost use Rattle.task.specs.Task.{factsIn, taskIn, Loaded};
 ghost use Rattle.state.specs.Sets.{setsOf, Facts};
-ghost use Rattle.forward.specs.Waiting.{Unmet, member, LowestIn, Lowest, With, Without, hung, placeAt, Looked, Settles, Sites, Settled, Notes};
+ghost use Rattle.forward.specs.Waiting.{Unmet, member, LowestIn, Lowest, With, Without, hung, placeAt, Looked, Settles, Sites, Settled, ByCost, Notes};
 ghost use Rattle.forward.specs.Running.{RanOf};
 ghost use Rattle.forward.specs.Answers.{foundOf, forwardOf, forwardIn};
 
@@ -42,7 +43,7 @@ fn lowest_in(m: u64) -> usize
     u64::trailing_zeros(m) as usize
 }
 
-// The action to try next: the lowest of the ready ones; 1,024 if there is none.
+// The rank to try next: the lowest of the ready ones; 1,024 if there is none.
 fn lowest(ready: &[u64; 16]) -> usize
     ensures { λ r. ⌜ Lowest (now (ready .entry)) r ⌝ }
 {
@@ -70,15 +71,15 @@ fn unmark(ready: &mut [u64; 16], i: usize)
     ready[i / 64] = ready[i / 64] - state::single(i % 64);
 }
 
-// What waits: for each fact the head of its chain of actions, 4,096; from LINK on each action's next on its chain; from PLACE on
-// the place of the precondition that it waits for.
+// What waits, by rank: for each fact the head of its chain of actions, 4,096; from LINK on each action's next on its chain; from PLACE
+// on the place of the precondition that it waits for.
 const LINK: usize = 4096;
 
 const PLACE: usize = 5120;
 
 const ALL: usize = 6144;
 
-// Action j hangs on the chain of fact f, in front.
+// Rank j hangs on the chain of fact f, in front.
 fn hang(work: &mut [u16; ALL], f: usize, j: u16)
     requires { ⌜ (f < 4096) × (j < 1024) ⌝ }
     ensures { λ _. ⌜ now (work .exit) ≡ hung (now (work .entry)) f j ⌝ }
@@ -87,19 +88,28 @@ fn hang(work: &mut [u16; ALL], f: usize, j: u16)
     work[f] = j;
 }
 
-// Action j is ready, or waits for a precondition that is not reached. It is looked at from the place on that it reached before.
-fn settle(sets: &[u64; 64], task: &[u16], work: &mut [u16; ALL], ready: &mut [u64; 16], j: u16)
-    requires { ⌜ Loaded (now task) × (j < actions (taskIn (now task))) × (length (now ready) ≡ 16) × Looked (setsOf (now sets)) (now task) j (placeAt (now work) j) ⌝ }
-    ensures { λ _. ⌜ Settles (setsOf (now (sets .entry))) (now (task .entry)) j (now (work .entry)) (now (ready .entry)) (now (work .exit)) (now (ready .exit)) ⌝ }
+// The action of rank j is ready, or waits for a precondition that is not reached. It is looked at from the place on that it reached
+// before.
+fn settle(
+    sets: &[u64; 64],
+    task: &[u16],
+    order: &[u16; 1024],
+    work: &mut [u16; ALL],
+    ready: &mut [u64; 16],
+    j: u16,
+)
+    requires { ⌜ Loaded (now task) × (j < 1024) × (getD (now order) j 0 < actions (taskIn (now task))) ⌝ }
+    requires { ⌜ (length (now ready) ≡ 16) × Looked (setsOf (now sets)) (now task) (getD (now order) j 0) (placeAt (now work) j) ⌝ }
+    ensures { λ _. ⌜ Settles (setsOf (now (sets .entry))) (now (task .entry)) (now (order .entry)) j (now (work .entry)) (now (ready .entry)) (now (work .exit)) (now (ready .exit)) ⌝ }
 {
-    let i = lists::wide(j);
-    let to = task::eff_start(task, i);
-    let k = unmet(sets, task, lists::wide(work[PLACE + i]), to);
-    work[PLACE + i] = k as u16;
+    let r = lists::wide(j);
+    let to = task::eff_start(task, lists::wide(order[r]));
+    let k = unmet(sets, task, lists::wide(work[PLACE + r]), to);
+    work[PLACE + r] = k as u16;
     if k < to {
         hang(work, lists::wide(task[k]), j);
     } else {
-        mark(ready, i);
+        mark(ready, r);
     }
 }
 
@@ -107,14 +117,15 @@ fn settle(sets: &[u64; 64], task: &[u16], work: &mut [u16; ALL], ready: &mut [u6
 fn settle_all(
     sets: &[u64; 64],
     task: &[u16],
+    order: &[u16; 1024],
     work: &mut [u16; ALL],
     ready: &mut [u64; 16],
     h: u16,
     from: usize,
     to: usize,
 )
-    requires { ⌜ Loaded (now task) × Sites (now task) (actions (taskIn (now task))) (setsOf (now sets)) (has (factsIn (now task) from to)) (now work) (now ready) h 1024 ⌝ }
-    ensures { λ _. ⌜ Settled (now (task .entry)) (setsOf (now (sets .entry))) (has (factsIn (now (task .entry)) from to)) (now (work .exit)) (now (ready .exit)) ⌝ }
+    requires { ⌜ Loaded (now task) × Sites (now task) (now order) (actions (taskIn (now task))) (setsOf (now sets)) (has (factsIn (now task) from to)) (now work) (now ready) h 1024 ⌝ }
+    ensures { λ _. ⌜ Settled (now (task .entry)) (now (order .entry)) (setsOf (now (sets .entry))) (has (factsIn (now (task .entry)) from to)) (now (work .exit)) (now (ready .exit)) ⌝ }
 {
     let mut j = h;
     let mut left: usize = 1024;
@@ -123,7 +134,7 @@ fn settle_all(
             return;
         }
         let after = work[LINK + j as usize];
-        settle(sets, task, work, ready, j);
+        settle(sets, task, order, work, ready, j);
         j = after;
         left -= 1;
     }
@@ -133,13 +144,14 @@ fn settle_all(
 fn wake(
     sets: &[u64; 64],
     task: &[u16],
+    order: &[u16; 1024],
     work: &mut [u16; ALL],
     ready: &mut [u64; 16],
     from: usize,
     to: usize,
 )
-    requires { ⌜ Loaded (now task) × Facts (now task) from to × Settled (now task) (setsOf (now sets)) (has (factsIn (now task) from to)) (now work) (now ready) ⌝ }
-    ensures { λ _. ⌜ Settled (now (task .entry)) (setsOf (now (sets .entry))) (has []) (now (work .exit)) (now (ready .exit)) ⌝ }
+    requires { ⌜ Loaded (now task) × Facts (now task) from to × Settled (now task) (now order) (setsOf (now sets)) (has (factsIn (now task) from to)) (now work) (now ready) ⌝ }
+    ensures { λ _. ⌜ Settled (now (task .entry)) (now (order .entry)) (setsOf (now (sets .entry))) (has []) (now (work .exit)) (now (ready .exit)) ⌝ }
     ensures { λ _. ⌜ (to ≤ from → now (ready .exit) ≡ now (ready .entry)) ⌝ }
 {
     let mut k = from;
@@ -148,7 +160,7 @@ fn wake(
         let h = work[f];
         work[f] = 65535;
         k += 1;
-        settle_all(sets, task, work, ready, h, k, to);
+        settle_all(sets, task, order, work, ready, h, k, to);
     }
 }
 
@@ -172,15 +184,21 @@ fn note(sets: &[u64; 64], task: &[u16], i: usize, first: &mut [u16; 4096]) -> bo
 }
 
 // Every action is ready, or waits for a precondition that is not reached.
-fn settle_each(sets: &[u64; 64], task: &[u16], work: &mut [u16; ALL], ready: &mut [u64; 16])
-    requires { ⌜ Loaded (now task) × (now work ≡ replicate 6144 65535) × (now ready ≡ replicate 16 0) ⌝ }
-    ensures { λ _. ⌜ Settled (now (task .entry)) (setsOf (now (sets .entry))) (has []) (now (work .exit)) (now (ready .exit)) ⌝ }
+fn settle_each(
+    sets: &[u64; 64],
+    task: &[u16],
+    order: &[u16; 1024],
+    work: &mut [u16; ALL],
+    ready: &mut [u64; 16],
+)
+    requires { ⌜ Loaded (now task) × ByCost (now task) (now order) × (now work ≡ replicate 6144 65535) × (now ready ≡ replicate 16 0) ⌝ }
+    ensures { λ _. ⌜ Settled (now (task .entry)) (now (order .entry)) (setsOf (now (sets .entry))) (has []) (now (work .exit)) (now (ready .exit)) ⌝ }
 {
     let n = task::actions(task);
     let mut j: usize = 0;
     while j < n {
-        work[PLACE + j] = task::pre_start(task, j) as u16;
-        settle(sets, task, work, ready, j as u16);
+        work[PLACE + j] = task::pre_start(task, lists::wide(order[j])) as u16;
+        settle(sets, task, order, work, ready, j as u16);
         j += 1;
     }
 }
@@ -201,27 +219,30 @@ pub fn run_forward(task: &[u16], first: &mut [u16; 4096], plan: &mut [u16; 1024]
     let goals = Goals::load(task);
     let count = goals.count;
     let mut s = State::initial(task);
+    let mut order = [0u16; 1024];
+    ranking::by_cost(task, &mut order);
     let mut work = [65535u16; ALL];
     let mut ready = [0u64; 16];
-    settle_each(&s.sets, task, &mut work, &mut ready);
+    settle_each(&s.sets, task, &order, &mut work, &mut ready);
     let mut steps: usize = 0;
     let mut g: usize = 0;
     // The effects of the action taken last wake in the turn after it: a step that ends a turn copies the state twice, any other three times.
     let mut from: usize = 0;
     let mut to: usize = 0;
     loop {
-        wake(&s.sets, task, &mut work, &mut ready, from, to);
+        wake(&s.sets, task, &order, &mut work, &mut ready, from, to);
         from = to;
         g = unmet(&s.sets, &goals.facts, g, count);
-        let i = lowest(&ready);
-        if g == count || 1024 <= i {
+        let rank = lowest(&ready);
+        if g == count || 1024 <= rank {
             return Ran {
                 steps,
                 solved: g == count,
                 state: s,
             };
         }
-        unmark(&mut ready, i);
+        unmark(&mut ready, rank);
+        let i = lists::wide(order[rank]);
         if note(&s.sets, task, i, first) {
             plan[steps] = i as u16;
             steps += 1;
