@@ -212,25 +212,23 @@ pub struct Ran {
 
 // The forward run of a loaded task: the actions in the front of `plan`, and the first achiever of each fact, where `first` holds
 // 65,535 before.
-pub fn run_forward(task: &[u16], first: &mut [u16; 4096], plan: &mut [u16; 1024]) -> Ran
-    requires { ⌜ Loaded (now task) × (now first ≡ replicate 4096 65535) × (length (now plan) ≡ 1024) ⌝ }
+pub fn run_forward(task: &[u16], order: &[u16; 1024], first: &mut [u16; 4096], plan: &mut [u16; 1024]) -> Ran
+    requires { ⌜ Loaded (now task) × ByCost (now task) (now order) × (now first ≡ replicate 4096 65535) × (length (now plan) ≡ 1024) ⌝ }
     ensures { λ r. ⌜ RanOf (taskIn (now (task .entry))) (now (plan .exit)) (now (first .exit)) r ⌝ }
 {
     let goals = Goals::load(task);
     let count = goals.count;
     let mut s = State::initial(task);
-    let mut order = [0u16; 1024];
-    ranking::by_cost(task, &mut order);
     let mut work = [65535u16; ALL];
     let mut ready = [0u64; 16];
-    settle_each(&s.sets, task, &order, &mut work, &mut ready);
+    settle_each(&s.sets, task, order, &mut work, &mut ready);
     let mut steps: usize = 0;
     let mut g: usize = 0;
     // The effects of the action taken last wake in the turn after it: a step that ends a turn copies the state twice, any other three times.
     let mut from: usize = 0;
     let mut to: usize = 0;
     loop {
-        wake(&s.sets, task, &order, &mut work, &mut ready, from, to);
+        wake(&s.sets, task, order, &mut work, &mut ready, from, to);
         from = to;
         g = unmet(&s.sets, &goals.facts, g, count);
         let rank = lowest(&ready);
@@ -265,7 +263,8 @@ fn forward_loaded(task: &[u16], plan: &mut [u16]) -> Found
 {
     let mut first = [65535u16; 4096];
     let mut run = [65535u16; 1024];
-    let ran = run_forward(task, &mut first, &mut run);
+    let order = [0u16; 1024];
+    let ran = run_forward(task, &order, &mut first, &mut run);
     let steps = ran.steps;
     let state = ran.state;
     let reached = state.reached() as u32;

@@ -6,20 +6,20 @@ use Prim.Native.Nat.{_<_}
 use native.Mathlib.Omega.{arith}
 use borrow.Author.Tests.{not-true, not-false, eq-eqb, ne-eqb, leb-true, leb-false}
 use Rattle.planning.specs.Runs.{act, holds, actions}
-use Rattle.task.specs.Task.{taskIn}
+use Rattle.task.specs.Task.{taskIn, Loaded}
 use Rattle.state.specs.Sets.{setsOf}
 use Rattle.forward.proofs.Looping.{Looping, left, looping-start, looping-goals, looping-solved, looping-none, chosen-below, looping-drop, drop-less, take-room, looping-take, take-less}
 use Rattle.forward.proofs.run_forward.Statement.{statement}
 use Rattle.forward.proofs.run_forward.Tie as tie
 
--- In each turn the effects of the action taken last wake what waits for them, and the lowest ready action leaves the ready ones. If it
+-- In each turn the effects of the action taken last wake what waits for them, and the action of lowest rank leaves the ready ones. If it
 -- adds a fact it is the definition's next action: it is taken, and the state grows. If not, it never will add one. Either way less is left.
 abbrev Inv-loop : tie.InvT-loop
-Inv-loop task first₀ plan₀ goals count s₀ work₀ ready₀ steps₀ g₀ from₀ to₀ first plan s work ready steps g from to =
-    Looping task goals first plan (s .sets) work ready steps g from to
+Inv-loop task order first₀ plan₀ goals count s₀ work₀ ready₀ steps₀ g₀ from₀ to₀ first plan s work ready steps g from to =
+    Looping task order goals first plan (s .sets) work ready steps g from to
 
 abbrev μ-loop : tie.MeasureT-loop
-μ-loop task first₀ plan₀ goals count s₀ work₀ ready₀ steps₀ g₀ from₀ to₀ first plan s work ready steps g from to = left task (s .sets) ready from to
+μ-loop task order first₀ plan₀ goals count s₀ work₀ ready₀ steps₀ g₀ from₀ to₀ first plan s work ready steps g from to = left task (s .sets) ready from to
 
 -- the points of the code, from the last to the first
 abbrev settle-each-to-initial : tie.After-settle-each Inv-loop μ-loop → tie.After-initial Inv-loop μ-loop
@@ -40,8 +40,11 @@ lowest-to-unmet c = c .before .before
 abbrev unmark-to-lowest : tie.After-unmark Inv-loop μ-loop → tie.After-lowest Inv-loop μ-loop
 unmark-to-lowest c = c .before .before .before .before
 
-abbrev note-to-unmark : tie.After-note Inv-loop μ-loop → tie.After-unmark Inv-loop μ-loop
-note-to-unmark c = c .before .before .before .before
+abbrev wide-to-unmark : tie.After-wide Inv-loop μ-loop → tie.After-unmark Inv-loop μ-loop
+wide-to-unmark c = c .before .before
+
+abbrev note-to-wide : tie.After-note Inv-loop μ-loop → tie.After-wide Inv-loop μ-loop
+note-to-wide c = c .before .before .before .before
 
 abbrev unmark-to-head : tie.After-unmark Inv-loop μ-loop → tie.At-loop Inv-loop μ-loop
 unmark-to-head c = wake-to-head (unmet-to-wake (lowest-to-unmet (unmark-to-lowest c)))
@@ -62,7 +65,7 @@ loop-holds : tie.Need-loop-holds Inv-loop μ-loop
 loop-holds c =
     let at-initial = settle-each-to-initial c in
     let p = at-initial .before .before .before .pre in
-    looping-start (p .0) (at-initial .before .load .ensures) (search needs) (p .1) (p .2) (at-initial .initial .ensures .0) (c .settle-each .ensures)
+    looping-start (p .0) (p .1) (at-initial .before .load .ensures) (search needs) (p .2) (p .3) (at-initial .initial .ensures .0) (c .settle-each .ensures)
 
 wake-requires : tie.Need-wake-requires Inv-loop μ-loop
 wake-requires c κs =
@@ -97,39 +100,51 @@ unmark-requires c κs =
 below : (c : tie.After-unmark Inv-loop μ-loop) → unmark-to-lowest c .lowest .result < 1024
 below c = leb-false 1024 (unmark-to-lowest c .lowest .result) (c .before .before .if2 .left)
 
-chosen : (c : tie.After-unmark Inv-loop μ-loop) → unmark-to-lowest c .lowest .result < actions (taskIn (start (unmark-to-head c) .args .task .now))
+mul-wide : tie.Need-mul-wide Inv-loop μ-loop
+mul-wide c = record { fits = omega (arith, below c) }
+
+element-copy-out-wide : tie.Need-element-copy-out-wide Inv-loop μ-loop
+element-copy-out-wide c = below c
+
+wide-requires : tie.Need-wide-requires Inv-loop μ-loop
+wide-requires c κs = tt
+
+chosen : (c : tie.After-wide Inv-loop μ-loop) → c .wide .result < actions (taskIn (start (unmark-to-head (wide-to-unmark c)) .args .task .now))
 chosen c =
-    let at-lowest = unmark-to-lowest c in
+    let at-unmark = wide-to-unmark c in
+    let at-lowest = unmark-to-lowest at-unmark in
     let at-unmet = lowest-to-unmet at-lowest in
     let at-wake = unmet-to-wake at-unmet in
-    chosen-below (wake-to-head at-wake .loop .inv) (at-wake .wake .ensures .0) (at-unmet .unmet .ensures) (c .before .before .before .if1 .left) (at-lowest .lowest .ensures) (below c)
+    chosen-below (wake-to-head at-wake .loop .inv) (at-wake .wake .ensures .0) (at-unmet .unmet .ensures) (at-unmark .before .before .before .if1 .left) (at-lowest .lowest .ensures)
+    (below at-unmark) (c .wide .ensures)
 
 note-requires : tie.Need-note-requires Inv-loop μ-loop
 note-requires c κs =
-    let at-unmark = c .before .before .before in
-    let I = unmark-to-head at-unmark .loop .inv in
-    (I .loaded, chosen at-unmark, I .going .first-long)
+    let at-wide = c .before .before .before in
+    let I = unmark-to-head (wide-to-unmark at-wide) .loop .inv in
+    (I .loaded, chosen at-wide, I .going .first-long)
 
 -- what the answer of the noting says
-fresh : (c : tie.Then3 Inv-loop μ-loop) → let at-unmark = note-to-unmark (c .before) in let head = unmark-to-head at-unmark in
-    holds (setsOf (head .loop .s .sets)) (act (taskIn (start head .args .task .now)) (unmark-to-lowest at-unmark .lowest .result) .eff) ≡ false
+fresh : (c : tie.Then3 Inv-loop μ-loop) → let at-wide = note-to-wide (c .before) in let head = unmark-to-head (wide-to-unmark at-wide) in
+    holds (setsOf (head .loop .s .sets)) (act (taskIn (start head .args .task .now)) (at-wide .wide .result) .eff) ≡ false
 fresh c = not-true _ (sym (c .before .note .ensures .adds) ∙ c .if3 .taken)
 
-stale : (c : tie.Else3 Inv-loop μ-loop) → let at-unmark = note-to-unmark (c .before) in let head = unmark-to-head at-unmark in
-    holds (setsOf (head .loop .s .sets)) (act (taskIn (start head .args .task .now)) (unmark-to-lowest at-unmark .lowest .result) .eff) ≡ true
+stale : (c : tie.Else3 Inv-loop μ-loop) → let at-wide = note-to-wide (c .before) in let head = unmark-to-head (wide-to-unmark at-wide) in
+    holds (setsOf (head .loop .s .sets)) (act (taskIn (start head .args .task .now)) (at-wide .wide .result) .eff) ≡ true
 stale c = not-false _ (sym (c .before .note .ensures .adds) ∙ c .if3 .left)
 
-room : (c : tie.Then3 Inv-loop μ-loop) → unmark-to-head (note-to-unmark (c .before)) .loop .steps < 1024
+room : (c : tie.Then3 Inv-loop μ-loop) → unmark-to-head (wide-to-unmark (note-to-wide (c .before))) .loop .steps < 1024
 room c =
-    let at-unmark = note-to-unmark (c .before) in
+    let at-wide = note-to-wide (c .before) in
+    let at-unmark = wide-to-unmark at-wide in
     let at-lowest = unmark-to-lowest at-unmark in
     let at-unmet = lowest-to-unmet at-lowest in
     let at-wake = unmet-to-wake at-unmet in
     take-room (wake-to-head at-wake .loop .inv) (at-wake .wake .ensures .0) (at-unmet .unmet .ensures) (at-unmark .before .before .before .if1 .left) (at-lowest .lowest .ensures) (below at-unmark)
-    (at-unmark .unmark .ensures) (c .before .note .ensures .noted) (fresh c)
+    (at-wide .wide .ensures) (at-unmark .unmark .ensures) (c .before .note .ensures .noted) (fresh c)
 
 cast-plan : tie.Need-cast-plan Inv-loop μ-loop
-cast-plan c = record { fits = omega arith }
+cast-plan c = record { fits = omega (arith, chosen (note-to-wide (c .before))) }
 
 mul-plan : tie.Need-mul-plan Inv-loop μ-loop
 mul-plan c = record { fits = omega (arith, room c) }
@@ -140,58 +155,60 @@ element-write-plan c = room c
 add-steps : tie.Need-add-steps Inv-loop μ-loop
 add-steps c = record { fits = omega (arith, room c) }
 
+-- the action is one of the loaded task
+named : (c : tie.After-wide Inv-loop μ-loop) → let t = start (unmark-to-head (wide-to-unmark c)) .args .task .now in Loaded t × (c .wide .result < actions (taskIn t))
+named c = (unmark-to-head (wide-to-unmark c) .loop .inv .loaded, chosen c)
+
 eff-start-requires : tie.Need-eff-start-requires Inv-loop μ-loop
-eff-start-requires c κs =
-    let at-unmark = note-to-unmark (c .before) in
-    (unmark-to-head at-unmark .loop .inv .loaded, chosen at-unmark)
+eff-start-requires c κs = named (note-to-wide (c .before))
 
 eff-end-requires : tie.Need-eff-end-requires Inv-loop μ-loop
-eff-end-requires c κs =
-    let at-unmark = note-to-unmark (c .before .before) in
-    (unmark-to-head at-unmark .loop .inv .loaded, chosen at-unmark)
+eff-end-requires c κs = named (note-to-wide (c .before .before))
 
 step-requires : tie.Need-step-requires Inv-loop μ-loop
-step-requires c κs =
-    let at-unmark = note-to-unmark (c .before .before .before) in
-    (unmark-to-head at-unmark .loop .inv .loaded, chosen at-unmark)
+step-requires c κs = named (note-to-wide (c .before .before .before))
 
 loop-less : tie.Need-loop-less Inv-loop μ-loop
 loop-less c =
-    let at-unmark = note-to-unmark (step-to-note c) in
+    let at-wide = note-to-wide (step-to-note c) in
+    let at-unmark = wide-to-unmark at-wide in
     let at-lowest = unmark-to-lowest at-unmark in
     let at-unmet = lowest-to-unmet at-lowest in
     let at-wake = unmet-to-wake at-unmet in
     take-less (wake-to-head at-wake .loop .inv) (at-wake .wake .ensures .0) (at-unmet .unmet .ensures) (at-unmark .before .before .before .if1 .left) (at-lowest .lowest .ensures) (below at-unmark)
-    (at-unmark .unmark .ensures) (step-to-note c .note .ensures .noted) (fresh (c .before .before .before))
+    (at-wide .wide .ensures) (at-unmark .unmark .ensures) (step-to-note c .note .ensures .noted) (fresh (c .before .before .before))
     _ (c .step .ensures .0) (c .before .before .eff-start .ensures) (c .before .eff-end .ensures)
 
 loop-again : tie.Need-loop-again Inv-loop μ-loop
 loop-again c =
-    let at-unmark = note-to-unmark (step-to-note c) in
+    let at-wide = note-to-wide (step-to-note c) in
+    let at-unmark = wide-to-unmark at-wide in
     let at-lowest = unmark-to-lowest at-unmark in
     let at-unmet = lowest-to-unmet at-lowest in
     let at-wake = unmet-to-wake at-unmet in
     looping-take (wake-to-head at-wake .loop .inv) (at-wake .wake .ensures .0) (at-unmet .unmet .ensures) (at-unmark .before .before .before .if1 .left) (at-lowest .lowest .ensures) (below at-unmark)
-    (at-unmark .unmark .ensures) (step-to-note c .note .ensures .noted) (fresh (c .before .before .before))
+    (at-wide .wide .ensures) (at-unmark .unmark .ensures) (step-to-note c .note .ensures .noted) (fresh (c .before .before .before))
     _ (c .step .ensures .0) (c .before .before .eff-start .ensures) (c .before .eff-end .ensures)
 
 loop-less-2 : tie.Need-loop-less-2 Inv-loop μ-loop
 loop-less-2 c =
-    let at-unmark = note-to-unmark (c .before) in
+    let at-wide = note-to-wide (c .before) in
+    let at-unmark = wide-to-unmark at-wide in
     let at-lowest = unmark-to-lowest at-unmark in
     let at-unmet = lowest-to-unmet at-lowest in
     let at-wake = unmet-to-wake at-unmet in
     drop-less (wake-to-head at-wake .loop .inv) (at-wake .wake .ensures .0) (at-unmet .unmet .ensures) (at-unmark .before .before .before .if1 .left) (at-lowest .lowest .ensures) (below at-unmark)
-    (at-unmark .unmark .ensures) (c .before .note .ensures .noted) (stale c) (at-wake .wake .ensures .1)
+    (at-wide .wide .ensures) (at-unmark .unmark .ensures) (c .before .note .ensures .noted) (stale c) (at-wake .wake .ensures .1)
 
 loop-again-2 : tie.Need-loop-again-2 Inv-loop μ-loop
 loop-again-2 c =
-    let at-unmark = note-to-unmark (c .before) in
+    let at-wide = note-to-wide (c .before) in
+    let at-unmark = wide-to-unmark at-wide in
     let at-lowest = unmark-to-lowest at-unmark in
     let at-unmet = lowest-to-unmet at-lowest in
     let at-wake = unmet-to-wake at-unmet in
     looping-drop (wake-to-head at-wake .loop .inv) (at-wake .wake .ensures .0) (at-unmet .unmet .ensures) (at-unmark .before .before .before .if1 .left) (at-lowest .lowest .ensures) (below at-unmark)
-    (at-unmark .unmark .ensures) (c .before .note .ensures .noted) (stale c)
+    (at-wide .wide .ensures) (at-unmark .unmark .ensures) (c .before .note .ensures .noted) (stale c)
 
 pub run-forward-spec : {M : Type 1} → statement M
 run-forward-spec =
@@ -208,6 +225,9 @@ run-forward-spec =
     lowest-requires
     returns
     unmark-requires
+    mul-wide
+    element-copy-out-wide
+    wide-requires
     note-requires
     cast-plan
     mul-plan

@@ -10,11 +10,11 @@ use Rattle.forward.proofs.settle_all.Tie as tie
 
 -- Each turn takes the front action off the chain that is left and settles it; a chain has at most 1,024 actions.
 abbrev Inv-loop : tie.InvT-loop
-Inv-loop sets task work₀ ready₀ h from to j₀ left₀ work ready j left =
-    Sites task (actions (taskIn task)) (setsOf sets) (has (factsIn task from to)) work ready j left
+Inv-loop sets task order work₀ ready₀ h from to j₀ left₀ work ready j left =
+    Sites task order (actions (taskIn task)) (setsOf sets) (has (factsIn task from to)) work ready j left
 
 abbrev μ-loop : tie.MeasureT-loop
-μ-loop sets task work₀ ready₀ h from to j₀ left₀ work ready j left = left
+μ-loop sets task order work₀ ready₀ h from to j₀ left₀ work ready j left = left
 
 loop-holds : tie.Need-loop-holds Inv-loop μ-loop
 loop-holds c = c .before .pre .1
@@ -39,7 +39,7 @@ settle-requires c κs =
     let head = c .before .before .before .before .before in
     let S = head .loop .inv in
     let b = front S (omega arith) .below in
-    (head .before .before .pre .0, b, S .ready-long, S .places (head .loop .j) b)
+    ((head .before .before .pre .0, omega arith, S .named (head .loop .j) b), (S .ready-long, S .places (head .loop .j) b))
 
 sub-left : tie.Need-sub-left Inv-loop μ-loop
 sub-left c = search needs

@@ -1,10 +1,11 @@
 use borrow.Author.Needs.{needs}
-use mathlib.Core.Path.{_≡_}
+use mathlib.Core.Path.{_≡_, ap, _∙_}
 use mathlib.Core.List.{[]}
-use Prim.Native.Nat.{_+_, _*_, _-_, _≤_}
+use Prim.Native.Nat.{ℕ, _+_, _*_, _-_, _<_, _≤_}
 use native.Mathlib.Omega.{arith}
+use lib.ListN.{getD}
 use Rattle.planning.specs.Runs.{has, actions}
-use Rattle.task.specs.Task.{taskIn}
+use Rattle.task.specs.Task.{preAt, taskIn}
 use Rattle.state.specs.Sets.{setsOf}
 use Rattle.state.proofs.Listed.{Listed}
 use Rattle.state.proofs.Listing.{loaded-listed}
@@ -14,16 +15,35 @@ use Rattle.forward.proofs.settle_each.Tie as tie
 
 -- The actions below j are settled; the next one is on no chain, so it can be put in front of what is left to settle.
 abbrev Inv-loop : tie.InvT-loop
-Inv-loop sets task work₀ ready₀ n j₀ work ready j = (n ≡ actions (taskIn task)) × (j ≤ n) × Entered task (setsOf sets) (has []) work ready j
+Inv-loop sets task order work₀ ready₀ n j₀ work ready j = (n ≡ actions (taskIn task)) × (j ≤ n) × Entered task order (setsOf sets) (has []) work ready j
 
 abbrev μ-loop : tie.MeasureT-loop
-μ-loop sets task work₀ ready₀ n j₀ work ready j = n - j
+μ-loop sets task order work₀ ready₀ n j₀ work ready j = n - j
 
 abbrev start : tie.At-loop Inv-loop μ-loop → tie.Start Inv-loop μ-loop
 start c = c .before .before .before
 
-listed : (c : tie.In-loop Inv-loop μ-loop) → Listed (start (c .before) .args .task .now) (c .before .loop .j)
-listed c = loaded-listed _ (start (c .before) .pre .0) (c .before .loop .j) (omega (arith, c .before .loop .inv .0))
+abbrev order-at : tie.At-loop Inv-loop μ-loop → ℕ
+order-at c = getD (start c .args .order .now) (c .loop .j) 0
+
+-- a rank below the number of actions names one
+below : (c : tie.In-loop Inv-loop μ-loop) → c .before .loop .j < actions (taskIn (start (c .before) .args .task .now))
+below c = omega (arith, c .before .loop .inv .0)
+
+near : (c : tie.In-loop Inv-loop μ-loop) → c .before .loop .j < 1024
+near c = omega (arith, below c, start (c .before) .pre .0 .formed .actions-max)
+
+named : (c : tie.In-loop Inv-loop μ-loop) → order-at (c .before) < actions (taskIn (start (c .before) .args .task .now))
+named c = start (c .before) .pre .1 .named _ (below c)
+
+listed : (c : tie.In-loop Inv-loop μ-loop) → Listed (start (c .before) .args .task .now) (order-at (c .before))
+listed c = loaded-listed _ (start (c .before) .pre .0) _ (named c)
+
+abbrev pre-start-to-in : tie.After-pre-start Inv-loop μ-loop → tie.In-loop Inv-loop μ-loop
+pre-start-to-in c = c .before .before .before
+
+place : (c : tie.After-pre-start Inv-loop μ-loop) → c .pre-start .result ≡ preAt (start (pre-start-to-in c .before) .args .task .now) (order-at (pre-start-to-in c .before))
+place c = c .pre-start .ensures ∙ ap (preAt (start (pre-start-to-in c .before) .args .task .now)) (c .before .wide .ensures)
 
 actions-requires : tie.Need-actions-requires Inv-loop μ-loop
 actions-requires c κs = search needs
@@ -31,35 +51,47 @@ actions-requires c κs = search needs
 loop-holds : tie.Need-loop-holds Inv-loop μ-loop
 loop-holds c =
     let p = c .before .before .pre in
-    (c .actions .ensures, omega arith, entered-start (p .1) (p .2))
+    (c .actions .ensures, omega arith, entered-start (p .2) (p .3))
+
+mul-wide : tie.Need-mul-wide Inv-loop μ-loop
+mul-wide c = record { fits = omega (arith, near c) }
+
+element-copy-out-wide : tie.Need-element-copy-out-wide Inv-loop μ-loop
+element-copy-out-wide c = near c
+
+wide-requires : tie.Need-wide-requires Inv-loop μ-loop
+wide-requires c κs = search needs
 
 pre-start-requires : tie.Need-pre-start-requires Inv-loop μ-loop
-pre-start-requires c κs = (start (c .before) .pre .0, omega (arith, c .before .loop .inv .0))
+pre-start-requires c κs =
+    let inside = c .before .before in
+    (start (inside .before) .pre .0, rw (c .wide .ensures) (named inside))
 
 cast-work : tie.Need-cast-work Inv-loop μ-loop
 cast-work c =
-    let head = c .before .before in
-    record { fits = omega (arith, c .pre-start .ensures, head .before .before .shared-slice-known .given (4 * (1361 + head .loop .j) + 1)) }
+    let head = pre-start-to-in c .before in
+    record { fits = omega (arith, place c, head .before .before .shared-slice-known .given (4 * (1361 + order-at head) + 1)) }
 
 add-work : tie.Need-add-work Inv-loop μ-loop
-add-work c = record { fits = omega (arith, listed (c .before) .near) }
+add-work c = record { fits = omega (arith, near (pre-start-to-in c)) }
 
 mul-work : tie.Need-mul-work Inv-loop μ-loop
-mul-work c = record { fits = omega (arith, listed (c .before) .near) }
+mul-work c = record { fits = omega (arith, near (pre-start-to-in c)) }
 
 element-write-work : tie.Need-element-write-work Inv-loop μ-loop
-element-write-work c = omega (arith, listed (c .before) .near)
+element-write-work c = omega (arith, near (pre-start-to-in c))
 
 cast-settle : tie.Need-cast-settle Inv-loop μ-loop
-cast-settle c = record { fits = omega (arith, listed (c .before .before .before) .near) }
+cast-settle c = record { fits = omega (arith, near (pre-start-to-in (c .before .before))) }
 
 settle-requires : tie.Need-settle-requires Inv-loop μ-loop
 settle-requires c κs =
-    let at-pre-start = c .before .before in
-    let L = listed (at-pre-start .before) in
-    let head = at-pre-start .before .before in
-    let I = head .loop .inv in
-    (start head .pre .0, omega (arith, I .0), I .2 .sites .ready-long, entered-place (I .2) (L .near) _ (at-pre-start .pre-start .ensures) (L .pre-below))
+    let inside = pre-start-to-in (c .before .before) in
+    let L = listed inside in
+    let E = inside .before .loop .inv .2 in (
+      (start (inside .before) .pre .0, near inside, named inside),
+      (E .sites .ready-long, entered-place E (near inside) (named inside) _ (place (c .before .before)) (L .pre-below)),
+    )
 
 add-j : tie.Need-add-j Inv-loop μ-loop
 add-j c = search needs
@@ -69,10 +101,9 @@ loop-less c = search needs
 
 loop-again : tie.Need-loop-again Inv-loop μ-loop
 loop-again c =
-    let at-pre-start = c .before .before .before in
-    let L = listed (at-pre-start .before) in
-    let I = at-pre-start .before .before .loop .inv in
-    (I .0, omega arith, entered-turn (I .2) (L .near) _ (at-pre-start .pre-start .ensures) (L .pre-below) _ _ (c .settle .ensures))
+    let inside = pre-start-to-in (c .before .before .before) in
+    let I = inside .before .loop .inv in
+    (I .0, omega arith, entered-turn (I .2) (near inside) (named inside) _ (place (c .before .before .before)) (listed inside .pre-below) _ _ (c .settle .ensures))
 
 returns : tie.Need-returns Inv-loop μ-loop
 returns c =
@@ -89,6 +120,9 @@ settle-each-spec =
     μ-loop
     actions-requires
     loop-holds
+    mul-wide
+    element-copy-out-wide
+    wide-requires
     pre-start-requires
     cast-work
     add-work

@@ -14,10 +14,10 @@ use Rattle.forward.proofs.wake.Tie as tie
 
 -- The chains of the facts from place k on are still owed; a turn takes one of them off and settles its actions.
 abbrev Inv-loop : tie.InvT-loop
-Inv-loop sets task work₀ ready₀ from to k₀ work ready k = (from ≤ k) × (k ≤ to) × Settled task (setsOf sets) (has (factsIn task k to)) work ready × (to ≤ from → ready ≡ ready₀)
+Inv-loop sets task order work₀ ready₀ from to k₀ work ready k = (from ≤ k) × (k ≤ to) × Settled task order (setsOf sets) (has (factsIn task k to)) work ready × (to ≤ from → ready ≡ ready₀)
 
 abbrev μ-loop : tie.MeasureT-loop
-μ-loop sets task work₀ ready₀ from to k₀ work ready k = to - k
+μ-loop sets task order work₀ ready₀ from to k₀ work ready k = to - k
 
 abbrev facts : (c : tie.At-loop Inv-loop μ-loop) → Facts (c .before .before .args .task .now) (c .before .before .args .from) (c .before .before .args .to)
 facts c = c .before .before .pre .1
