@@ -6,18 +6,20 @@ use answers::Refusal;
 use state::Goals;
 use state::State;
 ghost use mathlib.Core.Path.{_≡_};
+ghost use mathlib.Core.Bool.{not};
 ghost use mathlib.Core.List.{[]};
 ghost use mathlib.Core.Option.{none};
-ghost use Prim.Native.Nat.{_<_, _≤_};
+ghost use Prim.Native.Nat.{_/_, _%_, _<_, _≤_};
 ghost use lib.ListN.{length, getD, replicate};
 ghost use lib.Dec.{T};
+ghost use Rattle.planning.specs.Basics.{oneIf};
 ghost use Rattle.planning.specs.Record.{recordCheck};
 ghost use Rattle.planning.specs.Runs.{has, actions, act};
 ghost use Rattle.planning.specs.Calls.{forwardCall, forwardList};
 ghost use Rattle.task.specs.Task.{factsIn, taskIn, Loaded};
 ghost use Rattle.state.specs.Sets.{setsOf, Facts};
-ghost use Rattle.forward.specs.Waiting.{Unmet, member, LowestIn, Lowest, With, Without, hung, placeAt, Looked, Settles, Sites, Settled, ByCost, Notes};
-ghost use Rattle.forward.specs.Running.{RanOf};
+ghost use Rattle.forward.specs.Waiting.{Unmet, member, LowestIn, Lowest, With, Without, hung, placeAt, Looked, Settles, Sites, Settled, ByCost};
+ghost use Rattle.forward.specs.Running.{lacking, RanOf};
 ghost use Rattle.forward.specs.Answers.{foundOf, forwardOf, forwardIn};
 
 // The first place from `from` up to `to` whose fact is not in the state; `to` if each is.
@@ -164,23 +166,27 @@ fn wake(
     }
 }
 
-// Action i is the first to reach those of its effects that are not in the state. True if there is one.
-fn note(sets: &[u64; 64], task: &[u16], i: usize, first: &mut [u16; 4096]) -> bool
-    requires { ⌜ Loaded (now task) × (i < actions (taskIn (now task))) × (length (now first) ≡ 4096) ⌝ }
-    ensures { λ r. ⌜ Notes (setsOf (now (sets .entry))) (act (taskIn (now (task .entry))) i) i (now (first .entry)) (now (first .exit)) r ⌝ }
+// 1 if fact f is not in the state, else 0: a number, so that the compiler makes no branch of it.
+fn lacks(sets: &[u64; 64], f: usize) -> u64
+    requires { ⌜ f < 4096 ⌝ }
+    ensures { λ r. ⌜ r ≡ oneIf (not (setsOf (now (sets .entry)) (f / 64) (f % 64))) ⌝ }
 {
-    let to = task::eff_end(task, i);
-    let mut k = task::eff_start(task, i);
-    let mut new = false;
-    while k < to {
-        let f = lists::wide(task[k]);
-        if !state::holds(sets, f) {
-            first[f] = i as u16;
-            new = true;
-        }
-        k += 1;
+    if state::holds(sets, f) { 0 } else { 1 }
+}
+
+// The effects of action i that are not in the state, a bit each.
+fn added(sets: &[u64; 64], task: &[u16], i: usize) -> u64
+    requires { ⌜ Loaded (now task) × (i < actions (taskIn (now task))) ⌝ }
+    ensures { λ r. ⌜ r ≡ lacking (setsOf (now (sets .entry))) (act (taskIn (now (task .entry))) i .eff) ⌝ }
+{
+    let from = task::eff_start(task, i);
+    let mut k = task::eff_end(task, i);
+    let mut bits: u64 = 0;
+    while from < k {
+        k -= 1;
+        bits = lacks(sets, lists::wide(task[k])) + 2 * bits;
     }
-    new
+    bits
 }
 
 // Every action is ready, or waits for a precondition that is not reached.
@@ -210,25 +216,27 @@ pub struct Ran {
     pub state: State,
 }
 
-// The forward run of a loaded task: the actions in the front of `plan`, and the first achiever of each fact, where `first` holds
-// 65,535 before.
-pub fn run_forward(task: &[u16], order: &[u16; 1024], first: &mut [u16; 4096], plan: &mut [u16; 1024]) -> Ran
-    requires { ⌜ Loaded (now task) × ByCost (now task) (now order) × (now first ≡ replicate 4096 65535) × (length (now plan) ≡ 1024) ⌝ }
-    ensures { λ r. ⌜ RanOf (taskIn (now (task .entry))) (now (plan .exit)) (now (first .exit)) r ⌝ }
+// The forward run of a loaded task: the actions in the front of `plan`, and in the front of `marks` what each of them added, a bit for
+// each of its effects.
+pub fn run_forward(task: &[u16], marks: &mut [u16; 1024], plan: &mut [u16; 1024]) -> Ran
+    requires { ⌜ Loaded (now task) × (length (now marks) ≡ 1024) × (length (now plan) ≡ 1024) ⌝ }
+    ensures { λ r. ⌜ RanOf (taskIn (now (task .entry))) (now (plan .exit)) (now (marks .exit)) r ⌝ }
 {
     let goals = Goals::load(task);
     let count = goals.count;
     let mut s = State::initial(task);
+    let mut order = [0u16; 1024];
+    ranking::by_cost(task, &mut order);
     let mut work = [65535u16; ALL];
     let mut ready = [0u64; 16];
-    settle_each(&s.sets, task, order, &mut work, &mut ready);
+    settle_each(&s.sets, task, &order, &mut work, &mut ready);
     let mut steps: usize = 0;
     let mut g: usize = 0;
     // The effects of the action taken last wake in the turn after it: a step that ends a turn copies the state twice, any other three times.
     let mut from: usize = 0;
     let mut to: usize = 0;
     loop {
-        wake(&s.sets, task, order, &mut work, &mut ready, from, to);
+        wake(&s.sets, task, &order, &mut work, &mut ready, from, to);
         from = to;
         g = unmet(&s.sets, &goals.facts, g, count);
         let rank = lowest(&ready);
@@ -241,8 +249,10 @@ pub fn run_forward(task: &[u16], order: &[u16; 1024], first: &mut [u16; 4096], p
         }
         unmark(&mut ready, rank);
         let i = lists::wide(order[rank]);
-        if note(&s.sets, task, i, first) {
+        let bits = added(&s.sets, task, i);
+        if bits != 0 {
             plan[steps] = i as u16;
+            marks[steps] = bits as u16;
             steps += 1;
             from = task::eff_start(task, i);
             to = task::eff_end(task, i);
@@ -261,10 +271,9 @@ fn forward_loaded(task: &[u16], plan: &mut [u16]) -> Found
     requires { ⌜ Loaded (now task) ⌝ }
     ensures { λ r. ⌜ (foundOf r ≡ forwardOf (taskIn (now (task .entry))) (length (now (plan .entry)))) × (now (plan .exit) ≡ forwardIn (taskIn (now (task .entry))) (length (now (plan .entry)))) ⌝ }
 {
-    let mut first = [65535u16; 4096];
+    let mut marks = [0u16; 1024];
     let mut run = [65535u16; 1024];
-    let order = [0u16; 1024];
-    let ran = run_forward(task, &order, &mut first, &mut run);
+    let ran = run_forward(task, &mut marks, &mut run);
     let steps = ran.steps;
     let state = ran.state;
     let reached = state.reached() as u32;
