@@ -17,7 +17,7 @@ use Rattle.planning.specs.Record.{Action}
 use Rattle.task.specs.Task.{factOf, factsIn, preAt, effAt, actionIn, taskIn}
 use Rattle.state.proofs.Listed.{Listed}
 use Rattle.state.proofs.Effects.{factsIn-cons, factsIn-none}
-use Rattle.forward.specs.Waiting.{reaches, Passing, Looked, Noted}
+use Rattle.forward.specs.Waiting.{reaches, Passing, Looked}
 
 module _ (l : List ℕ) where
   at-has′ : (n a b v d : ℕ) → a + n ≡ b → b ≤ length l → T (has (factsIn l a b) v d) → (x : ℕ) × (a ≤ x) × (x < b) × (v ≡ getD l x 0 / 64) × (d ≡ getD l x 0 % 64)
@@ -105,101 +105,6 @@ passing-more s l a b k r P Q = record { from = omega (arith, P .from, Q .from); 
     go : (x : ℕ) → a ≤ x → x < r → Dec (x < k) → T (reaches s (getD l x 0))
     go x p q (yes h) = P .passed x p h
     go x p q (no h) = Q .passed x (omega arith) q
-
--- the noting of effects: those at the places from a up to k are noted
-pub record Noting (s : State) (l : List ℕ) (a b i : ℕ) (first₀ first : List ℕ) (k : ℕ) (new : Bool) : Type 0 where
-  pub from : a ≤ k
-  pub to : k ≤ b
-  pub long : length first ≡ 4096
-  pub noted : (x : ℕ) → a ≤ x → x < k → reaches s (getD l x 0) ≡ false → getD first (getD l x 0) 0 ≡ i
-  pub kept : (f : ℕ) → ((x : ℕ) → a ≤ x → x < k → getD l x 0 ≡ f → T (reaches s f)) → getD first f 0 ≡ getD first₀ f 0
-  pub some′ : new ≡ true → (x : ℕ) × (a ≤ x) × (x < k) × (reaches s (getD l x 0) ≡ false)
-  pub none′ : new ≡ false → (x : ℕ) → a ≤ x → x < k → T (reaches s (getD l x 0))
-
-module _ (s : State) (l : List ℕ) (a b i : ℕ) (first₀ : List ℕ) where
-  pub noting-start : (k : ℕ) → k ≡ a → a ≤ b → length first₀ ≡ 4096 → Noting s l a b i first₀ first₀ k false
-  noting-start k e h n = record {
-    from = omega arith;
-    to = omega arith;
-    long = n;
-    noted = λ x p q _. absurd (omega arith);
-    kept = λ f _. refl;
-    some′ = λ e. let z : _≡_ {A = ℕ} 0 1 = cc in absurd (omega arith);
-    none′ = λ _ x p q. absurd (omega arith);
-  }
-
-  module _ (first : List ℕ) (k f : ℕ) (new : Bool) (N : Noting s l a b i first₀ first k new) (h : k < b) (e : f ≡ getD l k 0) where
-    noted-new : f < 4096 → s (f / 64) (f % 64) ≡ false → Noting s l a b i first₀ (set first f i) (k + 1) true
-    unfolding reaches
-    noted-new g t = record {
-      from = omega (arith, N .from);
-      to = omega arith;
-      long = simp length-set (N .long);
-      noted = λ x p q z. go x p q z (ℕ-discrete (getD l x 0) f);
-      kept = λ y z. getD-set-other first f y i 0 (λ q. subst T t (subst (λ u. T (reaches s u)) q (z k (N .from) (omega arith) (sym e ∙ sym q)))) ∙ N .kept y (λ x p q. z x p (omega arith));
-      some′ = λ _. (k, N .from, omega arith, rw (← e) t);
-      none′ = λ c. let z : _≡_ {A = ℕ} 0 1 = cc in absurd (omega arith);
-    }
-      where
-        go : (x : ℕ) → a ≤ x → x < k + 1 → reaches s (getD l x 0) ≡ false → Dec (getD l x 0 ≡ f) → getD (set first f i) (getD l x 0) 0 ≡ i
-        go x p q z (yes j) = rw j (getD-set-same first f i 0 (omega (arith, N .long)))
-        go x p q z (no j) = getD-set-other first f (getD l x 0) i 0 j ∙ N .noted x p (below x q j) z
-          where
-            below : (x : ℕ) → x < k + 1 → getD l x 0 ≢ f → x < k
-            below x q j = elim (ℕ-discrete x k) [ yes u ↦ absurd (j (rw u (sym e))) | no u ↦ omega arith ]
-
-    noted-old : s (f / 64) (f % 64) ≡ true → Noting s l a b i first₀ first (k + 1) new
-    unfolding reaches
-    noted-old t = record {
-      from = omega (arith, N .from);
-      to = omega arith;
-      long = N .long;
-      noted = λ x p q z. N .noted x p (below x q (λ u. let y : _≡_ {A = ℕ} 0 1 = cc (held x u) in omega arith)) z;
-      kept = λ y z. N .kept y (λ x p q. z x p (omega arith));
-      some′ = λ c. let r = N .some′ c in (r .0, r .1, omega (arith, r .2), r .3);
-      none′ = λ c x p q. go c x p q (ℕ-discrete x k);
-    }
-      where
-        held : (x : ℕ) → x ≡ k → reaches s (getD l x 0) ≡ true
-        held x u = rw (u, ← e) t
-
-        below : (x : ℕ) → x < k + 1 → x ≢ k → x < k
-        below x q u = omega arith
-
-        go : new ≡ false → (x : ℕ) → a ≤ x → x < k + 1 → Dec (x ≡ k) → T (reaches s (getD l x 0))
-        go c x p q (yes u) = rw (held x u) tt
-        go c x p q (no u) = N .none′ c x p (omega arith)
-
-    pub noting-new : f < 4096 → s (f / 64) (f % 64) ≡ false → (first′ : List ℕ) (new′ : Bool) → first′ ≡ set first f i → new′ ≡ true → Noting s l a b i first₀ first′ (k + 1) new′
-    noting-new g t first′ new′ p q = rw (p, q) (noted-new g t)
-
-    pub noting-old : s (f / 64) (f % 64) ≡ true → (first′ : List ℕ) (new′ : Bool) → first′ ≡ first → new′ ≡ new → Noting s l a b i first₀ first′ (k + 1) new′
-    noting-old t first′ new′ p q = rw (p, q) (noted-old t)
-
-  module _ (first : List ℕ) (k : ℕ) (new : Bool) (N : Noting s l a b i first₀ first k new) (h : b ≤ k) (q : b ≤ length l) where
-    to-end : k ≡ b
-    to-end = omega (arith, N .to)
-
-    pub noting-end : Noted s (has (factsIn l a b)) i first₀ first
-    unfolding reaches
-    noting-end = record {
-      long = N .long;
-      noted = λ f g t z. let r = at-has l a b (omega (arith, N .from, N .to)) q (f / 64) (f % 64) t in
-          let u : f ≡ getD l (r .0) 0 = omega (arith, r .3, r .4) in
-          rw u (N .noted (r .0) (r .1) (omega (arith, r .2)) (rw (← u) z));
-      kept = λ f g z. N .kept f (λ x p c u. z (rw (← u) (has-at l a b (omega (arith, N .from, N .to)) q x p (omega (arith, to-end)))));
-    }
-
-    pub noting-answer : new ≡ not (holds s (factsIn l a b))
-    unfolding reaches
-    noting-answer = go new refl
-      where
-        go : (c : Bool) → new ≡ c → c ≡ not (holds s (factsIn l a b))
-        go true e =
-            let r = N .some′ e in
-            let o : a ≤ b = omega (arith, N .from, N .to) in
-            rw (F→false (holds s (factsIn l a b)) (λ t. subst T (r .3) (holds-each l a b o q s t (r .0) (r .1) (omega (arith, r .2, to-end))))) refl
-        go false e = rw (T→true (holds s (factsIn l a b)) (each-holds l a b (omega (arith, N .from, N .to)) q s (λ x p c. N .none′ e x p (omega (arith, to-end))))) refl
 
 -- what the first unmet precondition of action i says
 module _ (s : State) (task : List ℕ) (i k : ℕ) (L : Listed task i) (P : Looked s task i k) where
