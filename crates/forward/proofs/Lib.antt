@@ -1,6 +1,5 @@
 pub mod Bits
 pub mod Places
-pub mod Adding
 pub mod Chains
 pub mod Running
 pub mod Looping

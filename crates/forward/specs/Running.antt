@@ -1,31 +1,30 @@
 -- What the forward run comes to.
 use mathlib.Core.Path.{_≡_}
-use mathlib.Core.Bool.{not}
-use mathlib.Core.List.{List, [], _∷_}
-use Prim.Native.Nat.{ℕ, _+_, _*_, _<_, _≤_}
+use mathlib.Core.List.{List}
+use mathlib.Core.Option.{Option, none, some}
+use Prim.Native.Nat.{ℕ, _/_, _%_, _<_, _≤_}
 use lib.ListN.{length, getD, take}
-use Rattle.planning.specs.Basics.{oneIf}
-use Rattle.planning.specs.Record.{Fact, Task}
-use Rattle.planning.specs.Runs.{State, act, initial, run, relaxed}
-use Rattle.planning.specs.Relaxed.{forwardRun, forwardEnd, reachesGoals}
+use Rattle.planning.specs.Record.{Task}
+use Rattle.planning.specs.Runs.{act, initial}
+use Rattle.planning.specs.Relaxed.{forwardRun, forwardEnd, reachesGoals, firstAchiever}
 use Rattle.state.specs.Sets.{setsOf}
 use Rattle.forward.specs.declared.Ran.{Ran}
 
--- which of the facts the state lacks: a bit for each, the first one lowest
-unfoldable pub lacking : State → List Fact → ℕ
-lacking s [] = 0
-lacking s (f ∷ fs) = oneIf (not (s (f .var) (f .val))) + 2 * lacking s fs
+-- the number that stands for a first achiever: 65,535 for none
+unfoldable pub achiever : Option ℕ → ℕ
+achiever none = 65535
+achiever (some i) = i
 
--- for each entry of the list l the effects that it adds, those that the state before it lacks
-unfoldable pub Marked : Task → List ℕ → List ℕ → Type 0
-Marked t l marks = (p : ℕ) → p < length l → getD marks p 0 ≡ lacking (run (act t) relaxed (take p l) (initial t)) (act t (getD l p 0) .eff)
+-- the first achievers of the 4,096 facts by the list l
+unfoldable pub Achieved : Task → List ℕ → List ℕ → Type 0
+Achieved t l first = (f : ℕ) → f < 4096 → getD first f 0 ≡ achiever (firstAchiever (act t) l (initial t) (f / 64) (f % 64))
 
--- the run in the front of the list, the marks of its entries, and what is said of both
-pub record RanOf (t : Task) (plan marks : List ℕ) (r : Ran) : Type 0 where
+-- the run in the front of the list, the first achievers, and what is said of both
+pub record RanOf (t : Task) (plan first : List ℕ) (r : Ran) : Type 0 where
   pub list : take (r .steps) plan ≡ forwardRun t
   pub steps : r .steps ≡ length (forwardRun t)
   pub few : r .steps ≤ 1024
   pub long : length plan ≡ 1024
   pub solved : r .solved ≡ reachesGoals t
   pub state : setsOf (r .state .sets) ≡ forwardEnd t
-  pub marked : Marked t (forwardRun t) marks
+  pub achieved : Achieved t (forwardRun t) first

@@ -6,10 +6,9 @@ use answers::Refusal;
 use state::Goals;
 use state::State;
 ghost use mathlib.Core.Path.{_≡_};
-ghost use mathlib.Core.Bool.{not};
 ghost use mathlib.Core.List.{[]};
 ghost use mathlib.Core.Option.{none};
-ghost use Prim.Native.Nat.{_/_, _%_, _<_, _≤_};
+ghost use Prim.Native.Nat.{_+_, _-_, _*_, _/_, _%_, _<_, _≤_};
 ghost use lib.ListN.{length, getD, replicate};
 ghost use lib.Dec.{T};
 ghost use Rattle.planning.specs.Basics.{oneIf};
@@ -18,8 +17,8 @@ ghost use Rattle.planning.specs.Runs.{has, actions, act};
 ghost use Rattle.planning.specs.Calls.{forwardCall, forwardList};
 ghost use Rattle.task.specs.Task.{factsIn, taskIn, Loaded};
 ghost use Rattle.state.specs.Sets.{setsOf, Facts};
-ghost use Rattle.forward.specs.Waiting.{Unmet, member, LowestIn, Lowest, With, Without, hung, placeAt, Looked, Settles, Sites, Settled, ByCost};
-ghost use Rattle.forward.specs.Running.{lacking, RanOf};
+ghost use Rattle.forward.specs.Waiting.{Unmet, member, LowestIn, Lowest, With, Without, hung, placeAt, Looked, Settles, Sites, Settled, ByCost, Notes};
+ghost use Rattle.forward.specs.Running.{RanOf};
 ghost use Rattle.forward.specs.Answers.{foundOf, forwardOf, forwardIn};
 
 // The first place from `from` up to `to` whose fact is not in the state; `to` if each is.
@@ -166,27 +165,39 @@ fn wake(
     }
 }
 
-// 1 if fact f is not in the state, else 0: a number, so that the compiler makes no branch of it.
-fn lacks(sets: &[u64; 64], f: usize) -> u64
+// 1 if fact f is in the state, else 0.
+fn held(sets: &[u64; 64], f: usize) -> usize
     requires { ⌜ f < 4096 ⌝ }
-    ensures { λ r. ⌜ r ≡ oneIf (not (setsOf (now (sets .entry)) (f / 64) (f % 64))) ⌝ }
+    ensures { λ r. ⌜ r ≡ oneIf (setsOf (now (sets .entry)) (f / 64) (f % 64)) ⌝ }
 {
-    if state::holds(sets, f) { 0 } else { 1 }
+    if state::holds(sets, f) { 1 } else { 0 }
 }
 
-// The effects of action i that are not in the state, a bit each.
-fn added(sets: &[u64; 64], task: &[u16], i: usize) -> u64
-    requires { ⌜ Loaded (now task) × (i < actions (taskIn (now task))) ⌝ }
-    ensures { λ r. ⌜ r ≡ lacking (setsOf (now (sets .entry))) (act (taskIn (now (task .entry))) i .eff) ⌝ }
+// The old number if h is 1, the new one if it is 0.
+fn chosen(old: u16, new: usize, h: usize) -> u16
+    requires { ⌜ (new < 1024) × (h ≤ 1) ⌝ }
+    ensures { λ r. ⌜ r ≡ old * h + new * (1 - h) ⌝ }
 {
-    let from = task::eff_start(task, i);
-    let mut k = task::eff_end(task, i);
-    let mut bits: u64 = 0;
-    while from < k {
-        k -= 1;
-        bits = lacks(sets, lists::wide(task[k])) + 2 * bits;
+    (lists::wide(old) * h + new * (1 - h)) as u16
+}
+
+// Action i is the first to reach those of its effects that are not in the state. True if there is one. Worked out without a branch, as
+// none could be foreseen.
+fn note(sets: &[u64; 64], task: &[u16], i: usize, first: &mut [u16; 4096]) -> bool
+    requires { ⌜ Loaded (now task) × (i < actions (taskIn (now task))) × (length (now first) ≡ 4096) ⌝ }
+    ensures { λ r. ⌜ Notes (setsOf (now (sets .entry))) (act (taskIn (now (task .entry))) i) i (now (first .entry)) (now (first .exit)) r ⌝ }
+{
+    let to = task::eff_end(task, i);
+    let mut k = task::eff_start(task, i);
+    let mut new: usize = 0;
+    while k < to {
+        let f = lists::wide(task[k]);
+        let h = held(sets, f);
+        first[f] = chosen(first[f], i, h);
+        new += 1 - h;
+        k += 1;
     }
-    bits
+    new != 0
 }
 
 // Every action is ready, or waits for a precondition that is not reached.
@@ -216,11 +227,11 @@ pub struct Ran {
     pub state: State,
 }
 
-// The forward run of a loaded task: the actions in the front of `plan`, and in the front of `marks` what each of them added, a bit for
-// each of its effects.
-pub fn run_forward(task: &[u16], marks: &mut [u16; 1024], plan: &mut [u16; 1024]) -> Ran
-    requires { ⌜ Loaded (now task) × (length (now marks) ≡ 1024) × (length (now plan) ≡ 1024) ⌝ }
-    ensures { λ r. ⌜ RanOf (taskIn (now (task .entry))) (now (plan .exit)) (now (marks .exit)) r ⌝ }
+// The forward run of a loaded task: the actions in the front of `plan`, and the first achiever of each fact, where `first` holds
+// 65,535 before.
+pub fn run_forward(task: &[u16], first: &mut [u16; 4096], plan: &mut [u16; 1024]) -> Ran
+    requires { ⌜ Loaded (now task) × (now first ≡ replicate 4096 65535) × (length (now plan) ≡ 1024) ⌝ }
+    ensures { λ r. ⌜ RanOf (taskIn (now (task .entry))) (now (plan .exit)) (now (first .exit)) r ⌝ }
 {
     let goals = Goals::load(task);
     let count = goals.count;
@@ -249,10 +260,8 @@ pub fn run_forward(task: &[u16], marks: &mut [u16; 1024], plan: &mut [u16; 1024]
         }
         unmark(&mut ready, rank);
         let i = lists::wide(order[rank]);
-        let bits = added(&s.sets, task, i);
-        if bits != 0 {
+        if note(&s.sets, task, i, first) {
             plan[steps] = i as u16;
-            marks[steps] = bits as u16;
             steps += 1;
             from = task::eff_start(task, i);
             to = task::eff_end(task, i);
@@ -271,9 +280,9 @@ fn forward_loaded(task: &[u16], plan: &mut [u16]) -> Found
     requires { ⌜ Loaded (now task) ⌝ }
     ensures { λ r. ⌜ (foundOf r ≡ forwardOf (taskIn (now (task .entry))) (length (now (plan .entry)))) × (now (plan .exit) ≡ forwardIn (taskIn (now (task .entry))) (length (now (plan .entry)))) ⌝ }
 {
-    let mut marks = [0u16; 1024];
+    let mut first = [65535u16; 4096];
     let mut run = [65535u16; 1024];
-    let ran = run_forward(task, &mut marks, &mut run);
+    let ran = run_forward(task, &mut first, &mut run);
     let steps = ran.steps;
     let state = ran.state;
     let reached = state.reached() as u32;

@@ -1,12 +1,12 @@
 -- The relaxed plan on the way: the run is gone through from its last action, the kept ones stand at the end of a list, and the
 -- needed facts are sets.
 use mathlib.Core.Path.{_≡_}
-use mathlib.Core.Bool.{Bool, true, false, _&&_, _||_}
-use mathlib.Core.List.{List, [], _∷_}
-use Prim.Native.Nat.{ℕ, _+_, _/_, _%_, _≤_}
-use lib.Dec.{eqb}
+use mathlib.Core.Bool.{true, false, _||_}
+use mathlib.Core.List.{List}
+use mathlib.Core.Option.{Option, none, some}
+use Prim.Native.Nat.{ℕ, _+_, _*_, _≤_}
 use lib.ListN.{length, getD, take, drop}
-use Rattle.planning.specs.Record.{Fact, Task}
+use Rattle.planning.specs.Record.{Task}
 use Rattle.planning.specs.Runs.{State, act, initial, goals}
 use Rattle.planning.specs.Relaxed.{forwardRun, reachesGoals, factsReached, firstAchiever, keep, relaxedPlan}
 use Rattle.answers.specs.declared.Refusal.{Refusal}
@@ -14,25 +14,24 @@ use Rattle.answers.specs.declared.Number.{Number}
 use Rattle.answers.specs.declared.Number.the-variants.{Value, Refused}
 use Rattle.task.specs.Task.{taskIn, Loaded}
 use Rattle.state.specs.Sets.{setsOf}
-use Rattle.forward.specs.Running.{Marked}
+use Rattle.forward.specs.Running.{Achieved}
 
 -- the facts f joined the sets
 pub record Joined (f : State) (before after : List ℕ) : Type 0 where
   pub long : length after ≡ 64
   pub are : (v d : ℕ) → setsOf after v d ≡ (f v d || setsOf before v d)
 
--- a fact of the list is needed whose bit in m is set; the first one's bit is the lowest
-unfoldable pub neededIn : ℕ → State → List Fact → Bool
-neededIn m N [] = false
-neededIn m N (f ∷ fs) = (eqb (m % 2) 1 && N (f .var) (f .val)) || neededIn (m / 2) N fs
+-- the first achievers as the list has them; 65,535, for none, is the number of no action
+unfoldable pub byOf : List ℕ → ℕ → ℕ → Option ℕ
+byOf first v d = some (getD first (64 * v + d) 0)
 
--- the run is at hand, and what each of its entries added
-pub record Replay (task marks run : List ℕ) (n : ℕ) : Type 0 where
+-- the run and its first achievers are at hand
+pub record Replay (task first run : List ℕ) (n : ℕ) : Type 0 where
   pub loaded : Loaded task
   pub list : take n run ≡ forwardRun (taskIn task)
   pub long : length run ≡ 1024
   pub few : n ≤ 1024
-  pub marked : Marked (taskIn task) (forwardRun (taskIn task)) marks
+  pub achieved : Achieved (taskIn task) (forwardRun (taskIn task)) first
 
 -- of the run from place k on, the kept actions stand in the list from place m on, and the needed facts in the sets
 pub record Keeping (t : Task) (n : ℕ) (needed kept : List ℕ) (k m : ℕ) : Type 0 where

@@ -1,21 +1,21 @@
-// The relaxed plan: backwards over the forward run, an action is kept if it added a needed fact. As no action stands twice in the run,
-// it is the first achiever of what it added.
+// The relaxed plan: backwards over the forward run, an action is kept if it first reached a needed fact.
 use answers::Checked;
 use answers::Number;
 use answers::Refusal;
 use state::Goals;
 ghost use mathlib.Core.Path.{_≡_};
+ghost use mathlib.Core.Bool.{_&&_};
 ghost use mathlib.Core.Option.{none};
-ghost use Prim.Native.Nat.{ℕ, _<_, _≤_};
+ghost use Prim.Native.Nat.{ℕ, _/_, _%_, _<_, _≤_};
 ghost use lib.ListN.{length, getD, drop};
 ghost use Rattle.planning.specs.Record.{recordCheck};
 ghost use Rattle.planning.specs.Runs.{has, goals, actions, act};
-ghost use Rattle.planning.specs.Relaxed.{relaxedPlan};
+ghost use Rattle.planning.specs.Relaxed.{is, reachedNeeded, relaxedPlan};
 ghost use Rattle.planning.specs.Calls.{relaxCall, relaxList};
 ghost use Rattle.answers.specs.Answers.{valueOf};
 ghost use Rattle.task.specs.Task.{factsIn, taskIn, Loaded};
 ghost use Rattle.state.specs.Sets.{setsOf};
-ghost use Rattle.relax.specs.Keeping.{Joined, neededIn, Replay, Front, KeptOf};
+ghost use Rattle.relax.specs.Keeping.{Joined, byOf, Replay, Front, KeptOf};
 ghost use Rattle.relax.specs.Answers.{relaxOf, relaxIn};
 
 // The facts from place `from` up to `to` join the sets.
@@ -42,19 +42,28 @@ fn add_preconditions(sets: &mut [u64; 64], task: &[u16], i: usize)
     add_facts(sets, task, from, to);
 }
 
-// An effect of action i is needed whose bit is set.
-fn adds_needed(needed: &[u64; 64], task: &[u16], i: usize, bits: usize) -> bool
+// Action i first reached fact f, and the fact is needed.
+fn first_needed(needed: &[u64; 64], first: &[u16; 4096], f: usize, i: usize) -> bool
+    requires { ⌜ f < 4096 ⌝ }
+    ensures { λ r. ⌜ r ≡ (is i (byOf (now (first .entry)) (f / 64) (f % 64)) && setsOf (now (needed .entry)) (f / 64) (f % 64)) ⌝ }
+{
+    if i != lists::wide(first[f]) {
+        return false;
+    }
+    state::holds(needed, f)
+}
+
+// Action i first reached a needed fact.
+fn reached_needed(needed: &[u64; 64], first: &[u16; 4096], task: &[u16], i: usize) -> bool
     requires { ⌜ Loaded (now task) × (i < actions (taskIn (now task))) ⌝ }
-    ensures { λ r. ⌜ r ≡ neededIn bits (setsOf (now (needed .entry))) (act (taskIn (now (task .entry))) i .eff) ⌝ }
+    ensures { λ r. ⌜ r ≡ reachedNeeded (byOf (now (first .entry))) (setsOf (now (needed .entry))) i (act (taskIn (now (task .entry))) i .eff) ⌝ }
 {
     let to = task::eff_end(task, i);
     let mut k = task::eff_start(task, i);
-    let mut left = bits;
     while k < to {
-        if left % 2 == 1 && state::holds(needed, lists::wide(task[k])) {
+        if first_needed(needed, first, lists::wide(task[k]), i) {
             return true;
         }
-        left = left / 2;
         k += 1;
     }
     false
@@ -63,13 +72,13 @@ fn adds_needed(needed: &[u64; 64], task: &[u16], i: usize, bits: usize) -> bool
 // The kept actions of the run, in their old order, in the list from the answer on.
 fn keep_back(
     task: &[u16],
-    marks: &[u16; 1024],
+    first: &[u16; 4096],
     run: &[u16; 1024],
     n: usize,
     needed: &mut [u64; 64],
     kept: &mut [u16; 1024],
 ) -> usize
-    requires { ⌜ Replay (now task) (now marks) (now run) n × (length (now needed) ≡ 64) × (length (now kept) ≡ 1024) × (setsOf (now needed) ≡ has (goals (taskIn (now task)))) ⌝ }
+    requires { ⌜ Replay (now task) (now first) (now run) n × (length (now needed) ≡ 64) × (length (now kept) ≡ 1024) × (setsOf (now needed) ≡ has (goals (taskIn (now task)))) ⌝ }
     ensures { λ m. ⌜ (m ≤ 1024) × (length (now (kept .exit)) ≡ 1024) × (drop m (now (kept .exit)) ≡ relaxedPlan (taskIn (now (task .entry)))) ⌝ }
 {
     let mut k = n;
@@ -77,7 +86,7 @@ fn keep_back(
     while 0 < k {
         k -= 1;
         let i = run[k];
-        if adds_needed(needed, task, lists::wide(i), lists::wide(marks[k])) {
+        if reached_needed(needed, first, task, lists::wide(i)) {
             m -= 1;
             kept[m] = i;
             add_preconditions(needed, task, lists::wide(i));
@@ -86,15 +95,15 @@ fn keep_back(
     m
 }
 
-// The relaxed plan from the forward run and what its entries added, in the front of `plan`.
+// The relaxed plan from the forward run and its first achievers, in the front of `plan`.
 fn keep_run(
     task: &[u16],
-    marks: &[u16; 1024],
+    first: &[u16; 4096],
     run: &[u16; 1024],
     n: usize,
     plan: &mut [u16; 1024],
 ) -> u32
-    requires { ⌜ Replay (now task) (now marks) (now run) n × (length (now plan) ≡ 1024) ⌝ }
+    requires { ⌜ Replay (now task) (now first) (now run) n × (length (now plan) ≡ 1024) ⌝ }
     ensures { λ r. ⌜ Front (taskIn (now (task .entry))) (now (plan .exit)) r ⌝ }
 {
     let goals = Goals::load(task);
@@ -102,7 +111,7 @@ fn keep_run(
     let mut needed = [0u64; 64];
     add_facts(&mut needed, &goals.facts, 0, count);
     let mut kept = [65535u16; 1024];
-    let m = keep_back(task, marks, run, n, &mut needed, &mut kept);
+    let m = keep_back(task, first, run, n, &mut needed, &mut kept);
     lists::copy(&kept[m..], plan);
     (1024 - m) as u32
 }
@@ -112,9 +121,9 @@ pub fn relaxed_plan(task: &[u16], plan: &mut [u16; 1024]) -> Number
     requires { ⌜ Loaded (now task) × (length (now plan) ≡ 1024) ⌝ }
     ensures { λ r. ⌜ KeptOf (taskIn (now (task .entry))) (now (plan .exit)) r ⌝ }
 {
-    let mut marks = [0u16; 1024];
+    let mut first = [65535u16; 4096];
     let mut run = [65535u16; 1024];
-    let ran = forward::run_forward(task, &mut marks, &mut run);
+    let ran = forward::run_forward(task, &mut first, &mut run);
     let steps = ran.steps;
     let state = ran.state;
     if !ran.solved {
@@ -124,7 +133,7 @@ pub fn relaxed_plan(task: &[u16], plan: &mut [u16; 1024]) -> Number
             place: reached,
         });
     }
-    Number::Value(keep_run(task, &marks, &run, steps, plan))
+    Number::Value(keep_run(task, &first, &run, steps, plan))
 }
 
 fn relax_loaded(task: &[u16], plan: &mut [u16]) -> Number

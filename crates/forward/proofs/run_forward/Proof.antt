@@ -4,11 +4,10 @@ use mathlib.Core.Logic.{inl, inr}
 use mathlib.Core.Bool.{true, false}
 use Prim.Native.Nat.{_<_}
 use native.Mathlib.Omega.{arith}
-use borrow.Author.Tests.{eq-eqb, ne-eqb, leb-true, leb-false}
+use borrow.Author.Tests.{not-true, not-false, eq-eqb, ne-eqb, leb-true, leb-false}
 use Rattle.planning.specs.Runs.{act, holds, actions}
 use Rattle.task.specs.Task.{taskIn, Loaded}
 use Rattle.state.specs.Sets.{setsOf}
-use Rattle.forward.proofs.Adding.{added-few, lacking-none, lacking-some}
 use Rattle.forward.proofs.Looping.{Looping, left, looping-start, looping-goals, looping-solved, looping-none, chosen-below, looping-drop, drop-less, take-room, looping-take, take-less}
 use Rattle.forward.proofs.run_forward.Statement.{statement}
 use Rattle.forward.proofs.run_forward.Tie as tie
@@ -16,11 +15,11 @@ use Rattle.forward.proofs.run_forward.Tie as tie
 -- In each turn the effects of the action taken last wake what waits for them, and the action of lowest rank leaves the ready ones. If it
 -- adds a fact it is the definition's next action: it is taken, and the state grows. If not, it never will add one. Either way less is left.
 abbrev Inv-loop : tie.InvT-loop
-Inv-loop task marks₀ plan₀ goals count s₀ order work₀ ready₀ steps₀ g₀ from₀ to₀ marks plan s work ready steps g from to =
-    Looping task order goals marks plan (s .sets) work ready steps g from to
+Inv-loop task first₀ plan₀ goals count s₀ order work₀ ready₀ steps₀ g₀ from₀ to₀ first plan s work ready steps g from to =
+    Looping task order goals first plan (s .sets) work ready steps g from to
 
 abbrev μ-loop : tie.MeasureT-loop
-μ-loop task marks₀ plan₀ goals count s₀ order work₀ ready₀ steps₀ g₀ from₀ to₀ marks plan s work ready steps g from to =
+μ-loop task first₀ plan₀ goals count s₀ order work₀ ready₀ steps₀ g₀ from₀ to₀ first plan s work ready steps g from to =
     left task (s .sets) ready from to
 
 -- the points of the code, from the last to the first
@@ -48,14 +47,14 @@ unmark-to-lowest c = c .before .before .before .before
 abbrev wide-to-unmark : tie.After-wide Inv-loop μ-loop → tie.After-unmark Inv-loop μ-loop
 wide-to-unmark c = c .before
 
-abbrev added-to-wide : tie.After-added Inv-loop μ-loop → tie.After-wide Inv-loop μ-loop
-added-to-wide c = c .before .before .before
+abbrev note-to-wide : tie.After-note Inv-loop μ-loop → tie.After-wide Inv-loop μ-loop
+note-to-wide c = c .before .before .before .before
 
 abbrev unmark-to-head : tie.After-unmark Inv-loop μ-loop → tie.At-loop Inv-loop μ-loop
 unmark-to-head c = wake-to-head (unmet-to-wake (lowest-to-unmet (unmark-to-lowest c)))
 
-abbrev step-to-added : tie.After-step Inv-loop μ-loop → tie.After-added Inv-loop μ-loop
-step-to-added c = c .before .before .before .before
+abbrev step-to-note : tie.After-step Inv-loop μ-loop → tie.After-note Inv-loop μ-loop
+step-to-note c = c .before .before .before .before
 
 load-requires : tie.Need-load-requires Inv-loop μ-loop
 load-requires c κs = search needs
@@ -126,36 +125,33 @@ chosen c =
     chosen-below (wake-to-head at-wake .loop .inv) (at-wake .wake .ensures .0) (at-unmet .unmet .ensures) (at-unmark .before .before .before .if1 .left) (at-lowest .lowest .ensures)
     (below at-unmark) (c .wide .ensures)
 
--- the action is one of the loaded task
-named : (c : tie.After-wide Inv-loop μ-loop) → let t = start (unmark-to-head (wide-to-unmark c)) .args .task .now in Loaded t × (c .wide .result < actions (taskIn t))
-named c = (unmark-to-head (wide-to-unmark c) .loop .inv .loaded, chosen c)
+note-requires : tie.Need-note-requires Inv-loop μ-loop
+note-requires c κs =
+    let at-wide = c .before .before .before in
+    let I = unmark-to-head (wide-to-unmark at-wide) .loop .inv in
+    (I .loaded, chosen at-wide, I .going .first-long)
 
-added-requires : tie.Need-added-requires Inv-loop μ-loop
-added-requires c κs = named (c .before .before)
-
--- what the bits say
-fresh : (c : tie.Then3 Inv-loop μ-loop) → let at-wide = added-to-wide (c .before) in let head = unmark-to-head (wide-to-unmark at-wide) in
+-- what the answer of the noting says
+fresh : (c : tie.Then3 Inv-loop μ-loop) → let at-wide = note-to-wide (c .before) in let head = unmark-to-head (wide-to-unmark at-wide) in
     holds (setsOf (head .loop .s .sets)) (act (taskIn (start head .args .task .now)) (at-wide .wide .result) .eff) ≡ false
-fresh c = lacking-some _ _ (λ e. c .if3 .taken (c .before .added .ensures ∙ e))
+fresh c = not-true _ (sym (c .before .note .ensures .adds) ∙ c .if3 .taken)
 
-stale : (c : tie.Else3 Inv-loop μ-loop) → let at-wide = added-to-wide (c .before) in let head = unmark-to-head (wide-to-unmark at-wide) in
+stale : (c : tie.Else3 Inv-loop μ-loop) → let at-wide = note-to-wide (c .before) in let head = unmark-to-head (wide-to-unmark at-wide) in
     holds (setsOf (head .loop .s .sets)) (act (taskIn (start head .args .task .now)) (at-wide .wide .result) .eff) ≡ true
-stale c = lacking-none _ _ (sym (c .before .added .ensures) ∙ c .if3 .left)
+stale c = not-false _ (sym (c .before .note .ensures .adds) ∙ c .if3 .left)
 
-room : (c : tie.Then3 Inv-loop μ-loop) → unmark-to-head (wide-to-unmark (added-to-wide (c .before))) .loop .steps < 1024
+room : (c : tie.Then3 Inv-loop μ-loop) → unmark-to-head (wide-to-unmark (note-to-wide (c .before))) .loop .steps < 1024
 room c =
-    let at-wide = added-to-wide (c .before) in
+    let at-wide = note-to-wide (c .before) in
     let at-unmark = wide-to-unmark at-wide in
     let at-lowest = unmark-to-lowest at-unmark in
     let at-unmet = lowest-to-unmet at-lowest in
     let at-wake = unmet-to-wake at-unmet in
     take-room (wake-to-head at-wake .loop .inv) (at-wake .wake .ensures .0) (at-unmet .unmet .ensures) (at-unmark .before .before .before .if1 .left) (at-lowest .lowest .ensures) (below at-unmark)
-    (at-wide .wide .ensures) (at-unmark .unmark .ensures) (fresh c)
+    (at-wide .wide .ensures) (at-unmark .unmark .ensures) (c .before .note .ensures .noted) (fresh c)
 
 cast-plan : tie.Need-cast-plan Inv-loop μ-loop
-cast-plan c =
-    let n = named (added-to-wide (c .before)) in
-    record { fits = omega (arith, n .1, n .0 .formed .actions-max) }
+cast-plan c = record { fits = omega (arith, chosen (note-to-wide (c .before))) }
 
 mul-plan : tie.Need-mul-plan Inv-loop μ-loop
 mul-plan c = record { fits = omega (arith, room c) }
@@ -163,72 +159,63 @@ mul-plan c = record { fits = omega (arith, room c) }
 element-write-plan : tie.Need-element-write-plan Inv-loop μ-loop
 element-write-plan c = room c
 
-cast-marks : tie.Need-cast-marks Inv-loop μ-loop
-cast-marks c =
-    let at-wide = added-to-wide (c .before) in
-    let head = unmark-to-head (wide-to-unmark at-wide) in
-    let n = named at-wide in
-    record { fits = omega (arith, c .before .added .ensures, added-few (setsOf (head .loop .s .sets)) _ (n .0) _ (n .1)) }
-
-mul-marks : tie.Need-mul-marks Inv-loop μ-loop
-mul-marks c = record { fits = omega (arith, room c) }
-
-element-write-marks : tie.Need-element-write-marks Inv-loop μ-loop
-element-write-marks c = room c
-
 add-steps : tie.Need-add-steps Inv-loop μ-loop
 add-steps c = record { fits = omega (arith, room c) }
 
+-- the action is one of the loaded task
+named : (c : tie.After-wide Inv-loop μ-loop) → let t = start (unmark-to-head (wide-to-unmark c)) .args .task .now in Loaded t × (c .wide .result < actions (taskIn t))
+named c = (unmark-to-head (wide-to-unmark c) .loop .inv .loaded, chosen c)
+
 eff-start-requires : tie.Need-eff-start-requires Inv-loop μ-loop
-eff-start-requires c κs = named (added-to-wide (c .before))
+eff-start-requires c κs = named (note-to-wide (c .before))
 
 eff-end-requires : tie.Need-eff-end-requires Inv-loop μ-loop
-eff-end-requires c κs = named (added-to-wide (c .before .before))
+eff-end-requires c κs = named (note-to-wide (c .before .before))
 
 step-requires : tie.Need-step-requires Inv-loop μ-loop
-step-requires c κs = named (added-to-wide (c .before .before .before))
+step-requires c κs = named (note-to-wide (c .before .before .before))
 
 loop-less : tie.Need-loop-less Inv-loop μ-loop
 loop-less c =
-    let at-wide = added-to-wide (step-to-added c) in
+    let at-wide = note-to-wide (step-to-note c) in
     let at-unmark = wide-to-unmark at-wide in
     let at-lowest = unmark-to-lowest at-unmark in
     let at-unmet = lowest-to-unmet at-lowest in
     let at-wake = unmet-to-wake at-unmet in
     take-less (wake-to-head at-wake .loop .inv) (at-wake .wake .ensures .0) (at-unmet .unmet .ensures) (at-unmark .before .before .before .if1 .left) (at-lowest .lowest .ensures) (below at-unmark)
-    (at-wide .wide .ensures) (at-unmark .unmark .ensures) (fresh (c .before .before .before))
-    _ (c .step .ensures .0) (step-to-added c .added .ensures) (c .before .before .eff-start .ensures) (c .before .eff-end .ensures)
+    (at-wide .wide .ensures) (at-unmark .unmark .ensures) (step-to-note c .note .ensures .noted) (fresh (c .before .before .before))
+    _ (c .step .ensures .0) (c .before .before .eff-start .ensures) (c .before .eff-end .ensures)
 
 loop-again : tie.Need-loop-again Inv-loop μ-loop
 loop-again c =
-    let at-wide = added-to-wide (step-to-added c) in
+    let at-wide = note-to-wide (step-to-note c) in
     let at-unmark = wide-to-unmark at-wide in
     let at-lowest = unmark-to-lowest at-unmark in
     let at-unmet = lowest-to-unmet at-lowest in
     let at-wake = unmet-to-wake at-unmet in
     looping-take (wake-to-head at-wake .loop .inv) (at-wake .wake .ensures .0) (at-unmet .unmet .ensures) (at-unmark .before .before .before .if1 .left) (at-lowest .lowest .ensures) (below at-unmark)
-    (at-wide .wide .ensures) (at-unmark .unmark .ensures) (fresh (c .before .before .before))
-    _ (c .step .ensures .0) (step-to-added c .added .ensures) (c .before .before .eff-start .ensures) (c .before .eff-end .ensures)
+    (at-wide .wide .ensures) (at-unmark .unmark .ensures) (step-to-note c .note .ensures .noted) (fresh (c .before .before .before))
+    _ (c .step .ensures .0) (c .before .before .eff-start .ensures) (c .before .eff-end .ensures)
 
 loop-less-2 : tie.Need-loop-less-2 Inv-loop μ-loop
 loop-less-2 c =
-    let at-wide = added-to-wide (c .before) in
+    let at-wide = note-to-wide (c .before) in
     let at-unmark = wide-to-unmark at-wide in
     let at-lowest = unmark-to-lowest at-unmark in
     let at-unmet = lowest-to-unmet at-lowest in
     let at-wake = unmet-to-wake at-unmet in
     drop-less (wake-to-head at-wake .loop .inv) (at-wake .wake .ensures .0) (at-unmet .unmet .ensures) (at-unmark .before .before .before .if1 .left) (at-lowest .lowest .ensures) (below at-unmark)
-    (at-wide .wide .ensures) (at-unmark .unmark .ensures) (stale c) (at-wake .wake .ensures .1)
+    (at-wide .wide .ensures) (at-unmark .unmark .ensures) (c .before .note .ensures .noted) (stale c) (at-wake .wake .ensures .1)
 
 loop-again-2 : tie.Need-loop-again-2 Inv-loop μ-loop
 loop-again-2 c =
-    let at-wide = added-to-wide (c .before) in
+    let at-wide = note-to-wide (c .before) in
     let at-unmark = wide-to-unmark at-wide in
     let at-lowest = unmark-to-lowest at-unmark in
     let at-unmet = lowest-to-unmet at-lowest in
     let at-wake = unmet-to-wake at-unmet in
     looping-drop (wake-to-head at-wake .loop .inv) (at-wake .wake .ensures .0) (at-unmet .unmet .ensures) (at-unmark .before .before .before .if1 .left) (at-lowest .lowest .ensures) (below at-unmark)
-    (at-wide .wide .ensures) (at-unmark .unmark .ensures) (stale c)
+    (at-wide .wide .ensures) (at-unmark .unmark .ensures) (c .before .note .ensures .noted) (stale c)
 
 pub run-forward-spec : {M : Type 1} → statement M
 run-forward-spec =
@@ -249,13 +236,10 @@ run-forward-spec =
     mul-wide
     array-read-wide
     wide-requires
-    added-requires
+    note-requires
     cast-plan
     mul-plan
     element-write-plan
-    cast-marks
-    mul-marks
-    element-write-marks
     add-steps
     eff-start-requires
     eff-end-requires
