@@ -5,7 +5,7 @@ use crate::stores::{number_with, Draft};
 use reference::{Fact, Task};
 
 /// The task with few costs, numbered anew: some actions stand there twice, some need less, and some
-/// add nothing. A painting stays accepted.
+/// add nothing. A painting is accepted as before, as long as no action is too many.
 pub fn with_choices(random: &mut Random, task: &Task) -> Task {
     let costs: &[u16] = if random.chance(1, 2) { &[0, 1] } else { &[1, 2, 3] };
     let red = |fact: &Fact| !task.variables[fact.variable()].black;

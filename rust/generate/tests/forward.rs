@@ -2,6 +2,7 @@
 
 use generate::{choices, extremes, mixture, stores, Random};
 use reference::entry::{self, ForwardResult};
+use reference::painting::painting;
 use reference::state::{Semantics, State};
 use reference::{record, Refusal, Task};
 
@@ -91,7 +92,17 @@ fn drawn_runs_show_the_choice() {
         let task = mixture::small_task(random);
         choices::with_choices(random, &task)
     });
-    assert!(others >= 30, "{others}");
+    assert!(others >= 40, "{others}");
     let others = other_by_number(random, mixture::small_task);
-    assert!(others >= 10, "{others}");
+    assert!(others >= 40, "{others}");
+}
+
+#[test]
+fn choices_leave_the_painting() {
+    let random = &mut Random::new(83);
+    for _ in 0..2000 {
+        let task = mixture::small_task(random);
+        let changed = choices::with_choices(random, &task);
+        assert_eq!(painting(&changed).is_ok(), painting(&task).is_ok());
+    }
 }
