@@ -1,5 +1,5 @@
-/* Calls every function of the header on two shelves (and a tray) and on records and lists with faults, and prints
- * what comes back, the lists lent with all their entries. */
+/* Calls every function of the header on two shelves (and a tray, and two shelves with a fifth action) and on records and
+ * lists with faults, and prints what comes back, the lists lent with all their entries. */
 #include "mardiskos.h"
 #include "output.h"
 
@@ -10,6 +10,13 @@ static const uint8_t two_shelves[35] = {
     0x10, 0x40, 0x10, 0x18, 0x10, 0x02, 0x03, 0x00, 0x00, 0x10, 0x44, 0x00,
     0x00, 0x04, 0x00, 0x10, 0x44, 0x00, 0x40, 0x00, 0x00, 0x04, 0x84, 0x00,
     0x41, 0x04, 0x10, 0x80, 0x00, 0x48, 0x40, 0x00, 0x10, 0x81, 0x00,
+};
+
+/* Two shelves with an action 4, which is like action 0 but costs 3 instead of 4: 326 bits. */
+static const uint8_t two_shelves_with_4[41] = {
+    0x10, 0x40, 0x14, 0x18, 0x10, 0x02, 0x03, 0x00, 0x00, 0x10, 0x44, 0x00, 0x00, 0x04,
+    0x00, 0x10, 0x44, 0x00, 0x40, 0x00, 0x00, 0x04, 0x84, 0x00, 0x41, 0x04, 0x10, 0x80,
+    0x00, 0x48, 0x40, 0x00, 0x10, 0x81, 0x00, 0x00, 0x0c, 0x44, 0x00, 0x00, 0x04,
 };
 
 /* A tray and two boxes, all red, and two actions, each of which loads a box on the tray. */
@@ -108,21 +115,21 @@ static void newest_of_lists(void)
     newest("tray, up to where it runs for real", tray, sizeof tray, both_boxes, 1, 3);
 }
 
-static void forward(size_t len)
+static void forward(const char *what, const uint8_t *record, size_t record_len, size_t len)
 {
     uint16_t list[ENTRIES] = {0};
-    mardiskos_forward_run run = mardiskos_forward(two_shelves, sizeof two_shelves, list, len);
-    printf("forward run, %zu entries lent: ", len);
+    mardiskos_forward_run run = mardiskos_forward(record, record_len, list, len);
+    printf("forward run%s, %zu entries lent: ", what, len);
     print_code(run.code);
     printf("  %" PRIu32 " steps, %" PRIu32 " facts reached\n", run.steps, run.reached);
     print_list("plan list", list, len);
 }
 
-static void relax(size_t len)
+static void relax(const char *what, const uint8_t *record, size_t record_len, size_t len)
 {
     uint16_t list[ENTRIES] = {0};
-    mardiskos_relaxed_plan found = mardiskos_relax(two_shelves, sizeof two_shelves, list, len);
-    printf("relaxed plan, %zu entries lent: ", len);
+    mardiskos_relaxed_plan found = mardiskos_relax(record, record_len, list, len);
+    printf("relaxed plan%s, %zu entries lent: ", what, len);
     print_code(found.code);
     printf("  %" PRIu32 " steps\n", found.steps);
     print_list("plan list", list, len);
@@ -138,12 +145,27 @@ static void print_plan(mardiskos_plan_result p, const uint16_t *list, size_t len
     print_list("work list", work, work_len);
 }
 
-static void plan(size_t record_len, size_t len, size_t work_len)
+static void plan(const char *what, const uint8_t *record, size_t record_len, size_t len, size_t work_len)
 {
     uint16_t list[ENTRIES] = {0}, work[ENTRIES] = {0};
-    printf("plan, %zu bytes, %zu and %zu entries lent: ", record_len, len, work_len);
-    mardiskos_plan_result p = mardiskos_plan(two_shelves, record_len, list, len, work, work_len);
+    printf("plan%s, %zu bytes, %zu and %zu entries lent: ", what, record_len, len, work_len);
+    mardiskos_plan_result p = mardiskos_plan(record, record_len, list, len, work, work_len);
     print_plan(p, list, len, work, work_len);
+}
+
+/* Each way from the record to a plan, once with room and at least once without. */
+static void plans(void)
+{
+    forward("", two_shelves, sizeof two_shelves, 4);
+    forward("", two_shelves, sizeof two_shelves, 2);
+    relax("", two_shelves, sizeof two_shelves, 4);
+    relax("", two_shelves, sizeof two_shelves, 2);
+    plan("", two_shelves, sizeof two_shelves, ENTRIES, 4);
+    plan("", two_shelves, sizeof two_shelves, 4, 3);
+    plan("", two_shelves, 0, 0, 2);
+    forward(", with action 4", two_shelves_with_4, sizeof two_shelves_with_4, 4);
+    relax(", with action 4", two_shelves_with_4, sizeof two_shelves_with_4, 4);
+    plan(", with action 4", two_shelves_with_4, sizeof two_shelves_with_4, ENTRIES, 4);
 }
 
 static void repair(const char *what, const uint16_t *actions, size_t count, size_t len)
@@ -198,13 +220,7 @@ int main(void)
     judge("empty list", relaxed, 0);
     judge("no such action", no_such_action, 3);
     newest_of_lists();
-    forward(4);
-    forward(2);
-    relax(4);
-    relax(2);
-    plan(sizeof two_shelves, ENTRIES, 4);
-    plan(sizeof two_shelves, 4, 3);
-    plan(0, 0, 2);
+    plans();
     repair("relaxed plan", relaxed, 3, ENTRIES);
     repair("relaxed plan", relaxed, 3, 3);
     repair("no such action", no_such_action, 3, 4);

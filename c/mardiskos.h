@@ -75,8 +75,8 @@ extern "C" {
 #endif
 
 /* The version, as text and as 10,000 * major + 100 * minor + patch. */
-#define MARDISKOS_VERSION "0.2.0"
-#define MARDISKOS_VERSION_NUMBER 200
+#define MARDISKOS_VERSION "0.3.0"
+#define MARDISKOS_VERSION_NUMBER 300
 
 #define MARDISKOS_NUMBER(code) ((unsigned)((code) % 32))
 #define MARDISKOS_PLACE(code) ((code) / 32)
@@ -173,9 +173,9 @@ typedef struct {
     uint32_t reached;
 } mardiskos_forward_run;
 
-/* The forward run of the record: as long as a goal is missing it takes the lowest action that applies and
- * reaches something new. It fills the front of the plan list and 65,535 the rest; answers its steps and the
- * facts reached. Refuses with 1 to 6, 10, 11. */
+/* The forward run of the record: as long as a goal is missing it takes the cheapest action that applies and
+ * reaches something new, of several the one with the lowest number. It fills the front of the plan list and
+ * 65,535 the rest; answers its steps and the facts reached. Refuses with 1 to 6, 10, 11. */
 mardiskos_forward_run mardiskos_forward(const uint8_t *record, size_t len, uint16_t *plan,
                                         size_t plan_len);
 

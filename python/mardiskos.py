@@ -19,7 +19,7 @@ from array import array
 from ctypes import c_bool, c_char_p, c_size_t, c_uint32, c_uint64, c_void_p
 from typing import Iterable, List, NamedTuple
 
-__version__ = "0.2.0"
+__version__ = "0.3.0"
 
 MAX_STEPS = 32768
 MAX_VARIABLES = 64
@@ -203,7 +203,8 @@ def newest(record: bytes, actions: Iterable[int]) -> Newest:
 
 
 def forward(record: bytes) -> ForwardRun:
-    """As long as a goal is missing, the lowest action that applies and reaches something new. Refuses with 10 too."""
+    """As long as a goal is missing, the cheapest action that applies and reaches something new, of several the one with
+    the lowest number. Refuses with 10 too."""
     room = _room(MAX_STEPS)
     run = _library.mardiskos_forward(*_bytes(record), *_lend(room))
     _accept(run.code)

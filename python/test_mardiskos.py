@@ -60,6 +60,12 @@ class Calls(unittest.TestCase):
         self.refuses(10, 3, mardiskos.forward, example("two-shelves-without-2"))
         self.refuses(10, 3, mardiskos.relax, example("two-shelves-without-2"))
 
+    def test_cheap_before_low_numbered(self):
+        record = example("two-shelves-with-4")
+        self.assertEqual(mardiskos.forward(record), ([4, 2, 3], 5))
+        self.assertEqual(mardiskos.relax(record), [4, 2, 3])
+        self.assertEqual(mardiskos.plan(record), Plan([4, 2, 1, 3], 9, 4, True))
+
     def test_plan(self):
         self.assertEqual(mardiskos.plan(TWO_SHELVES), Plan([0, 2, 1, 3], 10, 4, True))
         self.assertEqual(mardiskos.plan(example("goal-met")), Plan([], 0, 0, True))

@@ -112,8 +112,8 @@ pub fn header(options: &Options) {
     println!("All that is lent is cleared before each call, outside the time taken.");
     println!("ratio: time of the library to that of the Rust planner.");
     println!("growth: time of the library to that at the next smaller size.\n");
-    println!("{:<28}{:>26}{:>22}{:>14}", "", "library, microseconds", "ratio", "growth");
-    print!("{:<28}", "class");
+    println!("{:<30}{:>26}{:>22}{:>14}", "", "library, microseconds", "ratio", "growth");
+    print!("{:<30}", "class");
     print!("{:>9}{:>8}{:>9}", "full", "half", "quarter");
     print!("{:>7}{:>6}{:>9}", "full", "half", "quarter");
     println!("{:>8}{:>6}", "full", "half");
@@ -124,7 +124,7 @@ pub fn line(class: &Class, options: &Options) {
     let mut random = Random::new(class.name.len() as u64);
     let timed = [4, 2, 1].map(|n| (class.case)(&mut random, n).best(options));
     let [full, half, quarter] = timed.each_ref().map(|times| times.library * 1e6);
-    print!("{:<28}{full:>9.1}{half:>8.1}{quarter:>9.1}", class.name);
+    print!("{:<30}{full:>9.1}{half:>8.1}{quarter:>9.1}", class.name);
     let ratios = timed.each_ref().map(|times| times.library / times.reference);
     print!("{:>7.2}{:>6.2}{:>9.2}", ratios[0], ratios[1], ratios[2]);
     println!("{:>8.2}{:>6.2}", full / half, half / quarter);

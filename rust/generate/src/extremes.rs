@@ -59,6 +59,39 @@ fn any_of(random: &mut Random, set: u64) -> usize {
     *random.pick(&members)
 }
 
+/// Actions that all apply at once, the cheapest with the highest number; the run takes every one.
+pub fn falling_costs(actions: usize) -> Task {
+    waves((0..actions).map(|k| (actions - k) as u16).collect(), 1)
+}
+
+/// Actions of which no two cost the same, in four waves; the run takes every one.
+pub fn different_costs(random: &mut Random, actions: usize) -> Task {
+    let apart = (1 << 16) / actions;
+    let drawn = (0..actions).map(|k| (k * apart + random.below(apart)) as u16);
+    let mut costs: Vec<u16> = drawn.collect();
+    random.shuffle(&mut costs);
+    waves(costs, 4)
+}
+
+/// An action for each cost, which sets a fact of its own. Those of a wave apply at once, as soon as the
+/// dearest one of the wave before is taken; the goal is what the dearest one of the last wave sets.
+fn waves(costs: Vec<u16>, waves: usize) -> Task {
+    let own = |k: usize| Fact::new(k % VARIABLES, k / VARIABLES + 1);
+    let dearest = |wave: usize| {
+        let members = (wave..costs.len()).step_by(waves);
+        own(members.max_by_key(|&k| costs[k]).unwrap())
+    };
+    let last = dearest(waves - 1);
+    let goal = |v: usize| (v == last.variable()).then_some(last.value());
+    let mut task = Task::new((0..VARIABLES).map(|v| variable(false, goal(v))).collect());
+    let start = Fact::new(VARIABLES - 1, 0);
+    let opened: Vec<Fact> = (0..waves).map(|w| w.checked_sub(1).map_or(start, dearest)).collect();
+    for (k, &cost) in costs.iter().enumerate() {
+        task.push(cost, &[opened[k % waves]], &[own(k)]);
+    }
+    task
+}
+
 /// 1,024 actions that all apply for real one after another, again and again; each needs and
 /// changes 15 variables. The goals hold after every round.
 pub fn wheel(random: &mut Random) -> Task {

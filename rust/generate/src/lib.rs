@@ -1,5 +1,6 @@
 //! Random and drawn records, for comparison and benchmark.
 
+pub mod choices;
 pub mod damage;
 pub mod extremes;
 pub mod listings;

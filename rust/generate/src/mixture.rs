@@ -1,7 +1,7 @@
 //! A mixture of all kinds of records, most of them small.
 
 use crate::random::Random;
-use crate::{damage, extremes, records, ring, stores};
+use crate::{choices, damage, extremes, records, ring, stores};
 use reference::{record, Task};
 
 /// A record, one in twenty damaged.
@@ -13,7 +13,16 @@ pub fn record(random: &mut Random) -> Vec<u8> {
     bytes
 }
 
+/// One in three is changed so that its forward run has more to choose from.
 pub fn task(random: &mut Random) -> Task {
+    let task = any_task(random);
+    if random.chance(1, 3) {
+        return choices::with_choices(random, &task);
+    }
+    task
+}
+
+fn any_task(random: &mut Random) -> Task {
     match random.below(1000) {
         0..2 => records::full_task(random),
         2..4 => stores::store(random, stores::FULL),
@@ -38,13 +47,15 @@ pub fn small_task(random: &mut Random) -> Task {
 }
 
 fn extreme_task(random: &mut Random) -> Task {
-    match random.below(7) {
+    match random.below(9) {
         0 => extremes::chain(random, 1024),
         1 => extremes::wheel(random),
         2 => extremes::lamp_wheel(random),
         3 => extremes::returns(random, 1024),
         4 => extremes::anywhere_apart(random, 1024),
         5 => ring::ring(random, 64, 60, 14),
+        6 => extremes::falling_costs(1024),
+        7 => extremes::different_costs(random, 1024),
         _ => records::dense_task(random, 64, 1024, 15),
     }
 }

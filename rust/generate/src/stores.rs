@@ -245,10 +245,15 @@ impl<'a> Drawing<'a> {
 }
 
 /// Numbers the drafts in random order, as many as a record holds.
-pub(crate) fn number(
+pub(crate) fn number(random: &mut Random, variables: Vec<Variable>, drafts: Vec<Draft>) -> Task {
+    number_with(random, variables, drafts, cost)
+}
+
+pub(crate) fn number_with(
     random: &mut Random,
     variables: Vec<Variable>,
     mut drafts: Vec<Draft>,
+    cost: impl Fn(&mut Random) -> u16,
 ) -> Task {
     random.shuffle(&mut drafts);
     drafts.retain(|(preconditions, _)| preconditions.len() <= MAX_FACTS);

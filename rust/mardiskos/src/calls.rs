@@ -131,8 +131,16 @@ pub fn newest(record: &[u8], actions: &[u16]) -> Result<Newest, Refusal> {
 /// What stands behind the values; a value is below 64.
 const NO_VALUE: u16 = 65_535;
 
-/// The forward run: as long as a goal is missing, the lowest action that applies and reaches something new.
-/// Refuses with 10 too.
+/// The forward run: as long as a goal is missing, the cheapest action that applies and reaches something new, of
+/// several the one with the lowest number. Refuses with 10 too.
+///
+/// ```
+/// # fn main() -> Result<(), Box<dyn std::error::Error>> {
+/// let record = std::fs::read("../../examples/two-shelves-with-4.record")?;
+/// assert_eq!(mardiskos::forward(&record)?.steps, [4, 2, 3]);
+/// # Ok(())
+/// # }
+/// ```
 pub fn forward(record: &[u8]) -> Result<ForwardRun, Refusal> {
     let mut plan = list(MAX_STEPS);
     let run = lent::forward(record, &mut plan);

@@ -94,6 +94,13 @@ pub fn newest() -> Task {
     task
 }
 
+/// Two shelves with a cheaper way out, action 4.
+pub fn two_shelves_with_4() -> Task {
+    let mut task = two_shelves();
+    push(&mut task, 3, &[(0, 0)], &[(0, 1)]);
+    task
+}
+
 /// One action with two effects on one variable, which no record may have.
 pub fn repeated_variable() -> Task {
     let mut task = Task::new(vec![variable(2, false, 0, None)]);
@@ -129,6 +136,7 @@ pub fn files() -> Vec<(&'static str, Vec<u8>)> {
         ("door", door()),
         ("lit-return", lit_return()),
         ("newest", newest()),
+        ("two-shelves-with-4", two_shelves_with_4()),
         ("repeated-variable", repeated_variable()),
         ("variables-64", sized(64, 0, 0)),
         ("variables-65", sized(65, 0, 0)),

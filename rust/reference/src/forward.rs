@@ -1,6 +1,7 @@
 //! The forward run and the relaxed plan (SPECIFICATION, States and runs).
 
-use crate::index::{Ready, Waiting};
+use crate::index::Waiting;
+use crate::ready::Ready;
 use crate::refusal::Refusal;
 use crate::set::members;
 use crate::state::State;
@@ -13,6 +14,8 @@ pub struct Forward {
     /// For each action of the run the effects that it reached first, by their places.
     first: Vec<u16>,
     waiting: Waiting,
+    /// Applicable actions not looked at yet. One that adds nothing now never will.
+    ready: Ready,
     held: State,
     needed: State,
 }
@@ -20,8 +23,6 @@ pub struct Forward {
 /// What a forward run knows while it goes on.
 struct Course<'a> {
     task: &'a Task,
-    /// Applicable actions not looked at yet. One that adds nothing now never will.
-    ready: Ready,
     /// The goal of each variable; 64 for none.
     goals: [u8; 64],
     goals_left: u32,
@@ -34,6 +35,7 @@ impl Forward {
             reached: 0,
             first: Vec::new(),
             waiting: Waiting::new(),
+            ready: Ready::new(),
             held: State::empty(),
             needed: State::empty(),
         }
@@ -43,7 +45,7 @@ impl Forward {
     pub fn run(&mut self, task: &Task) -> Result<(), Refusal> {
         let mut course = self.start(task);
         while course.goals_left > 0 {
-            let Some(number) = course.ready.take_lowest() else {
+            let Some(number) = self.ready.take() else {
                 return Err(Refusal::new(10, self.reached as usize));
             };
             self.take(&mut course, number);
@@ -60,15 +62,15 @@ impl Forward {
         let mut goals = [64; 64];
         task.goals().for_each(|goal| goals[goal.variable()] = goal.value() as u8);
         let goals_left = task.goals().filter(|&goal| !self.held.holds(goal)).count() as u32;
-        let mut ready = Ready::default();
+        self.ready.clear();
         if goals_left > 0 {
             for number in 0..task.action_count() {
                 if self.waiting.start(task, &self.held, number) {
-                    ready.insert(number);
+                    self.ready.insert(task, &self.held, number);
                 }
             }
         }
-        Course { task, ready, goals, goals_left }
+        Course { task, goals, goals_left }
     }
 
     #[inline(always)]
@@ -88,10 +90,11 @@ impl Forward {
         self.actions.push(number as u16);
         self.first.push(first);
         self.reached += count as u32;
-        let Course { task, ready, goals, goals_left } = course;
+        let Course { task, goals, goals_left } = course;
+        let Forward { waiting, ready, held, .. } = self;
         for &fact in &reached[..count] {
             *goals_left -= u32::from(goals[fact.variable()] as usize == fact.value());
-            self.waiting.wake(task, &self.held, fact, |number| ready.insert(number));
+            waiting.wake(task, held, fact, |number| ready.insert(task, held, number));
         }
     }
 

@@ -137,31 +137,3 @@ impl Numbers {
         self.words[number / 64 % 16] >> (number % 64) & 1 == 1
     }
 }
-
-/// A set of action numbers that gives its lowest.
-#[derive(Default)]
-pub struct Ready {
-    words: [u64; 16],
-    filled: u16,
-}
-
-impl Ready {
-    #[inline(always)]
-    pub fn insert(&mut self, number: usize) {
-        self.words[number / 64 % 16] |= 1 << (number % 64);
-        self.filled |= 1 << (number / 64 % 16);
-    }
-
-    #[inline(always)]
-    pub fn take_lowest(&mut self) -> Option<usize> {
-        if self.filled == 0 {
-            return None;
-        }
-        let at = self.filled.trailing_zeros() as usize;
-        let word = &mut self.words[at];
-        let number = 64 * at + word.trailing_zeros() as usize;
-        *word &= *word - 1;
-        self.filled &= !(u16::from(*word == 0) << at);
-        Some(number)
-    }
-}

@@ -18,6 +18,8 @@ pub mod listing;
 mod newest;
 pub mod painting;
 mod paths;
+mod ranking;
+mod ready;
 pub mod record;
 pub mod refusal;
 mod repair;

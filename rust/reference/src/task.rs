@@ -109,6 +109,10 @@ impl Task {
         self.spans[number].cost.into()
     }
 
+    pub fn costs(&self) -> impl Iterator<Item = u16> + '_ {
+        self.spans.iter().map(|span| span.cost)
+    }
+
     /// The black variables as a set.
     pub fn black(&self) -> u64 {
         let numbered = self.variables.iter().enumerate();

@@ -97,6 +97,27 @@ fn inserted_moves_add_red_facts() {
 }
 
 #[test]
+fn cheap_comes_before_low_numbered() {
+    let task = examples::two_shelves_with_4();
+    let (answer, list) = plan(&task, 5, 5);
+    assert_eq!(answer, Ok(PlanResult { steps: 4, cost: 9, runs: 4, real: true }));
+    assert_eq!(list, [4, 2, 1, 3, REST]);
+    let expected = "reached 5\nrelaxed 3 4 2 3\nplan 4 9 4 2 1 3\nreal 4\n";
+    assert_eq!(listing::listing(&record::write(&task)), expected);
+}
+
+#[test]
+fn runs_of_lit_return() {
+    let bytes = record::write(&examples::lit_return());
+    let mut list = [0; 4];
+    let forward = reference::forward(&bytes, &mut list);
+    assert_eq!(forward, Ok(ForwardResult { steps: 3, reached: 6 }));
+    assert_eq!(list, [1, 3, 4, REST]);
+    assert_eq!(reference::relax(&bytes, &mut list), Ok(3));
+    assert_eq!(list, [1, 3, 4, REST]);
+}
+
+#[test]
 fn a_variable_stands_once_in_a_list() {
     assert_eq!(refused(&examples::repeated_variable()), (5, 78));
 }

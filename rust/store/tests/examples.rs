@@ -39,6 +39,20 @@ fn two_shelves_shows_its_inserted_move() {
 }
 
 #[test]
+fn the_cheaper_way_out_is_taken() {
+    let store = example("two-shelves-with-4");
+    let plan = Plan::find(&store).unwrap();
+    let expected = "\
+4 steps, cost 9, real: 4 steps run
+0  slip-out    carriage = shelf-1
+1  pick-up     box = on-carriage
+2  drive-back  carriage = shelf-0  (inserted)
+3  put-down    box = shelf-0
+";
+    assert_eq!(show::plan(&store, &plan).unwrap().text, expected);
+}
+
+#[test]
 fn tray_says_why_it_is_unreal() {
     let store = example("tray");
     let plan = Plan::find(&store).unwrap();

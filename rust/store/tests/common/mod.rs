@@ -9,7 +9,7 @@ use std::sync::atomic::{AtomicUsize, Ordering};
 use reference::{Fact, Task, Variable};
 use store::{parse, Store};
 
-pub const EXAMPLES: [&str; 11] = [
+pub const EXAMPLES: [&str; 12] = [
     "two-shelves",
     "two-shelves-without-1",
     "two-shelves-without-2",
@@ -21,6 +21,7 @@ pub const EXAMPLES: [&str; 11] = [
     "door",
     "lit-return",
     "newest",
+    "two-shelves-with-4",
 ];
 
 pub fn path(name: &str, extension: &str) -> PathBuf {
