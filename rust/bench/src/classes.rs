@@ -21,12 +21,16 @@ fn runs() -> Vec<Class> {
         Class::new("record check, 1,024 tiny", |r, n| check(&many(256 * n, || tiny(r)))),
         // Each of 256n actions becomes applicable by the one before, and the lowest number is last.
         Class::new("forward run", |r, n| forward(&extremes::chain(r, 256 * n))),
-        // 256n actions that all apply from the start, the cheapest with the highest number.
-        Class::new("forward run, falling costs", |_, n| forward(&extremes::falling_costs(256 * n))),
-        // 256n actions of 256n costs, in four waves; those of a wave apply at the same time.
-        Class::new("forward run, all costs differ", |r, n| {
-            forward(&extremes::different_costs(r, 256 * n))
+        // The same with costs that rise against the numbers, and with no two costs the same.
+        Class::new("forward run, falling costs", |r, n| {
+            forward(&extremes::falling_chain(r, 256 * n))
         }),
+        Class::new("forward run, all costs differ", |r, n| {
+            forward(&extremes::different_chain(r, 256 * n))
+        }),
+        // 256n actions of one precondition and one effect, no two costs the same, in four waves; those
+        // of a wave apply at the same time.
+        Class::new("forward run, in waves", |r, n| forward(&extremes::different_waves(r, 256 * n))),
         Class::new("relaxed plan", |r, n| relax(&extremes::chain(r, 256 * n))),
         // 8,192n steps that never stop, 15 preconditions and 15 effects, then 1 and 1; then ones that
         // stop for real at step 1, red-black and relaxed never.

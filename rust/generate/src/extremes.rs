@@ -31,6 +31,23 @@ fn facts_below(
 /// A chain through all actions, highest number first: each action becomes applicable by the one
 /// before it, through its last precondition, and every action is needed.
 pub fn chain(random: &mut Random, actions: usize) -> Task {
+    let costs = (0..actions).map(|_| cost(random)).collect();
+    chain_costing(random, costs)
+}
+
+/// The chain with costs that rise against the numbers.
+pub fn falling_chain(random: &mut Random, actions: usize) -> Task {
+    chain_costing(random, falling_costs(actions))
+}
+
+/// The chain with no two costs the same.
+pub fn different_chain(random: &mut Random, actions: usize) -> Task {
+    let costs = different_costs(random, actions);
+    chain_costing(random, costs)
+}
+
+fn chain_costing(random: &mut Random, costs: Vec<u16>) -> Task {
+    let actions = costs.len();
     const LINKS: usize = 17;
     let link = |k: usize| Fact::new(VARIABLES - 1 - k % LINKS, k / LINKS + 1);
     let mut variables = vec![variable(false, None); VARIABLES];
@@ -48,8 +65,8 @@ pub fn chain(random: &mut Random, actions: usize) -> Task {
         links.push((needs, sets));
     }
     let mut task = Task::new(variables);
-    for (needs, sets) in links.iter().rev() {
-        task.push(cost(random), needs, sets);
+    for ((needs, sets), &cost) in links.iter().rev().zip(&costs) {
+        task.push(cost, needs, sets);
     }
     task
 }
@@ -59,18 +76,28 @@ fn any_of(random: &mut Random, set: u64) -> usize {
     *random.pick(&members)
 }
 
+/// The highest number costs least.
+fn falling_costs(actions: usize) -> Vec<u16> {
+    (0..actions).map(|number| (actions - number) as u16).collect()
+}
+
+/// No two the same, spread over all costs.
+fn different_costs(random: &mut Random, actions: usize) -> Vec<u16> {
+    let apart = (1 << 16) / actions;
+    let mut costs: Vec<u16> =
+        (0..actions).map(|k| (k * apart + random.below(apart)) as u16).collect();
+    random.shuffle(&mut costs);
+    costs
+}
+
 /// Actions that all apply at once, the cheapest with the highest number; the run takes every one.
-pub fn falling_costs(actions: usize) -> Task {
-    waves((0..actions).map(|k| (actions - k) as u16).collect(), 1)
+pub fn falling_wave(actions: usize) -> Task {
+    waves(falling_costs(actions), 1)
 }
 
 /// Actions of which no two cost the same, in four waves; the run takes every one.
-pub fn different_costs(random: &mut Random, actions: usize) -> Task {
-    let apart = (1 << 16) / actions;
-    let drawn = (0..actions).map(|k| (k * apart + random.below(apart)) as u16);
-    let mut costs: Vec<u16> = drawn.collect();
-    random.shuffle(&mut costs);
-    waves(costs, 4)
+pub fn different_waves(random: &mut Random, actions: usize) -> Task {
+    waves(different_costs(random, actions), 4)
 }
 
 /// An action for each cost, which sets a fact of its own. Those of a wave apply at once, as soon as the

@@ -54,8 +54,8 @@ fn extreme_task(random: &mut Random) -> Task {
         3 => extremes::returns(random, 1024),
         4 => extremes::anywhere_apart(random, 1024),
         5 => ring::ring(random, 64, 60, 14),
-        6 => extremes::falling_costs(1024),
-        7 => extremes::different_costs(random, 1024),
+        6 => extremes::falling_wave(1024),
+        7 => extremes::different_waves(random, 1024),
         _ => records::dense_task(random, 64, 1024, 15),
     }
 }

@@ -60,7 +60,7 @@ fn forward_run_is_as_worded() {
 fn long_runs_are_as_worded() {
     let random = &mut Random::new(81);
     for actions in [33, 64, 65, 256, 1024] {
-        for task in [extremes::falling_costs(actions), extremes::different_costs(random, actions)] {
+        for task in [extremes::falling_wave(actions), extremes::different_waves(random, actions)] {
             assert_eq!(answered(&task), worded(&task));
             assert_eq!(answered(&task).unwrap().0.len(), actions);
             let task = choices::with_choices(random, &task);

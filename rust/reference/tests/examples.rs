@@ -151,7 +151,7 @@ fn proved_records_are_the_files() {
     let table = root().join("crates/planning/proofs/Acceptance.antt");
     let text = fs::read_to_string(table).unwrap();
     let records: Vec<_> = text.split("\n\n").filter_map(proved).collect();
-    assert_eq!(records.len(), 12);
+    assert_eq!(records.len(), 13);
     for (name, bytes) in records {
         assert_eq!(file(name), bytes, "{name}");
     }
