@@ -1,23 +1,24 @@
 -- Sets of actions as numbers: the lowest member, a member put in and one taken out.
 use mathlib.Core.Path.{_≡_, refl, sym, _∙_}
 use mathlib.Core.Logic.{_≢_}
-use mathlib.Core.Bool.{Bool, not, _&&_, _||_, and-true, or-comm}
+use mathlib.Core.Bool.{Bool, false, not, _&&_, _||_, and-true, and-false, or-true, or-false, or-comm}
 use mathlib.Core.List.{List}
 use Prim.Native.Nat.{ℕ, zero, suc, _+_, _-_, _*_, _/_, _%_, _^_, _<_, _≤_}
 use native.Mathlib.Nat.{pow-suc}
 use native.Mathlib.Numerals.{one-add}
 use native.Mathlib.Omega.{arith}
-use native.Mathlib.Decide.{ℕ-discrete}
+use native.Mathlib.Decide.{ℕ-discrete, decLt}
 use borrow.Author.Tests.{ne-eqb, eq-eqb}
 use lib.Bits.{bitOr}
 use lib.Count.{trailingZeros, under}
-use lib.Dec.{T, eqb, eqb→eq, eqb·suc-suc, eqb·suc-zero, eqb·zero-suc}
-use lib.ListN.{length, getD, set, length-set}
+use lib.Dec.{T, not-T, eqb, eqb→eq, eqb-refl, eqb·suc-suc, eqb·suc-zero, eqb·zero-suc}
+use lib.ListN.{length, getD, set, length-set, List·getD-eq-default}
 use lib.Pow.{shr-shr}
-use lib.Seq.{getD-set-same, getD-set-other}
+use lib.Seq.{getD-set-same, getD-set-other, set-getD}
+use Rattle.planning.proofs.Tests.{T→true, or-l}
 use Rattle.state.specs.Sets.{inSet, setsOf}
 use Rattle.state.proofs.Members.{inSet-or, inSet-single, inSet-empty}
-use Rattle.forward.specs.Waiting.{member, LowestIn, Lowest, With, Without}
+use Rattle.forward.specs.Waiting.{member, Ready, LowestIn, Lowest, With, Without}
 
 inSet-half : (m x : ℕ) → inSet m (suc x) ≡ inSet (m / 2) x
 unfolding inSet
@@ -76,46 +77,69 @@ trailing-lowest (suc k) m p h = go (m % 2) refl (trailing-lowest k (m / 2))
         later (suc x) l i L = L .least x (omega arith) (rw inSet-half at i)
     go (suc r) e f = record { below = omega arith; is = rw (inSet-zero m) (rw (eq-eqb (m % 2) 1 (omega arith)) tt); least = λ x l i. omega arith }
 
--- the lowest member of a list of sets: the sets before w are empty
-pub record Searching (ready : List ℕ) (w : ℕ) : Type 0 where
-  pub within : w ≤ 16
-  pub empty : (v : ℕ) → v < w → getD ready v 0 ≡ 0
-
-pub searching-turn : (ready : List ℕ) (w : ℕ) → Searching ready w → w < 16 → getD ready w 0 ≡ 0 → Searching ready (w + 1)
-searching-turn ready w S h e = record { within = omega arith; empty = λ v l. go v l (ℕ-discrete v w) }
-  where
-    go : (v : ℕ) → v < w + 1 → Dec (v ≡ w) → getD ready v 0 ≡ 0
-    go v l (yes q) = rw q e
-    go v l (no q) = S .empty v (omega arith)
-
-searching-none : (ready : List ℕ) (w : ℕ) → Searching ready w → (j : ℕ) → j / 64 < w → T (member ready j) → ⊥
-unfolding member setsOf
-searching-none ready w S j l t = rw (S .empty (j / 64) l, inSet-empty (j % 64)) at t
-
-pub searching-end : (ready : List ℕ) (w : ℕ) → Searching ready w → 16 ≤ w → Lowest ready 1024
-searching-end ready w S h = record { few = omega arith; is = λ l. absurd (omega arith); least = λ j l t. searching-none ready w S j (omega arith) t }
-
-pub searching-found : (ready : List ℕ) (w t : ℕ) → Searching ready w → w < 16 → LowestIn (getD ready w 0) 64 t → Lowest ready (64 * w + t)
-unfolding member setsOf
-searching-found ready w t S h L =
-    let b = L .below in
-    let q : (64 * w + t) / 64 ≡ w = omega arith in
-    let r : (64 * w + t) % 64 ≡ t = omega arith in
-    record { few = omega arith; is = λ _. rw (q, r) (L .is); least = λ j l i. go j l i (ℕ-discrete (j / 64) w) }
-  where
-    go : (j : ℕ) → j < 64 * w + t → T (member ready j) → Dec (j / 64 ≡ w) → ⊥
-    go j l i (yes e) = L .least (j % 64) (omega arith) (rw e at i)
-    go j l i (no n) = searching-none ready w S j (omega arith) i
-
--- one set of the list changed, at the place of i
-module _ (ready : List ℕ) (i m : ℕ) (b : i < 1024) (n : length ready ≡ 16) where
-  changed-at : (j : ℕ) (f : ℕ → Bool) → ((x : ℕ) → inSet m x ≡ f x) → j / 64 ≡ i / 64 → member (set ready (i / 64) m) j ≡ f (j % 64)
+-- the lowest member of a list of sets: the lowest of the first set that has one
+module _ (ready : List ℕ) (R : Ready ready) where
+  -- a set with a member is said to have one
+  member-filled : (j : ℕ) → T (member ready j) → T (inSet (getD ready 0 0) (j / 64))
   unfolding member setsOf
-  changed-at j f h e = rw (e, getD-set-same ready (i / 64) m 0 (omega arith)) (h (j % 64))
+  member-filled j t = rw (R .filled (j / 64)) (not-T (eqb (getD ready (j / 64 + 1) 0) 0) (λ z. rw (eqb→eq (getD ready (j / 64 + 1) 0) 0 z, inSet-empty (j % 64)) at t))
 
-  changed-not : (j : ℕ) → j / 64 ≢ i / 64 → member (set ready (i / 64) m) j ≡ member ready j
+  pub filled-some : (w : ℕ) → T (inSet (getD ready 0 0) w) → (w < 16) × (0 < getD ready (w + 1) 0)
+  filled-some w t = go (ℕ-discrete (getD ready (w + 1) 0) 0) (decLt w 16)
+    where
+      go : Dec (getD ready (w + 1) 0 ≡ 0) → Dec (w < 16) → (w < 16) × (0 < getD ready (w + 1) 0)
+      go (yes z) d = absurd (rw (R .filled w, eq-eqb (getD ready (w + 1) 0) 0 z) at t)
+      go (no n) (yes l) = (l, omega arith)
+      go (no n) (no l) = absurd (n (List·getD-eq-default ready 0 (omega (arith, R .long))))
+
+  pub lowest-none : getD ready 0 0 ≡ 0 → Lowest ready 1024
+  lowest-none e = record { few = omega arith; is = λ l. absurd (omega arith); least = λ j l t. rw (e, inSet-empty (j / 64)) at (member-filled j t) }
+
+  pub lowest-found : (w t : ℕ) → LowestIn (getD ready 0 0) 64 w → LowestIn (getD ready (w + 1) 0) 64 t → Lowest ready (64 * w + t)
   unfolding member setsOf
-  changed-not j h = rw (getD-set-other ready (i / 64) (j / 64) m 0 h) refl
+  lowest-found w t W L =
+      let b = L .below in
+      let h = filled-some w (W .is) .0 in
+      let q : (64 * w + t) / 64 ≡ w = omega arith in
+      let r : (64 * w + t) % 64 ≡ t = omega arith in
+      record { few = omega arith; is = λ _. rw (q, r) (L .is); least = λ j l i. go j l i (ℕ-discrete (j / 64) w) }
+    where
+      go : (j : ℕ) → j < 64 * w + t → T (member ready j) → Dec (j / 64 ≡ w) → ⊥
+      go j l i (yes e) = L .least (j % 64) (omega arith) (rw e at i)
+      go j l i (no n) = W .least (j / 64) (omega (arith, L .below)) (member-filled j i)
+
+-- one set of the list changed, at the place of i, and the one in front
+module _ (ready : List ℕ) (i m n : ℕ) (b : i < 1024) (R : Ready ready) where
+  abbrev w : ℕ
+  w = i / 64
+
+  abbrev new : List ℕ
+  new = set (set ready (w + 1) m) 0 n
+
+  new-front : getD new 0 0 ≡ n
+  new-front = getD-set-same (set ready (w + 1) m) 0 n 0 (rw length-set (omega (arith, R .long)))
+
+  new-at : (x : ℕ) → x ≡ w → getD new (x + 1) 0 ≡ m
+  new-at x e = rw e (getD-set-other (set ready (w + 1) m) 0 (w + 1) n 0 (omega arith) ∙ getD-set-same ready (w + 1) m 0 (omega (arith, R .long)))
+
+  new-not : (x : ℕ) → x ≢ w → getD new (x + 1) 0 ≡ getD ready (x + 1) 0
+  new-not x h = getD-set-other (set ready (w + 1) m) 0 (x + 1) n 0 (omega arith) ∙ getD-set-other ready (w + 1) (x + 1) m 0 (omega arith)
+
+  changed-at : (j : ℕ) (f : ℕ → Bool) → ((x : ℕ) → inSet m x ≡ f x) → j / 64 ≡ w → member new j ≡ f (j % 64)
+  unfolding member setsOf
+  changed-at j f h e = rw (new-at (j / 64) e) (h (j % 64))
+
+  changed-not : (j : ℕ) → j / 64 ≢ w → member new j ≡ member ready j
+  unfolding member setsOf
+  changed-not j h = rw (new-not (j / 64) h) refl
+
+  -- the set in front says of the others what it did
+  sound-new : inSet n w ≡ not (eqb m 0) → ((x : ℕ) → x ≢ w → inSet n x ≡ inSet (getD ready 0 0) x) → Ready new
+  sound-new e f = record { long = simp length-set (R .long); filled = λ x. go x (ℕ-discrete x w) }
+    where
+      go : (x : ℕ) → Dec (x ≡ w) → inSet (getD new 0 0) x ≡ not (eqb (getD new (x + 1) 0) 0)
+      go x (yes q) = rw (new-front, new-at x q, q) e
+      go x (no q) = rw (new-front, new-not x q) (f x q ∙ R .filled x)
 
   eqb-place : (j : ℕ) → j / 64 ≡ i / 64 → eqb (j % 64) (i % 64) ≡ eqb j i
   eqb-place j e = go (ℕ-discrete j i)
@@ -124,27 +148,73 @@ module _ (ready : List ℕ) (i m : ℕ) (b : i < 1024) (n : length ready ≡ 16)
       go (yes q) = eq-eqb (j % 64) (i % 64) (omega arith) ∙ sym (eq-eqb j i q)
       go (no q) = ne-eqb (j % 64) (i % 64) (λ z. q (omega arith)) ∙ sym (ne-eqb j i q)
 
-  pub marked : m ≡ bitOr (getD ready (i / 64) 0) (2 ^ (i % 64)) → With ready i (set ready (i / 64) m)
-  unfolding member setsOf
-  marked e = record { long = length-set ready (i / 64) m; are = λ j. go j (ℕ-discrete (j / 64) (i / 64)) }
-    where
-      old : ℕ
-      old = getD ready (i / 64) 0
+  abbrev old : ℕ
+  old = getD ready (w + 1) 0
 
+  pub marked : m ≡ bitOr old (2 ^ (i % 64)) → n ≡ bitOr (getD ready 0 0) (2 ^ w) → With ready i new
+  unfolding member setsOf
+  marked e en = record { sound = sound-new front others; are = λ j. go j (ℕ-discrete (j / 64) w) }
+    where
       digit : (x : ℕ) → inSet m x ≡ (eqb x (i % 64) || inSet old x)
       digit x = rw (e, inSet-or old (2 ^ (i % 64)) x, inSet-single (i % 64) x) (or-comm (inSet old x) (eqb x (i % 64)))
 
-      go : (j : ℕ) → Dec (j / 64 ≡ i / 64) → member (set ready (i / 64) m) j ≡ (eqb j i || member ready j)
+      front-is : (x : ℕ) → inSet n x ≡ (inSet (getD ready 0 0) x || eqb x w)
+      front-is x = rw (en, inSet-or (getD ready 0 0) (2 ^ w) x, inSet-single w x) refl
+
+      on : T (inSet m (i % 64))
+      on = rw (digit (i % 64)) (or-l (eqb (i % 64) (i % 64)) (inSet old (i % 64)) (eqb-refl (i % 64)))
+
+      has : eqb m 0 ≡ false
+      has = ne-eqb m 0 (λ z. rw (z, inSet-empty (i % 64)) at on)
+
+      front : inSet n w ≡ not (eqb m 0)
+      front = front-is w ∙ rw (eq-eqb w w refl, has, or-true (inSet (getD ready 0 0) w)) refl
+
+      others : (x : ℕ) → x ≢ w → inSet n x ≡ inSet (getD ready 0 0) x
+      others x q = front-is x ∙ rw (ne-eqb x w q) (or-false (inSet (getD ready 0 0) x))
+
+      go : (j : ℕ) → Dec (j / 64 ≡ w) → member new j ≡ (eqb j i || member ready j)
       go j (yes q) = changed-at j (λ x. eqb x (i % 64) || inSet old x) digit q ∙ rw (eqb-place j q, q) refl
       go j (no q) = changed-not j q ∙ rw (ne-eqb j i (λ z. q (omega arith))) refl
 
-  pub unmarked : T (member ready i) → m ≡ getD ready (i / 64) 0 - 2 ^ (i % 64) → Without ready i (set ready (i / 64) m)
-  unfolding member setsOf
-  unmarked h e = record { long = length-set ready (i / 64) m; are = λ j. go j (ℕ-discrete (j / 64) (i / 64)) }
-    where
-      old : ℕ
-      old = getD ready (i / 64) 0
+  module _ (h : T (member ready i)) (e : m ≡ old - 2 ^ (i % 64)) where
+    was-filled : T (inSet (getD ready 0 0) w)
+    was-filled = member-filled ready R i h
 
-      go : (j : ℕ) → Dec (j / 64 ≡ i / 64) → member (set ready (i / 64) m) j ≡ (member ready j && not (eqb j i))
-      go j (yes q) = changed-at j (λ x. inSet old x && not (eqb x (i % 64))) (λ x. rw e (inSet-minus (i % 64) old x h)) q ∙ rw (eqb-place j q, q) refl
-      go j (no q) = changed-not j q ∙ rw (ne-eqb j i (λ z. q (omega arith))) (sym (and-true (member ready j)))
+    without : Ready new → Without ready i new
+    unfolding member setsOf
+    without S = record { sound = S; are = λ j. go j (ℕ-discrete (j / 64) w) }
+      where
+        go : (j : ℕ) → Dec (j / 64 ≡ w) → member new j ≡ (member ready j && not (eqb j i))
+        go j (yes q) = changed-at j (λ x. inSet old x && not (eqb x (i % 64))) (λ x. rw e (inSet-minus (i % 64) old x h)) q ∙ rw (eqb-place j q, q) refl
+        go j (no q) = changed-not j q ∙ rw (ne-eqb j i (λ z. q (omega arith))) (sym (and-true (member ready j)))
+
+    -- the last member of its set
+    pub unmarked-last : m ≡ 0 → n ≡ getD ready 0 0 - 2 ^ w → Without ready i new
+    unmarked-last z en = without (sound-new front others)
+      where
+        front-is : (x : ℕ) → inSet n x ≡ (inSet (getD ready 0 0) x && not (eqb x w))
+        front-is x = rw en (inSet-minus w (getD ready 0 0) x was-filled)
+
+        front : inSet n w ≡ not (eqb m 0)
+        front = front-is w ∙ rw (eq-eqb w w refl, eq-eqb m 0 z, and-false (inSet (getD ready 0 0) w)) refl
+
+        others : (x : ℕ) → x ≢ w → inSet n x ≡ inSet (getD ready 0 0) x
+        others x q = front-is x ∙ rw (ne-eqb x w q) (and-true (inSet (getD ready 0 0) x))
+
+    not-last : m ≢ 0 → n ≡ getD ready 0 0 → Without ready i new
+    not-last z en = without (sound-new (rw (en, ne-eqb m 0 z) (T→true (inSet (getD ready 0 0) w) was-filled)) (λ x _. rw en refl))
+
+-- the set in front is not the one changed
+module _ (ready : List ℕ) (i m : ℕ) (b : i < 1024) (R : Ready ready) where
+  pub front-kept : getD (set ready (i / 64 + 1) m) 0 0 ≡ getD ready 0 0
+  front-kept = getD-set-other ready (i / 64 + 1) 0 m 0 (omega arith)
+
+  pub front-member : T (member ready i) → 2 ^ (i / 64) ≤ getD (set ready (i / 64 + 1) m) 0 0
+  front-member h = rw front-kept (inSet-le (i / 64) (getD ready 0 0) (member-filled ready R i h))
+
+  -- one of several members of its set
+  pub unmarked-not-last : T (member ready i) → m ≡ getD ready (i / 64 + 1) 0 - 2 ^ (i % 64) → m ≢ 0 → Without ready i (set ready (i / 64 + 1) m)
+  unmarked-not-last h e z =
+      rw (← set-getD (set ready (i / 64 + 1) m) 0 0)
+      (not-last ready i m (getD (set ready (i / 64 + 1) m) 0 0) b R h e z front-kept)

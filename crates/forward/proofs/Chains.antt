@@ -24,7 +24,7 @@ use Rattle.task.specs.Task.{preAt, effAt, taskIn}
 use Rattle.state.specs.Sets.{setsOf}
 use Rattle.state.proofs.Members.{inSet-empty}
 use Rattle.ranking.specs.Ranked.{Before, Ranked}
-use Rattle.forward.specs.Waiting.{reaches, member, Passing, Lowest, With, Without, ranked, headAt, linkAt, placeAt, hung, Looked, Settles, goes, waits, mem, Each, Chain, Sites}
+use Rattle.forward.specs.Waiting.{reaches, member, Ready, Passing, Lowest, With, Without, ranked, headAt, linkAt, placeAt, hung, Looked, Settles, goes, waits, mem, Each, Chain, Sites}
 
 -- a function changed at one place
 pub put : {B : Type 0} → (ℕ → B) → ℕ → B → ℕ → B
@@ -149,7 +149,7 @@ module _ {task order : List ℕ} {A : ℕ} {s owed : State} {work ready : List �
     few = S .few;
     named = S .named;
     long = S .long;
-    ready-long = S .ready-long;
+    ready-sound = S .ready-sound;
     w = S .w;
     line = S .line;
     rest = [];
@@ -186,7 +186,7 @@ module _ {task order : List ℕ} {A : ℕ} {s owed : State} {work ready : List �
       few = S .few;
       named = S .named;
       long = simp length-set (S .long);
-      ready-long = S .ready-long;
+      ready-sound = S .ready-sound;
       w = S .w;
       line = S .line;
       rest = S .rest;
@@ -257,7 +257,7 @@ module _ {task order : List ℕ} {A : ℕ} {s owed : State} {work ready : List �
       few = S .few;
       named = S .named;
       long = S .long;
-      ready-long = W .long ∙ S .ready-long;
+      ready-sound = W .sound;
       w = put (S .w) h 4097;
       line = S .line;
       rest = F .tail;
@@ -300,7 +300,7 @@ module _ {task order : List ℕ} {A : ℕ} {s owed : State} {work ready : List �
         few = S .few;
         named = S .named;
         long = hung-long work f h (S .long) g b;
-        ready-long = S .ready-long;
+        ready-sound = S .ready-sound;
         w = put (S .w) h f;
         line = line′;
         rest = F .tail;
@@ -360,7 +360,7 @@ module _ {task order : List ℕ} {A : ℕ} {s owed : State} {work ready : List �
       few = S .few;
       named = S .named;
       long = simp length-set (S .long);
-      ready-long = S .ready-long;
+      ready-sound = S .ready-sound;
       w = w′;
       line = put (S .line) f [];
       rest = S .line f;
@@ -396,7 +396,7 @@ module _ {task order : List ℕ} {A : ℕ} {s owed : State} {work ready : List �
     few = S .few;
     named = S .named;
     long = S .long;
-    ready-long = W .long ∙ S .ready-long;
+    ready-sound = W .sound;
     w = S .w;
     line = S .line;
     rest = S .rest;
@@ -483,6 +483,10 @@ sites-settled {task} {order} {A} {s} {owed} {work} {ready} {h} {n} S b work′ r
 pub zeros : (n x : ℕ) → _≡_ {A = ℕ} (getD (replicate n 0) x 0) 0
 zeros n x = let z : ℕ = 0 in elim (decLt x n) [ yes l ↦ getD-replicate n x z z l | no l ↦ List·getD-eq-default (replicate n z) z (rw (length-replicate n z) (omega arith)) ]
 
+-- no rank is ready
+ready-none : Ready (replicate 17 0)
+ready-none = record { long = length-replicate {A = ℕ} 17 0; filled = λ w. rw (zeros 17 0, zeros 17 (w + 1), inSet-empty w) refl }
+
 -- the actions below j are settled, and no link is set from j on
 pub record Entered (task order : List ℕ) (s owed : State) (work ready : List ℕ) (j : ℕ) : Type 0 where
   pub sites : Sites task order j s owed work ready 65535 0
@@ -497,7 +501,7 @@ module _ {task order : List ℕ} {s owed : State} where
     few = omega arith;
     named = λ i l. named i l (ℕ-discrete i j);
     long = S .long;
-    ready-long = S .ready-long;
+    ready-sound = S .ready-sound;
     w = put (S .w) j 4096;
     line = S .line;
     rest = j ∷ [];
@@ -525,14 +529,14 @@ module _ {task order : List ℕ} {s owed : State} where
       go i l (yes q) = rw q P
       go i l (no q) = S .places i (omega arith)
 
-  pub entered-start : {work ready : List ℕ} → work ≡ replicate 6144 65535 → ready ≡ replicate 16 0 → Entered task order s owed work ready 0
+  pub entered-start : {work ready : List ℕ} → work ≡ replicate 6144 65535 → ready ≡ replicate 17 0 → Entered task order s owed work ready 0
   unfolding member setsOf
   entered-start ew er = rw (ew, er) (record {
     sites = record {
       few = omega arith;
       named = λ j b. absurd (omega arith);
       long = length-replicate {A = ℕ} 6144 65535;
-      ready-long = length-replicate {A = ℕ} 16 0;
+      ready-sound = ready-none;
       w = λ _. 0;
       line = λ _. [];
       rest = [];
@@ -546,7 +550,7 @@ module _ {task order : List ℕ} {s owed : State} where
       needs = λ j b. absurd (omega arith);
       unreached = λ j b. absurd (omega arith);
       out = λ j b. absurd (omega arith);
-      sound = λ j m. absurd (rw (zeros 16 (j / 64), inSet-empty (j % 64)) at m);
+      sound = λ j m. absurd (rw (zeros 17 (j / 64 + 1), inSet-empty (j % 64)) at m);
       places = λ j b. absurd (omega arith);
     };
     unlinked = λ x _ l. getD-replicate {A = ℕ} 6144 (4096 + x) 65535 0 (omega arith);

@@ -30,9 +30,13 @@ pub record Unmet (s : State) (facts : List ℕ) (a b k : ℕ) : Type 0 where
   pub passing : Passing s facts a b k
   pub open′ : k < b → reaches s (getD facts k 0) ≡ false
 
--- number i is in a set of 1,024, 64 to a number
+-- number i is in a set of 1,024, 64 to an entry, behind the entry that says which of these have a member
 unfoldable pub member : List ℕ → ℕ → Bool
-member ready i = setsOf ready (i / 64) (i % 64)
+member ready i = setsOf ready (i / 64 + 1) (i % 64)
+
+pub record Ready (ready : List ℕ) : Type 0 where
+  pub long : length ready ≡ 17
+  pub filled : (w : ℕ) → inSet (getD ready 0 0) w ≡ not (eqb (getD ready (w + 1) 0) 0)
 
 -- t is the least member of a set of k
 pub record LowestIn (m k t : ℕ) : Type 0 where
@@ -48,11 +52,11 @@ pub record Lowest (ready : List ℕ) (r : ℕ) : Type 0 where
 
 -- a set with i, and without i
 pub record With (ready : List ℕ) (i : ℕ) (new : List ℕ) : Type 0 where
-  pub long : length new ≡ length ready
+  pub sound : Ready new
   pub are : (j : ℕ) → member new j ≡ (eqb j i || member ready j)
 
 pub record Without (ready : List ℕ) (i : ℕ) (new : List ℕ) : Type 0 where
-  pub long : length new ≡ length ready
+  pub sound : Ready new
   pub are : (j : ℕ) → member new j ≡ (member ready j && not (eqb j i))
 
 -- the action of rank j
@@ -106,7 +110,7 @@ pub record Sites (task order : List ℕ) (A : ℕ) (s owed : State) (work ready 
   pub few : A ≤ 1024
   pub named : (j : ℕ) → j < A → getD order j 0 < actions (taskIn task)
   pub long : length work ≡ 6144
-  pub ready-long : length ready ≡ 16
+  pub ready-sound : Ready ready
   pub w : ℕ → ℕ
   pub line : ℕ → List ℕ
   pub rest : List ℕ

@@ -17,7 +17,7 @@ ghost use Rattle.planning.specs.Runs.{has, actions, act};
 ghost use Rattle.planning.specs.Calls.{forwardCall, forwardList};
 ghost use Rattle.task.specs.Task.{factsIn, taskIn, Loaded};
 ghost use Rattle.state.specs.Sets.{setsOf, Facts};
-ghost use Rattle.forward.specs.Waiting.{Unmet, member, LowestIn, Lowest, With, Without, hung, placeAt, Looked, Settles, Sites, Settled, ByCost, Notes};
+ghost use Rattle.forward.specs.Waiting.{Unmet, member, Ready, LowestIn, Lowest, With, Without, hung, placeAt, Looked, Settles, Sites, Settled, ByCost, Notes};
 ghost use Rattle.forward.specs.Running.{RanOf};
 ghost use Rattle.forward.specs.Answers.{foundOf, forwardOf, forwardIn};
 
@@ -44,32 +44,41 @@ fn lowest_in(m: u64) -> usize
     u64::trailing_zeros(m) as usize
 }
 
+// Ready ranks: 16 sets of 64 behind one that says which of them have a member.
+const SETS: usize = 17;
+
 // The rank to try next: the lowest of the ready ones; 1,024 if there is none.
-fn lowest(ready: &[u64; 16]) -> usize
+fn lowest(ready: &[u64; SETS]) -> usize
+    requires { ⌜ Ready (now ready) ⌝ }
     ensures { λ r. ⌜ Lowest (now (ready .entry)) r ⌝ }
 {
-    let mut w: usize = 0;
-    while w < 16 {
-        if ready[w] != 0 {
-            return 64 * w + lowest_in(ready[w]);
-        }
-        w += 1;
+    let filled = ready[0];
+    if filled == 0 {
+        return 1024;
     }
-    1024
+    let w = lowest_in(filled);
+    64 * w + lowest_in(ready[w + 1])
 }
 
-fn mark(ready: &mut [u64; 16], i: usize)
-    requires { ⌜ (i < 1024) × (length (now ready) ≡ 16) ⌝ }
+fn mark(ready: &mut [u64; SETS], i: usize)
+    requires { ⌜ (i < 1024) × Ready (now ready) ⌝ }
     ensures { λ _. ⌜ With (now (ready .entry)) i (now (ready .exit)) ⌝ }
 {
-    ready[i / 64] = ready[i / 64] | state::single(i % 64);
+    let w = i / 64;
+    ready[w + 1] = ready[w + 1] | state::single(i % 64);
+    ready[0] = ready[0] | state::single(w);
 }
 
-fn unmark(ready: &mut [u64; 16], i: usize)
-    requires { ⌜ (i < 1024) × (length (now ready) ≡ 16) × T (member (now ready) i) ⌝ }
+fn unmark(ready: &mut [u64; SETS], i: usize)
+    requires { ⌜ (i < 1024) × Ready (now ready) × T (member (now ready) i) ⌝ }
     ensures { λ _. ⌜ Without (now (ready .entry)) i (now (ready .exit)) ⌝ }
 {
-    ready[i / 64] = ready[i / 64] - state::single(i % 64);
+    let w = i / 64;
+    let rest = ready[w + 1] - state::single(i % 64);
+    ready[w + 1] = rest;
+    if rest == 0 {
+        ready[0] = ready[0] - state::single(w);
+    }
 }
 
 // What waits, by rank: for each fact the head of its chain of actions, 4,096; from LINK on each action's next on its chain; from PLACE
@@ -96,11 +105,11 @@ fn settle(
     task: &[u16],
     order: &[u16; 1024],
     work: &mut [u16; ALL],
-    ready: &mut [u64; 16],
+    ready: &mut [u64; SETS],
     j: u16,
 )
     requires { ⌜ Loaded (now task) × (j < 1024) × (getD (now order) j 0 < actions (taskIn (now task))) ⌝ }
-    requires { ⌜ (length (now ready) ≡ 16) × Looked (setsOf (now sets)) (now task) (getD (now order) j 0) (placeAt (now work) j) ⌝ }
+    requires { ⌜ Ready (now ready) × Looked (setsOf (now sets)) (now task) (getD (now order) j 0) (placeAt (now work) j) ⌝ }
     ensures { λ _. ⌜ Settles (setsOf (now (sets .entry))) (now (task .entry)) (now (order .entry)) j (now (work .entry)) (now (ready .entry)) (now (work .exit)) (now (ready .exit)) ⌝ }
 {
     let r = lists::wide(j);
@@ -120,7 +129,7 @@ fn settle_all(
     task: &[u16],
     order: &[u16; 1024],
     work: &mut [u16; ALL],
-    ready: &mut [u64; 16],
+    ready: &mut [u64; SETS],
     h: u16,
     from: usize,
     to: usize,
@@ -147,7 +156,7 @@ fn wake(
     task: &[u16],
     order: &[u16; 1024],
     work: &mut [u16; ALL],
-    ready: &mut [u64; 16],
+    ready: &mut [u64; SETS],
     from: usize,
     to: usize,
 )
@@ -206,9 +215,9 @@ fn settle_each(
     task: &[u16],
     order: &[u16; 1024],
     work: &mut [u16; ALL],
-    ready: &mut [u64; 16],
+    ready: &mut [u64; SETS],
 )
-    requires { ⌜ Loaded (now task) × ByCost (now task) (now order) × (now work ≡ replicate 6144 65535) × (now ready ≡ replicate 16 0) ⌝ }
+    requires { ⌜ Loaded (now task) × ByCost (now task) (now order) × (now work ≡ replicate 6144 65535) × (now ready ≡ replicate 17 0) ⌝ }
     ensures { λ _. ⌜ Settled (now (task .entry)) (now (order .entry)) (setsOf (now (sets .entry))) (has []) (now (work .exit)) (now (ready .exit)) ⌝ }
 {
     let n = task::actions(task);
@@ -239,7 +248,7 @@ pub fn run_forward(task: &[u16], first: &mut [u16; 4096], plan: &mut [u16; 1024]
     let mut order = [0u16; 1024];
     ranking::by_cost(task, &mut order);
     let mut work = [65535u16; ALL];
-    let mut ready = [0u64; 16];
+    let mut ready = [0u64; SETS];
     settle_each(&s.sets, task, &order, &mut work, &mut ready);
     let mut steps: usize = 0;
     let mut g: usize = 0;

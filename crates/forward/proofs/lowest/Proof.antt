@@ -1,71 +1,55 @@
-use Rattle.forward.proofs.Bits.{Searching, searching-turn, searching-end, searching-found}
-use Prim.Native.Nat.{_-_}
+use borrow.Author.Needs.{needs}
+use Prim.Native.Nat.{_+_, _<_}
 use native.Mathlib.Omega.{arith}
+use lib.ListN.{getD}
+use Rattle.forward.proofs.Bits.{filled-some, lowest-none, lowest-found}
 use Rattle.forward.proofs.lowest.Statement.{statement}
 use Rattle.forward.proofs.lowest.Tie as tie
 
--- The sets before place w are empty, so the first that is not holds the lowest member.
-abbrev Inv-loop : tie.InvT-loop
-Inv-loop ready w₀ w = Searching ready w
+element-copy-out-filled : tie.Need-element-copy-out-filled
+element-copy-out-filled c = search needs
 
-abbrev μ-loop : tie.MeasureT-loop
-μ-loop ready w₀ w = 16 - w
+returns : tie.Need-returns
+returns c = lowest-none _ (c .before .before .pre) (c .if1 .taken)
 
-loop-holds : tie.Need-loop-holds Inv-loop μ-loop
-loop-holds c = record { within = omega arith; empty = λ v l. absurd (omega arith) }
-
-mul-if1 : tie.Need-mul-if1 Inv-loop μ-loop
-mul-if1 c = omega arith
-
-element-copy-out-if1 : tie.Need-element-copy-out-if1 Inv-loop μ-loop
-element-copy-out-if1 c = omega arith
-
-mul-result : tie.Need-mul-result Inv-loop μ-loop
-mul-result c = omega arith
-
-mul-lowest-in : tie.Need-mul-lowest-in Inv-loop μ-loop
-mul-lowest-in c = omega arith
-
-element-copy-out-lowest-in : tie.Need-element-copy-out-lowest-in Inv-loop μ-loop
-element-copy-out-lowest-in c = omega arith
-
-lowest-in-requires : tie.Need-lowest-in-requires Inv-loop μ-loop
+lowest-in-requires : tie.Need-lowest-in-requires
 lowest-in-requires c κs = omega arith
 
-add-result : tie.Need-add-result Inv-loop μ-loop
-add-result c = omega arith
+found : (c : tie.After-lowest-in) → let a = c .before .before .before .args in (c .lowest-in .result < 16) × (0 < getD (a .ready .now) (c .lowest-in .result + 1) 0)
+found c = filled-some _ (c .before .before .before .pre) _ (c .lowest-in .ensures .is)
 
-returns : tie.Need-returns Inv-loop μ-loop
-returns c = searching-found _ _ _ (c .before .before .before .before .before .loop .inv) (omega arith) (c .lowest-in .ensures)
+mul-result : tie.Need-mul-result
+mul-result c = record { fits = omega (arith, found c .0) }
 
-add-w : tie.Need-add-w Inv-loop μ-loop
-add-w c = omega arith
+add-lowest-in : tie.Need-add-lowest-in
+add-lowest-in c = record { fits = omega (arith, found c .0) }
 
-loop-less : tie.Need-loop-less Inv-loop μ-loop
-loop-less c = omega arith
+mul-lowest-in : tie.Need-mul-lowest-in
+mul-lowest-in c = record { fits = omega (arith, found c .0) }
 
-loop-again : tie.Need-loop-again Inv-loop μ-loop
-loop-again c = searching-turn _ _ (c .before .before .before .loop .inv) (omega arith) (c .if1 .left)
+element-copy-out-lowest-in : tie.Need-element-copy-out-lowest-in
+element-copy-out-lowest-in c = omega (arith, found c .0)
 
-returns-2 : tie.Need-returns-2 Inv-loop μ-loop
-returns-2 c = searching-end _ _ (c .before .loop .inv) (omega arith)
+lowest-in-requires-2 : tie.Need-lowest-in-requires-2
+lowest-in-requires-2 c κs = found (c .before) .1
+
+add-result : tie.Need-add-result
+add-result c = record { fits = omega (arith, found (c .before .before) .0, c .lowest-in2 .ensures .below) }
+
+returns-2 : tie.Need-returns-2
+returns-2 c = lowest-found _ (c .before .before .before .before .before .pre) _ _ (c .before .before .lowest-in .ensures) (c .lowest-in2 .ensures)
 
 pub lowest-spec : {M : Type 1} → statement M
 lowest-spec =
     tie.close
     (tie.spec
-    Inv-loop
-    μ-loop
-    loop-holds
-    mul-if1
-    element-copy-out-if1
+    element-copy-out-filled
+    returns
+    lowest-in-requires
     mul-result
+    add-lowest-in
     mul-lowest-in
     element-copy-out-lowest-in
-    lowest-in-requires
+    lowest-in-requires-2
     add-result
-    returns
-    add-w
-    loop-less
-    loop-again
     returns-2)

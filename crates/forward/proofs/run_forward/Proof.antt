@@ -83,7 +83,7 @@ unmet-requires : tie.Need-unmet-requires Inv-loop μ-loop
 unmet-requires c κs = looping-goals (wake-to-head (c .before .before .before .before .before) .loop .inv)
 
 lowest-requires : tie.Need-lowest-requires Inv-loop μ-loop
-lowest-requires c κs = tt
+lowest-requires c κs = unmet-to-wake (c .before) .wake .ensures .0 .ready-sound
 
 returns : tie.Need-returns Inv-loop μ-loop
 returns c =
@@ -102,7 +102,7 @@ unmark-requires : tie.Need-unmark-requires Inv-loop μ-loop
 unmark-requires c κs =
     let at-lowest = c .before .before .before in
     let b = leb-false 1024 (at-lowest .lowest .result) (c .before .if2 .left) in
-    (b, unmet-to-wake (lowest-to-unmet at-lowest) .wake .ensures .0 .ready-long, at-lowest .lowest .ensures .is b)
+    (b, unmet-to-wake (lowest-to-unmet at-lowest) .wake .ensures .0 .ready-sound, at-lowest .lowest .ensures .is b)
 
 below : (c : tie.After-unmark Inv-loop μ-loop) → unmark-to-lowest c .lowest .result < 1024
 below c = leb-false 1024 (unmark-to-lowest c .lowest .result) (c .before .before .if2 .left)

@@ -39,7 +39,7 @@ settle-requires c κs =
     let head = c .before .before .before .before .before in
     let S = head .loop .inv in
     let b = front S (omega arith) .below in
-    ((head .before .before .pre .0, omega arith, S .named (head .loop .j) b), (S .ready-long, S .places (head .loop .j) b))
+    ((head .before .before .pre .0, omega arith, S .named (head .loop .j) b), (S .ready-sound, S .places (head .loop .j) b))
 
 sub-left : tie.Need-sub-left Inv-loop μ-loop
 sub-left c = search needs

@@ -90,7 +90,7 @@ settle-requires c κs =
     let L = listed inside in
     let E = inside .before .loop .inv .2 in (
       (start (inside .before) .pre .0, near inside, named inside),
-      (E .sites .ready-long, entered-place E (near inside) (named inside) _ (place (c .before .before)) (L .pre-below)),
+      (E .sites .ready-sound, entered-place E (near inside) (named inside) _ (place (c .before .before)) (L .pre-below)),
     )
 
 add-j : tie.Need-add-j Inv-loop μ-loop
