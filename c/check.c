@@ -153,7 +153,7 @@ static void plan(const char *what, const uint8_t *record, size_t record_len, siz
     print_plan(p, list, len, work, work_len);
 }
 
-/* Each way from the record to a plan, once with room and at least once without. */
+/* Each way from the record to a plan, with room and without; then with action 4, with room. */
 static void plans(void)
 {
     forward("", two_shelves, sizeof two_shelves, 4);

@@ -1,4 +1,4 @@
--- Sets of actions as numbers: the lowest member, a member put in and one taken out.
+-- Sets of ranks as numbers: the lowest member, a member put in and one taken out.
 use mathlib.Core.Path.{_≡_, refl, sym, _∙_}
 use mathlib.Core.Logic.{_≢_}
 use mathlib.Core.Bool.{Bool, false, not, _&&_, _||_, and-true, and-false, or-true, or-false, or-comm}
@@ -12,7 +12,7 @@ use borrow.Author.Tests.{ne-eqb, eq-eqb}
 use lib.Bits.{bitOr}
 use lib.Count.{trailingZeros, under}
 use lib.Dec.{T, not-T, eqb, eqb→eq, eqb-refl, eqb·suc-suc, eqb·suc-zero, eqb·zero-suc}
-use lib.ListN.{length, getD, set, length-set, List·getD-eq-default}
+use lib.ListN.{getD, set, length-set, List·getD-eq-default}
 use lib.Pow.{shr-shr}
 use lib.Seq.{getD-set-same, getD-set-other, set-getD}
 use Rattle.planning.proofs.Tests.{T→true, or-l}
@@ -36,7 +36,7 @@ inSet-le zero m h = omega (arith, inSet-odd m h)
 inSet-le (suc b) m h = rw pow-suc (omega (arith, inSet-le b (m / 2) (rw inSet-half at h)))
 
 -- a member taken out
-pub inSet-minus : (b m x : ℕ) → T (inSet m b) → inSet (m - 2 ^ b) x ≡ (inSet m x && not (eqb x b))
+inSet-minus : (b m x : ℕ) → T (inSet m b) → inSet (m - 2 ^ b) x ≡ (inSet m x && not (eqb x b))
 inSet-minus zero m zero h =
     let e : m % 2 ≡ 1 = inSet-odd m h in
     let z : (m - 1) % 2 ≡ 0 = omega arith in
@@ -54,8 +54,7 @@ inSet-minus (suc b) m (suc x) h =
     let z : (m - 2 ^ suc b) / 2 ≡ m / 2 - 2 ^ b = omega arith in
     rw (inSet-half (m - 2 ^ suc b) x, inSet-half m x, z, eqb·suc-suc x b) (inSet-minus b (m / 2) x (rw inSet-half at h))
 
--- the lowest member of a number
-
+-- the lowest member of a set of k
 pub trailing-lowest : (k m : ℕ) → 0 < m → m < 2 ^ k → LowestIn m k (trailingZeros k m)
 unfolding trailingZeros
 trailing-lowest zero m p h = absurd (omega arith)

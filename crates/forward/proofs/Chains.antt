@@ -1,11 +1,11 @@
 -- Where each action waits, by its rank: what settling an action, taking a chain off and a larger state do to it. A chain is a list that the links
 -- follow; an action is on one chain at most, since each number of a chain has its place there (`owns`), so a link may be changed
 -- where its action is on none.
-use mathlib.Core.Path.{_≡_, refl, sym, ap, _∙_, subst}
+use mathlib.Core.Path.{_≡_, refl, sym, _∙_, subst}
 use mathlib.Core.Logic.{_⊎_, inl, inr, _≢_}
 use mathlib.Core.Bool.{Bool, true, false, not, _||_}
 use mathlib.Core.List.{List, [], _∷_}
-use mathlib.Core.Option.{Option, none, some}
+use mathlib.Core.Option.{none, some}
 use Prim.Native.Nat.{ℕ, suc, _+_, _-_, _/_, _%_, _<_, _≤_}
 use native.Mathlib.Omega.{arith}
 use native.Mathlib.Decide.{ℕ-discrete, decLt}
@@ -27,25 +27,25 @@ use Rattle.ranking.specs.Ranked.{Before, Ranked}
 use Rattle.forward.specs.Waiting.{reaches, member, Ready, Passing, Lowest, With, Without, ranked, headAt, linkAt, placeAt, hung, Looked, Settles, goes, waits, mem, Each, Chain, Sites}
 
 -- a function changed at one place
-pub put : {B : Type 0} → (ℕ → B) → ℕ → B → ℕ → B
+put : {B : Type 0} → (ℕ → B) → ℕ → B → ℕ → B
 put g h v x = elim (eqb x h) [ true ↦ v | false ↦ g x ]
 
-pub put-same : {B : Type 0} (g : ℕ → B) (h : ℕ) (v : B) → put g h v h ≡ v
+put-same : {B : Type 0} (g : ℕ → B) (h : ℕ) (v : B) → put g h v h ≡ v
 unfolding put
 put-same g h v = rw (eq-eqb h h refl, put) refl
 
-pub put-other : {B : Type 0} (g : ℕ → B) (h : ℕ) (v : B) (x : ℕ) → x ≢ h → put g h v x ≡ g x
+put-other : {B : Type 0} (g : ℕ → B) (h : ℕ) (v : B) (x : ℕ) → x ≢ h → put g h v x ≡ g x
 unfolding put
 put-other g h v x n = rw (ne-eqb x h n, put) refl
 
-pub put-cases : {B : Type 0} (P : ℕ → B → Type 0) (g : ℕ → B) (h : ℕ) (v : B) → P h v → ((x : ℕ) → x ≢ h → P x (g x)) → (x : ℕ) → P x (put g h v x)
+put-cases : {B : Type 0} (P : ℕ → B → Type 0) (g : ℕ → B) (h : ℕ) (v : B) → P h v → ((x : ℕ) → x ≢ h → P x (g x)) → (x : ℕ) → P x (put g h v x)
 put-cases P g h v p f x = go (ℕ-discrete x h)
   where
     go : Dec (x ≡ h) → P x (put g h v x)
     go (yes e) = rw (e, put-same g h v) p
     go (no n) = rw (put-other g h v x n) (f x n)
 
-pub each-map : (P Q : ℕ → Type 0) → ((i : ℕ) → P i → Q i) → (l : List ℕ) → Each P l → Each Q l
+each-map : (P Q : ℕ → Type 0) → ((i : ℕ) → P i → Q i) → (l : List ℕ) → Each P l → Each Q l
 each-map P Q f [] h = tt
 each-map P Q f (i ∷ l) h = (f i (h .0), each-map P Q f l (h .1))
 
@@ -108,7 +108,7 @@ empty-by-length : (l : List ℕ) → length l ≤ 0 → l ≡ []
 empty-by-length [] e = refl
 empty-by-length (j ∷ l) e = absurd (omega arith)
 
--- action h in front of the chain of f: what the list then says
+-- rank h in front of the chain of f: what the list then says
 module _ (work : List ℕ) (f h : ℕ) (n : length work ≡ 6144) (g : f < 4096) (b : h < 1024) where
   abbrev linked : List ℕ
   linked = set work (4096 + h) (headAt work f)
@@ -173,15 +173,15 @@ module _ {task order : List ℕ} {A : ℕ} {s owed : State} {work ready : List �
   pub sites-spent : {h n : ℕ} → Sites task order A s owed work ready h n → n ≤ 0 → Sites task order A s owed work ready 65535 0
   sites-spent S e = at-rest S (empty-by-length (S .rest) (omega (arith, S .left)))
 
-  -- the place of action x is noted
+  -- the place of rank x is noted
   module _ {h n : ℕ} (S : Sites task order A s owed work ready h n) (x p : ℕ) (b : x < 1024) (P : x < A → Looked s task (getD order x 0) p) where
     abbrev noted : List ℕ
     noted = set work (5120 + x) p
 
-    pub noted-link : (i : ℕ) → i < 1024 → linkAt noted i ≡ linkAt work i
+    noted-link : (i : ℕ) → i < 1024 → linkAt noted i ≡ linkAt work i
     noted-link i l = getD-set-other work (5120 + x) (4096 + i) p 0 (omega arith)
 
-    pub sites-noted : Sites task order A s owed noted ready h n
+    sites-noted : Sites task order A s owed noted ready h n
     sites-noted = record {
       few = S .few;
       named = S .named;
@@ -487,15 +487,15 @@ zeros n x = let z : ℕ = 0 in elim (decLt x n) [ yes l ↦ getD-replicate n x z
 ready-none : Ready (replicate 17 0)
 ready-none = record { long = length-replicate {A = ℕ} 17 0; filled = λ w. rw (zeros 17 0, zeros 17 (w + 1), inSet-empty w) refl }
 
--- the actions below j are settled, and no link is set from j on
+-- the actions of ranks below j are settled, and no link is set from rank j on
 pub record Entered (task order : List ℕ) (s owed : State) (work ready : List ℕ) (j : ℕ) : Type 0 where
   pub sites : Sites task order j s owed work ready 65535 0
   pub unlinked : (x : ℕ) → j ≤ x → x < 1024 → linkAt work x ≡ 65535
 
 -- One action more: it is on no chain, and left to settle.
 module _ {task order : List ℕ} {s owed : State} where
-  sites-enter : {j : ℕ} {work ready : List ℕ} → Sites task order j s owed work ready 65535 0 → j < 1024 → 1024 ≤ linkAt work j → getD order j 0 < actions (taskIn task) → Looked s task (getD order j 0) (placeAt work j)
-      → Sites task order (j + 1) s owed work ready j 1
+  sites-enter : {j : ℕ} {work ready : List ℕ} → Sites task order j s owed work ready 65535 0 → j < 1024 → 1024 ≤ linkAt work j
+      → getD order j 0 < actions (taskIn task) → Looked s task (getD order j 0) (placeAt work j) → Sites task order (j + 1) s owed work ready j 1
   unfolding mem
   sites-enter {j} {work} {ready} S b e m P = record {
     few = omega arith;
@@ -556,8 +556,9 @@ module _ {task order : List ℕ} {s owed : State} where
     unlinked = λ x _ l. getD-replicate {A = ℕ} 6144 (4096 + x) 65535 0 (omega arith);
   })
 
-  -- action j enters, with the place of its first precondition, and is settled
-  module _ {work ready : List ℕ} {j : ℕ} (E : Entered task order s owed work ready j) (b : j < 1024) (m : getD order j 0 < actions (taskIn task)) (p : ℕ) (ep : p ≡ preAt task (getD order j 0)) (o : preAt task (getD order j 0) ≤ effAt task (getD order j 0)) where
+  -- rank j enters, with the place of its action's first precondition, and is settled
+  module _ {work ready : List ℕ} {j : ℕ} (E : Entered task order s owed work ready j) (b : j < 1024) (m : getD order j 0 < actions (taskIn task))
+      (p : ℕ) (ep : p ≡ preAt task (getD order j 0)) (o : preAt task (getD order j 0) ≤ effAt task (getD order j 0)) where
     begun : Looked s task (getD order j 0) p
     begun = record { from = omega arith; to = omega arith; passed = λ x l m. absurd (omega arith) }
 

@@ -100,7 +100,7 @@ module _ {task order : List ℕ} {g : Goals} {fst plan sets work₀ ready₀ wor
       looping-none full = ended-none (L .loaded .formed) (L .going) unmet-goal (sites-none S free (L .by-cost) (subst (Lowest ready) (omega (arith, W .few)) W))
 
       module _ (below : p < 1024) where
-        pub rank-below : p < actions t
+        rank-below : p < actions t
         rank-below = S .sound p (W .is below) .0
 
         module _ {i : ℕ} (is : i ≡ getD order p 0) where

@@ -59,10 +59,10 @@ module _ (l : List ℕ) where
       go (no i) f = or-r (eqb v (getD l a 0 / 64) && eqb d (getD l a 0 % 64)) (has (factsIn l (a + 1) b) v d) (f (omega arith) q)
 
   module _ (a b : ℕ) (p : a ≤ b) (q : b ≤ length l) where
-    pub at-has : (v d : ℕ) → T (has (factsIn l a b) v d) → (x : ℕ) × (a ≤ x) × (x < b) × (v ≡ getD l x 0 / 64) × (d ≡ getD l x 0 % 64)
+    at-has : (v d : ℕ) → T (has (factsIn l a b) v d) → (x : ℕ) × (a ≤ x) × (x < b) × (v ≡ getD l x 0 / 64) × (d ≡ getD l x 0 % 64)
     at-has v d t = at-has′ (b - a) a b v d (omega arith) q t
 
-    pub has-at : (x : ℕ) → a ≤ x → x < b → T (has (factsIn l a b) (getD l x 0 / 64) (getD l x 0 % 64))
+    has-at : (x : ℕ) → a ≤ x → x < b → T (has (factsIn l a b) (getD l x 0 / 64) (getD l x 0 % 64))
     has-at x h g = has-at′ (b - a) a b x (omega arith) q h g
 
     pub holds-each : (s : State) → T (holds s (factsIn l a b)) → (x : ℕ) → a ≤ x → x < b → T (reaches s (getD l x 0))

@@ -19,7 +19,7 @@ use Rattle.planning.proofs.Below.{total-le, total-pred, total-one, tally-pos}
 use Rattle.planning.proofs.Facts.{_⊆_, holds→sub}
 use Rattle.planning.proofs.Steps.{All, step-eff, run-append, run-grows}
 use Rattle.planning.proofs.Formed.{Formed, sorted-has, initial-holds}
-use Rattle.planning.proofs.Forward.{Once, forward-take, forwardRun-ran, forwardRun-once}
+use Rattle.planning.proofs.Forward.{Once, forward-take, forward-goal, forward-none, forwardRun-ran, forwardRun-once}
 use Rattle.task.specs.Task.{factsIn}
 use Rattle.forward.specs.Waiting.{reaches, Each, Passing, Noted}
 use Rattle.state.specs.Sets.{setsOf}
@@ -37,7 +37,7 @@ once-distinct : (l : List ℕ) → Once l → Distinct l
 once-distinct [] o = tt
 once-distinct (i ∷ l) o = (all-each (λ j. i ≢ j) (λ j. j ≢ i) (λ j n e. n (sym e)) l (o .0), once-distinct l (o .1))
 
-pub forwardRun-few : (t : Task) → Formed t → length (forwardRun t) ≤ 1024
+forwardRun-few : (t : Task) → Formed t → length (forwardRun t) ≤ 1024
 forwardRun-few t F =
     let below = all-each (λ i. i < actions t) (λ i. i < actions t) (λ i h. h) (forwardRun t) (forwardRun-ran t F .below) in
     omega (arith, F .actions-max, distinct-length (actions t) (forwardRun t) below (once-distinct (forwardRun t) (forwardRun-once t F)))
@@ -52,18 +52,6 @@ forwardRun-fuel t F =
       total-one (variables t),
       total-le (variables t) (λ _. 1) (λ v. tally (count t v) (initial t v)) (λ v b. tally-pos (count t v) (initial t v) (variable t v .init) (F .init-below v) (initial-holds t v b)),
     )
-
--- the run ends where the goals are reached, or no action adds a fact
-module _ (act : ℕ → Action) (A : ℕ) (goal : List Fact) (s : State) where
-  forward-met : (k : ℕ) → holds s goal ≡ true → forward act A goal k s ≡ []
-  unfolding forward
-  forward-met zero h = refl
-  forward-met (suc k) h = rw (h, forward) refl
-
-  forward-none : (k : ℕ) → holds s goal ≡ false → choice act A s ≡ none → forward act A goal k s ≡ []
-  unfolding forward
-  forward-none zero h e = refl
-  forward-none (suc k) h e = rw (h, e, forward) refl
 
 -- first achievers by a list with one action more
 orElse : Option ℕ → Option ℕ → Option ℕ
@@ -223,10 +211,10 @@ module _ {t : Task} (F : Formed t) where
       }
 
     pub ended-met : holds s (goals t) ≡ true → (a : Ran) → a .steps ≡ n → a .solved ≡ true → setsOf (a .state .sets) ≡ s → RanOf t plan fst a
-    ended-met h a en eb es = ended (forward-met (act t) (actions t) (goals t) s (G .k) h) a en (eb ∙ sym h) es
+    ended-met h a en eb es = ended (forward-goal (act t) (actions t) (goals t) (G .k) s h) a en (eb ∙ sym h) es
 
     pub ended-none : holds s (goals t) ≡ false → choice (act t) (actions t) s ≡ none → (a : Ran) → a .steps ≡ n → a .solved ≡ false → setsOf (a .state .sets) ≡ s → RanOf t plan fst a
-    ended-none h e a en eb es = ended (forward-none (act t) (actions t) (goals t) s (G .k) h e) a en (eb ∙ sym h) es
+    ended-none h e a en eb es = ended (forward-none (act t) (actions t) (goals t) (G .k) s e) a en (eb ∙ sym h) es
 
 -- the goals as the loop tests them
 module _ (t : Task) {s : State} {facts : List ℕ} {m r : ℕ} (q : m ≤ length facts) (e : factsIn facts 0 m ≡ goals t) (P : Passing s facts 0 m r) where

@@ -30,10 +30,11 @@ pub record Unmet (s : State) (facts : List ℕ) (a b k : ℕ) : Type 0 where
   pub passing : Passing s facts a b k
   pub open′ : k < b → reaches s (getD facts k 0) ≡ false
 
--- number i is in a set of 1,024, 64 to an entry, behind the entry that says which of these have a member
+-- A set of numbers below 1,024 is 17 entries: 16 sets of 64 behind one that says which of them have a member. Number i is in it:
 unfoldable pub member : List ℕ → ℕ → Bool
 member ready i = setsOf ready (i / 64 + 1) (i % 64)
 
+-- the list is such a set, and its first entry says so of the others
 pub record Ready (ready : List ℕ) : Type 0 where
   pub long : length ready ≡ 17
   pub filled : (w : ℕ) → inSet (getD ready 0 0) w ≡ not (eqb (getD ready (w + 1) 0) 0)
@@ -78,9 +79,9 @@ placeAt work j = getD work (5120 + j) 0
 unfoldable pub hung : List ℕ → ℕ → ℕ → List ℕ
 hung work f j = set (set work (4096 + j) (getD work f 0)) f j
 
--- the preconditions of action j before place k are reached
+-- the preconditions of action i before place k are reached
 abbrev pub Looked : State → List ℕ → ℕ → ℕ → Type 0
-Looked s task j k = Passing s task (preAt task j) (effAt task j) k
+Looked s task i k = Passing s task (preAt task i) (effAt task i) k
 
 -- what settling the action of rank j does: it is ready, or hangs on the chain of a precondition f that is not reached; its place is noted
 pub data Settles (s : State) (task order : List ℕ) (j : ℕ) (work ready work′ ready′ : List ℕ) : Type 0 where

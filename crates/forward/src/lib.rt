@@ -183,7 +183,7 @@ fn held(sets: &[u64; 64], f: usize) -> usize
 }
 
 // The old number if h is 1, the new one if it is 0.
-fn chosen(old: u16, new: usize, h: usize) -> u16
+fn pick(old: u16, new: usize, h: usize) -> u16
     requires { ⌜ (new < 1024) × (h ≤ 1) ⌝ }
     ensures { λ r. ⌜ r ≡ old * h + new * (1 - h) ⌝ }
 {
@@ -202,7 +202,7 @@ fn note(sets: &[u64; 64], task: &[u16], i: usize, first: &mut [u16; 4096]) -> bo
     while k < to {
         let f = lists::wide(task[k]);
         let h = held(sets, f);
-        first[f] = chosen(first[f], i, h);
+        first[f] = pick(first[f], i, h);
         new += 1 - h;
         k += 1;
     }
@@ -237,7 +237,8 @@ pub struct Ran {
 }
 
 // The forward run of a loaded task: the actions in the front of `plan`, and the first achiever of each fact, where `first` holds
-// 65,535 before.
+// 65,535 before. What waits for the effects of the action taken last wakes in the turn after it: a step that ends a turn copies the
+// state twice, any other three times.
 pub fn run_forward(task: &[u16], first: &mut [u16; 4096], plan: &mut [u16; 1024]) -> Ran
     requires { ⌜ Loaded (now task) × (now first ≡ replicate 4096 65535) × (length (now plan) ≡ 1024) ⌝ }
     ensures { λ r. ⌜ RanOf (taskIn (now (task .entry))) (now (plan .exit)) (now (first .exit)) r ⌝ }
@@ -252,7 +253,6 @@ pub fn run_forward(task: &[u16], first: &mut [u16; 4096], plan: &mut [u16; 1024]
     settle_each(&s.sets, task, &order, &mut work, &mut ready);
     let mut steps: usize = 0;
     let mut g: usize = 0;
-    // The effects of the action taken last wake in the turn after it: a step that ends a turn copies the state twice, any other three times.
     let mut from: usize = 0;
     let mut to: usize = 0;
     loop {

@@ -270,6 +270,7 @@ pub starred :
     × (relaxedPlan (taskOf withFour) ≡ 4 ∷ 2 ∷ 3 ∷ [])
     × (called withFour 5 ≡ plan 4 (4 ∷ 2 ∷ 1 ∷ 3 ∷ 65535 ∷ []) 9 true 4)
     × (forwardRun (taskOf tray) ≡ 0 ∷ 1 ∷ [])
+    × (factsReached (taskOf withFour) ≡ 5)
     × (desk newest [] 3 ≡ shown 0 0 (0 ∷ 0 ∷ 0 ∷ []))
     × (desk newest (0 ∷ 2 ∷ 1 ∷ []) 3 ≡ shown 3 3 (0 ∷ 1 ∷ 1 ∷ []))
     × (desk newest (0 ∷ 2 ∷ 3 ∷ []) 3 ≡ shown 3 3 (1 ∷ 0 ∷ 1 ∷ []))
@@ -292,6 +293,7 @@ unfolding times share blackProduct check andThen inOrder answer bitAt bitsAt hol
     bothBlack goalMet tray door litReturn repeatedVariable withFour initialValues newer tracked track redBlackSteps stopsIn tabulate newestValues progress
     newestCall newestList lengthCheck notBelow entriesCheck deskOf desk newest
 starred = (
+  refl,
   refl,
   refl,
   refl,

@@ -1,13 +1,13 @@
 -- The choice of the forward run. Where an action adds a fact there is a cheapest one that does: take any, and a cheaper one as long as
 -- there is one. So an action is chosen exactly if one adds a fact; which one it is, no law of plans asks.
 use Prim.Native.Nat.{ℕ, zero, suc, _≤_, _<_}
-use mathlib.Core.Path.{_≡_, refl, ap, subst}
+use mathlib.Core.Path.{_≡_}
 use mathlib.Core.Logic.{_⊎_, inl, inr}
 use mathlib.Core.Bool.{Bool, not, _&&_}
 use mathlib.Core.Option.{Option, none, some}
 use lib.Dec.{T, T-not, not-T, ltb, ltb→lt, lt→ltb}
 use native.Mathlib.Omega.{arith}
-use Rattle.planning.specs.Basics.{someBelow, first}
+use Rattle.planning.specs.Basics.{someBelow}
 use Rattle.planning.specs.Record.{Action}
 use Rattle.planning.specs.Runs.{State}
 use Rattle.planning.specs.Relaxed.{adds, cheapest, choice}

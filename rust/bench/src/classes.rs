@@ -21,7 +21,7 @@ fn runs() -> Vec<Class> {
         Class::new("record check, 1,024 tiny", |r, n| check(&many(256 * n, || tiny(r)))),
         // Each of 256n actions becomes applicable by the one before, and the lowest number is last.
         Class::new("forward run", |r, n| forward(&extremes::chain(r, 256 * n))),
-        // The same with costs that rise against the numbers, and with no two costs the same.
+        // The same with costs that fall as the numbers rise, and with no two costs the same.
         Class::new("forward run, falling costs", |r, n| {
             forward(&extremes::falling_chain(r, 256 * n))
         }),

@@ -35,7 +35,7 @@ pub fn chain(random: &mut Random, actions: usize) -> Task {
     chain_costing(random, costs)
 }
 
-/// The chain with costs that rise against the numbers.
+/// The chain with costs that fall as the numbers rise.
 pub fn falling_chain(random: &mut Random, actions: usize) -> Task {
     chain_costing(random, falling_costs(actions))
 }

@@ -249,6 +249,7 @@ pub(crate) fn number(random: &mut Random, variables: Vec<Variable>, drafts: Vec<
     number_with(random, variables, drafts, cost)
 }
 
+/// The same, with costs drawn by `cost`.
 pub(crate) fn number_with(
     random: &mut Random,
     variables: Vec<Variable>,

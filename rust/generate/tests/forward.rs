@@ -42,7 +42,7 @@ fn answered(task: &Task) -> Result<(Vec<u16>, u32), Refusal> {
 #[test]
 fn forward_run_is_as_worded() {
     let random = &mut Random::new(80);
-    let (mut run, mut refused) = (0, 0);
+    let (mut ran, mut refused) = (0, 0);
     for _ in 0..20_000 {
         let task = mixture::task(random);
         if task.action_count() > 300 {
@@ -51,9 +51,9 @@ fn forward_run_is_as_worded() {
         let answer = answered(&task);
         assert_eq!(answer, worded(&task));
         refused += usize::from(answer.is_err());
-        run += usize::from(answer.is_ok_and(|(steps, _)| steps.len() > 1));
+        ran += usize::from(answer.is_ok_and(|(steps, _)| steps.len() > 1));
     }
-    assert!(run > 5000 && refused > 2000, "{run} {refused}");
+    assert!(ran > 5000 && refused > 2000, "{ran} {refused}");
 }
 
 #[test]

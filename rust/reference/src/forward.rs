@@ -1,4 +1,4 @@
-//! The forward run and the relaxed plan (SPECIFICATION, States and runs).
+//! The forward run and the relaxed plan (SPECIFICATION, 4).
 
 use crate::index::Waiting;
 use crate::ready::Ready;

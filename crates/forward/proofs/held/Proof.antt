@@ -1,6 +1,5 @@
 use borrow.Author.Needs.{needs}
-use mathlib.Core.Path.{_≡_, refl, sym, ap, _∙_}
-use mathlib.Core.Bool.{Bool, true, false}
+use mathlib.Core.Path.{sym, ap, _∙_}
 use Rattle.planning.specs.Basics.{oneIf}
 use Rattle.forward.proofs.held.Statement.{statement}
 use Rattle.forward.proofs.held.Tie as tie

@@ -1,6 +1,6 @@
 use borrow.Author.Needs.{needs}
 use mathlib.Core.Path.{ap, _∙_}
-use Prim.Native.Nat.{_+_, _/_, _^_}
+use Prim.Native.Nat.{_+_, _/_}
 use lib.Bits.{bitOr}
 use lib.ListN.{getD}
 use Rattle.forward.proofs.Bits.{marked, front-kept}

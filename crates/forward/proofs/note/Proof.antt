@@ -32,11 +32,11 @@ listed c = loaded-listed _ (start c .pre .0) _ (start c .pre .1)
 abbrev wide-to-head : tie.After-wide Inv-loop μ-loop → tie.At-loop Inv-loop μ-loop
 wide-to-head c = c .before .before .before
 
-abbrev chosen-to-held : tie.After-chosen Inv-loop μ-loop → tie.After-held Inv-loop μ-loop
-chosen-to-held c = c .before .before
+abbrev pick-to-held : tie.After-pick Inv-loop μ-loop → tie.After-held Inv-loop μ-loop
+pick-to-held c = c .before .before
 
-abbrev chosen-to-head : tie.After-chosen Inv-loop μ-loop → tie.At-loop Inv-loop μ-loop
-chosen-to-head c = wide-to-head (chosen-to-held c .before)
+abbrev pick-to-head : tie.After-pick Inv-loop μ-loop → tie.At-loop Inv-loop μ-loop
+pick-to-head c = wide-to-head (pick-to-held c .before)
 
 eff-end-requires : tie.Need-eff-end-requires Inv-loop μ-loop
 eff-end-requires c κs = search needs
@@ -69,11 +69,11 @@ small c =
 held-requires : tie.Need-held-requires Inv-loop μ-loop
 held-requires c κs = small c
 
-mul-chosen : tie.Need-mul-chosen Inv-loop μ-loop
-mul-chosen c = record { fits = omega (arith, small (c .before)) }
+mul-pick : tie.Need-mul-pick Inv-loop μ-loop
+mul-pick c = record { fits = omega (arith, small (c .before)) }
 
-element-copy-out-chosen : tie.Need-element-copy-out-chosen Inv-loop μ-loop
-element-copy-out-chosen c = small (c .before)
+element-copy-out-pick : tie.Need-element-copy-out-pick Inv-loop μ-loop
+element-copy-out-pick c = small (c .before)
 
 -- 1 or 0
 bit : (c : tie.After-held Inv-loop μ-loop) → c .held .result ≤ 1
@@ -81,22 +81,22 @@ bit c =
     let w = c .before .wide .result in
     omega (arith, c .held .ensures, oneIf-le (setsOf (start (wide-to-head (c .before)) .args .sets .now) (w / 64) (w % 64)))
 
-chosen-requires : tie.Need-chosen-requires Inv-loop μ-loop
-chosen-requires c κs = (listed (wide-to-head (c .before .before)) .near, bit (c .before))
+pick-requires : tie.Need-pick-requires Inv-loop μ-loop
+pick-requires c κs = (listed (wide-to-head (c .before .before)) .near, bit (c .before))
 
 mul-first : tie.Need-mul-first Inv-loop μ-loop
-mul-first c = record { fits = omega (arith, small (chosen-to-held c .before)) }
+mul-first c = record { fits = omega (arith, small (pick-to-held c .before)) }
 
 element-write-first : tie.Need-element-write-first Inv-loop μ-loop
-element-write-first c = small (chosen-to-held c .before)
+element-write-first c = small (pick-to-held c .before)
 
 sub-new : tie.Need-sub-new Inv-loop μ-loop
-sub-new c = bit (chosen-to-held c)
+sub-new c = bit (pick-to-held c)
 
 add-new : tie.Need-add-new Inv-loop μ-loop
 add-new c =
-    let I = chosen-to-head c .loop .inv in
-    record { fits = omega (arith, I .0, I .1 .few, listed (chosen-to-head c) .end-below) }
+    let I = pick-to-head c .loop .inv in
+    record { fits = omega (arith, I .0, I .1 .few, listed (pick-to-head c) .end-below) }
 
 add-k : tie.Need-add-k Inv-loop μ-loop
 add-k c = search needs
@@ -106,9 +106,9 @@ loop-less c = search needs
 
 loop-again : tie.Need-loop-again Inv-loop μ-loop
 loop-again c =
-    let at-held = chosen-to-held c in
-    let I = chosen-to-head c .loop .inv in
-    (I .0, noting-turn _ _ _ _ _ _ _ _ _ _ (I .1) (omega (arith, I .0)) (at-held .before .wide .ensures) (small (at-held .before)) _ _ (at-held .held .ensures) (c .chosen .ensures))
+    let at-held = pick-to-held c in
+    let I = pick-to-head c .loop .inv in
+    (I .0, noting-turn _ _ _ _ _ _ _ _ _ _ (I .1) (omega (arith, I .0)) (at-held .before .wide .ensures) (small (at-held .before)) _ _ (at-held .held .ensures) (c .pick .ensures))
 
 returns : tie.Need-returns Inv-loop μ-loop
 unfolding actionIn
@@ -134,9 +134,9 @@ note-spec =
     shared-slice-read-wide
     wide-requires
     held-requires
-    mul-chosen
-    element-copy-out-chosen
-    chosen-requires
+    mul-pick
+    element-copy-out-pick
+    pick-requires
     mul-first
     element-write-first
     sub-new

@@ -1,6 +1,6 @@
 use borrow.Author.Needs.{needs}
 use mathlib.Core.Path.{_≡_, refl, ap, _∙_}
-use Prim.Native.Nat.{_+_, _*_, _<_}
+use Prim.Native.Nat.{_+_, _*_}
 use native.Mathlib.Omega.{arith}
 use lib.ListN.{getD}
 use Rattle.task.specs.Task.{effAt}
@@ -81,7 +81,8 @@ unmet-requires c κs =
       small = λ k a b. L .small k (omega (arith, P .from, from-is c)) (omega (arith, L .eff-below, to-is c));
     }
 
-found : (c : tie.After-unmet) → let a = start c .args in Unmet (setsOf (a .sets .now)) (a .task .now) (placeAt (a .work .now) (a .j)) (effAt (a .task .now) (getD (a .order .now) (a .j) 0)) (c .unmet .result)
+found : (c : tie.After-unmet) → let a = start c .args in
+    Unmet (setsOf (a .sets .now)) (a .task .now) (placeAt (a .work .now) (a .j)) (effAt (a .task .now) (getD (a .order .now) (a .j) 0)) (c .unmet .result)
 found c = rw (← from-is (c .before), ← to-is (c .before)) (c .unmet .ensures)
 
 listed : (c : tie.After-unmet) → let a = start c .args in Listed (a .task .now) (getD (a .order .now) (a .j) 0)

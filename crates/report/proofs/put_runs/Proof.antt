@@ -7,11 +7,21 @@ use Rattle.report.proofs.Answers.{kept-le, put-runs}
 use Rattle.report.proofs.put_runs.Statement.{statement}
 use Rattle.report.proofs.put_runs.Tie as tie
 
+-- the points of the code, from the last to the first
+abbrev reached-to-start : tie.After-reached → tie.Start
+reached-to-start c = c .before .before .before .before .before .before .before
+
+abbrev relaxed-to-line : tie.After-relaxed → tie.After-put-line
+relaxed-to-line c = c .before .before .before .before
+
 abbrev to-reached : tie.After-relaxed → tie.After-reached
-to-reached c = c .before .before .before .before .before .before .before
+to-reached c = relaxed-to-line c .before .before .before
 
 abbrev to-start : tie.After-relaxed → tie.Start
-to-start c = c .before .before .before .before .before .before .before .before .before .before .before .before .before .before
+to-start c = reached-to-start (to-reached c)
+
+abbrev front-to-relaxed : tie.After-front → tie.After-relaxed
+front-to-relaxed c = c .before .before .before .before .before
 
 -- the forward run left the list its length
 same : (c : tie.After-relaxed) → length (to-reached c .reached .last .1 .0) ≡ length (to-start c .args .list .now)
@@ -37,7 +47,7 @@ front-requires c κs = search needs
 
 put-relaxed-requires : tie.Need-put-relaxed-requires
 put-relaxed-requires c κs =
-    let r = c .before .before .before .before .before in (omega (arith, few r, c .front .ensures .1), omega arith)
+    (omega (arith, few (front-to-relaxed c), c .front .ensures .1), omega arith)
 
 same-length : tie.Need-same-length
 same-length c = search needs
@@ -47,11 +57,12 @@ same-length-2 c = search needs
 
 returns : tie.Need-returns
 returns c =
-    let r = c .before .before .before .before .before .before .before .before in
-    let P = c .before .before .before .before .before .before .before .before .before .before .before .before .put-line .ensures in
+    let at-front = c .before .before .before in
+    let r = front-to-relaxed at-front in
+    let P = relaxed-to-line r .put-line .ensures in
     let Q = c .before .before .put-relaxed .ensures in (
       put-runs (to-start r .args .bytes .now) _ _ _ _ _ _ (same r) (to-reached r .reached .ensures) (r .relaxed .ensures .0) (r .relaxed .ensures .1)
-          (c .before .before .before .front .ensures .0) (P .0) (Q .0),
+          (at-front .front .ensures .0) (P .0) (Q .0),
       omega (arith, P .1, Q .1),
     )
 

@@ -17,8 +17,24 @@ asked c = told _ _ _ _ _ (length-replicate {A = ℕ} 16384 0) (length-replicate 
 work-length : (c : tie.After-plan2) → length (c .plan2 .last .1 .1 .0) ≡ 16384
 work-length c = omega (arith, length-replicate {A = ℕ} 16384 0)
 
+-- the points of the code, from the last to the first
 abbrev to-plan : tie.After-answer → tie.After-plan2
 to-plan c = c .before .before .before .before
+
+abbrev told-to-plan : tie.After-enum-told → tie.After-plan2
+told-to-plan c = c .before .before .before .before
+
+abbrev refusal-to-told : tie.After-refusal-of → tie.After-enum-told
+refusal-to-told c = c .before .before
+
+abbrev runs-to-answer : tie.After-put-runs → tie.After-answer
+runs-to-answer c = c .before .before .before .before
+
+abbrev running-to-runs : tie.After-running → tie.After-put-runs
+running-to-runs c = c .before .before .before .before .before
+
+abbrev front-to-running : tie.After-front → tie.After-running
+front-to-running c = c .before .before .before
 
 slice-aggregate-plan : tie.Need-slice-aggregate-plan
 slice-aggregate-plan c = search needs
@@ -46,8 +62,9 @@ same-length c = search needs
 
 returns : tie.Need-returns
 returns c =
-    written-refusal _ _ _ (asked (c .before .before .before .before .before .before .before .before .before)) _ _
-    (c .before .before .before .before .before .enum-told .given .1) (c .before .before .before .refusal-of .ensures) (c .before .before .put-refusal .ensures)
+    let at-refusal = c .before .before .before in
+    let at-told = refusal-to-told at-refusal in
+    written-refusal _ _ _ (asked (told-to-plan at-told)) _ _ (at-told .enum-told .given .1) (at-refusal .refusal-of .ensures) (c .before .before .put-refusal .ensures)
 
 slice-aggregate-put-runs : tie.Need-slice-aggregate-put-runs
 slice-aggregate-put-runs c = search needs
@@ -72,18 +89,20 @@ front-requires c κs = search needs
 
 put-result-requires : tie.Need-put-result-requires
 put-result-requires c κs =
-    (omega (arith, length-replicate {A = ℕ} 16384 0, c .front .ensures .2), omega (arith, c .before .before .before .before .before .before .before .before .put-runs .ensures .1))
+    (omega (arith, length-replicate {A = ℕ} 16384 0, c .front .ensures .2), omega (arith, running-to-runs (front-to-running c) .put-runs .ensures .1))
 
 same-length-2 : tie.Need-same-length-2
 same-length-2 c = search needs
 
 returns-2 : tie.Need-returns-2
 returns-2 c =
-    let d = c .before .before .before .before .before .before .before .before .before .before .before .before .before .before .before in
-    let p = to-plan d in
-    written _ _ _ (asked p) _ _ _ _ (d .answer .given .1) _ _ _ _
-    (c .before .before .before .before .before .before .before .before .before .before .before .put-runs .ensures .0) (c .before .before .put-result .ensures) (work-length p) refl
-    (c .before .before .before .front .ensures .0) (c .before .before .before .before .before .before .running .ensures)
+    let at-front = c .before .before .before in
+    let at-running = front-to-running at-front in
+    let at-runs = running-to-runs at-running in
+    let at-answer = runs-to-answer at-runs in
+    let p = to-plan at-answer in
+    written _ _ _ (asked p) _ _ _ _ (at-answer .answer .given .1) _ _ _ _ (at-runs .put-runs .ensures .0) (c .before .before .put-result .ensures) (work-length p) refl
+    (at-front .front .ensures .0) (at-running .running .ensures)
 
 pub write-spec : {M : Type 1} → statement M
 write-spec =

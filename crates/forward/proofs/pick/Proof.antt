@@ -1,10 +1,10 @@
 use borrow.Author.Needs.{needs}
-use mathlib.Core.Path.{_≡_, ap}
+use mathlib.Core.Path.{ap}
 use Prim.Native.Nat.{_+_, _-_, _*_, _<_}
 use native.Mathlib.Omega.{arith}
 use Rattle.forward.proofs.Places.{pick-below}
-use Rattle.forward.proofs.chosen.Statement.{statement}
-use Rattle.forward.proofs.chosen.Tie as tie
+use Rattle.forward.proofs.pick.Statement.{statement}
+use Rattle.forward.proofs.pick.Tie as tie
 
 wide-requires : tie.Need-wide-requires
 wide-requires c κs = tt
@@ -30,7 +30,7 @@ cast-result c = record { fits = word c }
 returns : tie.Need-returns
 returns c = let a = c .before .args in ap (λ x. x * a .h + a .new * (1 - a .h)) (c .wide .ensures)
 
-pub chosen-spec : {M : Type 1} → statement M
-chosen-spec =
+pub pick-spec : {M : Type 1} → statement M
+pick-spec =
     tie.close
     (tie.spec wide-requires mul-result sub-result mul-result-2 add-result cast-result returns)
