@@ -46,31 +46,45 @@ returns-2 c =
     subst (Tells _ _ _) (sym (c .empty2 .ensures)) (room-refused _ _ _
     (passed _ _ _ _ (c .before .before .before .enum-told .given .1) (c .before .before .before .before .before .check-list .ensures) .0) _ (c .before .before .variables .ensures) (omega arith))
 
+-- the points of the code, from the last to the first
+abbrev list-to-start : tie.After-check-list → tie.Start
+list-to-start c = c .before .before .before
+
+abbrev told-to-list : tie.After-enum-told → tie.After-check-list
+told-to-list c = c .before .before
+
+abbrev follow-to-told : tie.After-follow → tie.After-enum-told
+follow-to-told c = c .before .before .before
+
 follow-requires : tie.Need-follow-requires
 follow-requires c κs =
-    let R = list-ready _ _ (passed _ _ _ _ (c .before .before .enum-told .given .1) (c .before .before .before .before .check-list .ensures) .0) in
-    record { loaded = c .before .before .before .before .before .before .before .pre; short = R .0; entries = R .1 }
+    let at-told = c .before .before in
+    let at-list = told-to-list at-told in
+    let R = list-ready _ _ (passed _ _ _ _ (at-told .enum-told .given .1) (at-list .check-list .ensures) .0) in
+    record { loaded = list-to-start at-list .pre; short = R .0; entries = R .1 }
 
 cast-steps : tie.Need-cast-steps
 cast-steps c =
-    let T = c .before .follow .ensures in
-    let R = list-ready _ _ (passed _ _ _ _ (c .before .before .before .before .enum-told .given .1) (c .before .before .before .before .before .before .check-list .ensures) .0) in
-    omega (arith, R .0, stops-few _ _ _ _ _ (T .painted))
+    let at-told = follow-to-told (c .before) in
+    let R = list-ready _ _ (passed _ _ _ _ (at-told .enum-told .given .1) (told-to-list at-told .check-list .ensures) .0) in
+    omega (arith, R .0, stops-few _ _ _ _ _ (c .before .follow .ensures .painted))
 
 cast-runs : tie.Need-cast-runs
 cast-runs c =
-    let T = c .before .before .follow .ensures in
-    let R = list-ready _ _ (passed _ _ _ _ (c .before .before .before .before .before .enum-told .given .1) (c .before .before .before .before .before .before .before .check-list .ensures) .0) in
-    omega (arith, R .0, runs-few _ _ _ _ (T .run-real))
+    let at-follow = c .before .before in
+    let at-told = follow-to-told at-follow in
+    let R = list-ready _ _ (passed _ _ _ _ (at-told .enum-told .given .1) (told-to-list at-told .check-list .ensures) .0) in
+    omega (arith, R .0, runs-few _ _ _ _ (at-follow .follow .ensures .run-real))
 
 returns-3 : tie.Need-returns-3
 returns-3 c =
-    let T = c .before .before .before .follow .ensures in
-    let F = c .before .before .before .before .before .before .before .before .before .before .before .pre .formed in
-    values-told _ _ _ (passed _ _ _ _ (c .before .before .before .before .before .before .enum-told .given .1)
-    (c .before .before .before .before .before .before .before .before .check-list .ensures) .0) _ _ _ refl
-    (c .before .before .before .before .before .variables .ensures)
-    (omega (arith, c .before .before .before .before .before .variables .ensures, F .variables-max)) (omega arith) (T .painted .steps) (T .run-real .runs) (T .run-real .newest)
+    let at-follow = c .before .before .before in
+    let at-told = follow-to-told at-follow in
+    let at-list = told-to-list at-told in
+    let T = at-follow .follow .ensures in
+    let n = at-follow .before .before .variables .ensures in
+    values-told _ _ _ (passed _ _ _ _ (at-told .enum-told .given .1) (at-list .check-list .ensures) .0) _ _ _ refl n
+    (omega (arith, n, list-to-start at-list .pre .formed .variables-max)) (omega arith) (T .painted .steps) (T .run-real .runs) (T .run-real .newest)
 
 pub tell-loaded-spec : {M : Type 1} → statement M
 tell-loaded-spec =

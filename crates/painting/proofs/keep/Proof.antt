@@ -61,11 +61,14 @@ sub-last c = search needs
 element-write-last : tie.Need-element-write-last
 element-write-last c = search needs
 
+abbrev complete-to-start : tie.After-is-complete → tie.Start
+complete-to-start c = c .before .before .before .before .before .before .before .before .before .before
+
 returns-3 : tie.Need-returns-3
 returns-3 c =
     let t = c .before in
     let k = t .before in
-    let p = k .before .before .before .before .before .before .before .before .before .before .pre in
+    let p = complete-to-start k .pre in
     record { unmarked = k .is-complete .ensures .1; complete = kept-more _ (p .0 .loaded .formed) _ (p .2 .complete) _ _ _ (omega arith) (k .is-complete .ensures .0 (t .if3 .taken)) }
 
 returns-4 : tie.Need-returns-4

@@ -22,14 +22,28 @@ refusal-in-requires c κs = search needs
 same-length : tie.Need-same-length
 same-length c = search needs
 
+-- the points of the code, from the last to the first
+abbrev prepare-to-start : tie.After-prepare → tie.Start
+prepare-to-start c = c .before .before .before .before .before .before
+
+abbrev told-to-prepare : tie.After-enum-told → tie.After-prepare
+told-to-prepare c = c .before .before .before .before
+
+abbrev told2-to-prepare : tie.After-enum-told2 → tie.After-prepare
+told2-to-prepare c = c .before .before .before .before
+
 returns : tie.Need-returns
 unfolding paintingCheck
 returns c =
-    drafted-stop (taskIn (c .before .before .before .before .before .before .before .before .before .before .before .args .task .now)) _ _ _ _ _ _
-    (refused-by _ _ _ _ (c .before .enum-told2 .given .1) (c .refusal-in .ensures) (c .before .before .before .before .before .prepare .ensures .answer))
+    let at-told = c .before in
+    let at-prepare = told2-to-prepare at-told in
+    drafted-stop (taskIn (prepare-to-start at-prepare .args .task .now)) _ _ _ _ _ _
+    (refused-by _ _ _ _ (at-told .enum-told2 .given .1) (c .refusal-in .ensures) (at-prepare .prepare .ensures .answer))
 
 plan-prepared-requires : tie.Need-plan-prepared-requires
-plan-prepared-requires c κs = c .before .before .before .before .before .before .prepare .ensures .prepared (passed-by _ _ (c .before .before .enum-told .given .1) refl)
+plan-prepared-requires c κs =
+    let at-told = c .before .before in
+    told-to-prepare at-told .prepare .ensures .prepared (passed-by _ _ (at-told .enum-told .given .1) refl)
 
 same-length-2 : tie.Need-same-length-2
 same-length-2 c = search needs
@@ -40,10 +54,11 @@ same-length-3 c = search needs
 returns-2 : tie.Need-returns-2
 unfolding paintingCheck
 returns-2 c =
-    let at-prepare = c .before .before .before .before .before .before .before .before .before in
-    let at-start = at-prepare .before .before .before .before .before .before in
-    painted (at-start .args .given) (taskIn (at-start .args .task .now)) _ (at-prepare .prepare .ensures .same) _ _ _ _
-    (passed-by _ _ (c .before .before .before .before .before .enum-told .given .1) (at-prepare .prepare .ensures .answer)) (c .before .before .plan-prepared .ensures)
+    let at-told = c .before .before .before .before .before in
+    let at-prepare = told-to-prepare at-told in
+    let a = prepare-to-start at-prepare .args in
+    painted (a .given) (taskIn (a .task .now)) _ (at-prepare .prepare .ensures .same) _ _ _ _
+    (passed-by _ _ (at-told .enum-told .given .1) (at-prepare .prepare .ensures .answer)) (c .before .before .plan-prepared .ensures)
 
 pub plan-loaded-spec : {M : Type 1} → statement M
 plan-loaded-spec =

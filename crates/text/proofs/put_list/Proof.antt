@@ -37,15 +37,25 @@ add-k c = search needs
 loop-less : tie.Need-loop-less Inv-loop μ-loop
 loop-less c = search needs
 
+-- the points of the code, from the last to the first
+abbrev start : tie.At-loop Inv-loop μ-loop → tie.Start Inv-loop μ-loop
+start c = c .before .before .before
+
+abbrev wide-to-head : tie.After-wide Inv-loop μ-loop → tie.At-loop Inv-loop μ-loop
+wide-to-head c = c .before .before .before .before
+
 loop-again : tie.Need-loop-again Inv-loop μ-loop
-loop-again c = let a = c .before .before .before .before .before .before .before .before .before .before .args in
-    let I = c .before .before .before .before .before .before .before .loop .inv in
-    let k = c .before .before .before .before .before .before .before .loop .k in
+loop-again c =
+    let at-wide = c .before .before .before in
+    let head = wide-to-head at-wide in
+    let a = start head .args in
+    let I = head .loop .inv in
+    let k = head .loop .k in
     let N = c .before .before .put-number .ensures in
-    let x = N .2 (omega (arith, c .before .before .before .wide .ensures, c .before .before .before .before .shared-slice-known2 .given k)) in (
+    let x = N .2 (omega (arith, at-wide .wide .ensures, at-wide .before .shared-slice-known2 .given k)) in (
       omega arith,
       search needs,
-      list-turn (a .out .now) (a .list .now) (a .at) _ _ k _ _ _ (omega arith) (c .before .before .before .wide .ensures) (I .2) (N .0),
+      list-turn (a .out .now) (a .list .now) (a .at) _ _ k _ _ _ (omega arith) (at-wide .wide .ensures) (I .2) (N .0),
       omega arith,
     )
 
@@ -53,8 +63,11 @@ same-length : tie.Need-same-length Inv-loop μ-loop
 same-length c = search needs
 
 returns : tie.Need-returns Inv-loop μ-loop
-returns c = let a = c .before .before .before .before .args in
-    let I = c .before .loop .inv in (list-end (a .out .now) (a .list .now) (a .at) _ (c .before .loop .k) _ (omega arith) (I .2), omega arith)
+returns c =
+    let head = c .before in
+    let a = start head .args in
+    let I = head .loop .inv in
+    (list-end (a .out .now) (a .list .now) (a .at) _ (head .loop .k) _ (omega arith) (I .2), omega arith)
 
 pub put-list-spec : {M : Type 1} → statement M
 put-list-spec =

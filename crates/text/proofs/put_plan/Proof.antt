@@ -23,10 +23,20 @@ put-rest-requires c κs = search needs
 same-length : tie.Need-same-length
 same-length c = search needs
 
+-- the points of the code, from the last to the first
+abbrev number-to-head : tie.After-put-number → tie.After-put-head
+number-to-head c = c .before .before .before .before
+
+abbrev rest-to-number : tie.After-put-rest → tie.After-put-number
+rest-to-number c = c .before .before .before .before
+
 returns : tie.Need-returns
-returns c = let P = c .before .before .before .before .before .before .before .before .before .before .put-head .ensures in
-    let N = c .before .before .before .before .before .before .put-number .ensures in
-    let Q = c .before .before .put-rest .ensures in (put-then (line-two _ _ _ _) (put-then refl (P .0) (N .0)) (Q .0), omega (arith, P .1, N .1, Q .1))
+returns c =
+    let at-number = rest-to-number (c .before .before) in
+    let P = number-to-head at-number .put-head .ensures in
+    let N = at-number .put-number .ensures in
+    let Q = c .before .before .put-rest .ensures in
+    (put-then (line-two _ _ _ _) (put-then refl (P .0) (N .0)) (Q .0), omega (arith, P .1, N .1, Q .1))
 
 pub put-plan-spec : {M : Type 1} → statement M
 put-plan-spec =

@@ -25,9 +25,17 @@ put-requires c κs = search needs
 same-length : tie.Need-same-length
 same-length c = search needs
 
+-- the points of the code, from the last to the first
+abbrev number-to-head : tie.After-put-number → tie.After-put-head
+number-to-head c = c .before .before .before .before
+
+abbrev put-to-number : tie.After-put → tie.After-put-number
+put-to-number c = c .before .before .before .before .before
+
 returns : tie.Need-returns
-returns c = let P = c .before .before .before .before .before .before .before .before .before .before .before .put-head .ensures in
-    let N = c .before .before .before .before .before .before .before .put-number .ensures in put-then (line-end _ _ _) (put-then refl (P .0) (N .0)) (c .before .before .put .ensures)
+returns c =
+    let at-number = put-to-number (c .before .before) in
+    put-then (line-end _ _ _) (put-then refl (number-to-head at-number .put-head .ensures .0) (at-number .put-number .ensures .0)) (c .before .before .put .ensures)
 
 pub put-refusal-spec : {M : Type 1} → statement M
 put-refusal-spec =

@@ -24,9 +24,10 @@ same-length-2 c = search needs
 
 returns : tie.Need-returns
 returns c =
-    let a = c .before .before .before .before .before .before .before .before .before .before .before .args in
-    let E = c .before .before .before .before .before .plan .ensures in
-    let l = c .before .before .before .before .before .plan .last .1 .0 in
+    let at-plan = c .before .before .before .before .before in
+    let a = at-plan .before .before .before .before .before .before .args in
+    let E = at-plan .plan .ensures in
+    let l = at-plan .plan .last .1 .0 in
     let r = c .flat .ensures ∙ ap planResultOf (E .0) in
     let same = E .0 ∙ sym (ap answerIn r ∙ plan-read (a .bytes .now) (length (a .plan .now)) (length (a .work .now))) in (
       r,
