@@ -16,7 +16,7 @@ use Rattle.planning.specs.Record.{recordEnd, recordChecks, recordCheck}
 use Rattle.planning.specs.Runs.{has, touches, look, holds, step, variable, act, count, black, initial, goalsFrom, goals, runBy, runsBy, stepsBy}
 use Rattle.planning.specs.Runs.{allBelow, isPlan, size, factsIn, costOf}
 use Rattle.planning.specs.Relaxed.{adds, cheapest, forward, addable, forwardRun, forwardEnd, reachesGoals, factsReached, firstAchiever, is, reachedNeeded, keep, relaxedPlan}
-use Rattle.planning.specs.Painting.{causalArc, blackArc, onCycle, cyclic, fits, leaves, orZero, target, arcFrom, outside, returnBy, lacksReturn}
+use Rattle.planning.specs.Painting.{without, reducedEffects, causalArc, blackArc, onCycle, cyclic, fits, leaves, orZero, target, arcFrom, outside, returnBy, lacksReturn}
 use Rattle.planning.specs.Painting.{unreturned, acyclicCheck, returnCheck}
 use Rattle.planning.specs.Repair.{known, union, everAfter, usableArc, adjacent, pathIn, shortest, toward, after, pass, fill, ready, clientsFirst}
 use Rattle.planning.specs.Repair.{order, value, blackMet, moves, stageSteps, allSteps, stagesFrom, stages, repaired}
@@ -110,6 +110,12 @@ withFour =
     16 ∷ 64 ∷ 20 ∷ 24 ∷ 16 ∷ 2 ∷ 3 ∷ 0 ∷ 0 ∷ 16 ∷ 68 ∷ 0 ∷ 0 ∷ 4 ∷ 0 ∷ 16 ∷ 68 ∷ 0 ∷ 64 ∷ 0 ∷ 0 ∷ 4 ∷ 132 ∷ 0 ∷ 65 ∷ 4 ∷
     16 ∷ 128 ∷ 0 ∷ 72 ∷ 64 ∷ 0 ∷ 16 ∷ 129 ∷ 0 ∷ 0 ∷ 12 ∷ 68 ∷ 0 ∷ 0 ∷ 4 ∷ []
 
+-- gate, 12.19
+unfoldable pub gate : List ℕ
+gate =
+    16 ∷ 96 ∷ 20 ∷ 24 ∷ 16 ∷ 1 ∷ 129 ∷ 0 ∷ 16 ∷ 16 ∷ 64 ∷ 0 ∷ 68 ∷ 64 ∷ 0 ∷ 0 ∷ 64 ∷ 0 ∷ 68 ∷ 64 ∷ 4 ∷ 0 ∷ 0 ∷ 1 ∷ 8 ∷ 128 ∷
+    4 ∷ 16 ∷ 0 ∷ 4 ∷ 16 ∷ 64 ∷ 1 ∷ 8 ∷ 128 ∷ 4 ∷ 16 ∷ 64 ∷ 4 ∷ 16 ∷ 0 ∷ 0 ∷ 140 ∷ 64 ∷ 0 ∷ 16 ∷ 66 ∷ 0 ∷ 32 ∷ 64 ∷ []
+
 -- how a clause writes facts, actions and variables
 abbrev pub fact : ℕ → ℕ → Fact
 fact v d = record { var = v; val = d }
@@ -161,6 +167,13 @@ doorTask =
     task (blackOne 2 0 (some 0) ∷ blackOne 2 0 (some 0) ∷ redOne 2 0 (some 1) ∷ [])
     (action 1 (fact 0 0 ∷ []) (fact 0 1 ∷ []) ∷ action 1 (fact 0 1 ∷ []) (fact 0 0 ∷ [])
     ∷ action 4 (fact 0 1 ∷ fact 1 0 ∷ []) (fact 1 1 ∷ []) ∷ action 4 (fact 0 1 ∷ fact 1 1 ∷ []) (fact 1 0 ∷ [])
+    ∷ action 2 (fact 0 0 ∷ fact 1 1 ∷ fact 2 0 ∷ []) (fact 2 1 ∷ []) ∷ [])
+
+abbrev pub gateTask : Task
+gateTask =
+    task (blackOne 2 0 (some 0) ∷ blackOne 2 0 (some 0) ∷ redOne 2 0 (some 1) ∷ [])
+    (action 1 (fact 0 0 ∷ []) (fact 0 1 ∷ []) ∷ action 1 (fact 0 1 ∷ []) (fact 0 0 ∷ [])
+    ∷ action 4 (fact 0 1 ∷ fact 1 0 ∷ []) (fact 0 1 ∷ fact 1 1 ∷ []) ∷ action 4 (fact 0 1 ∷ fact 1 1 ∷ []) (fact 0 1 ∷ fact 1 0 ∷ [])
     ∷ action 2 (fact 0 0 ∷ fact 1 1 ∷ fact 2 0 ∷ []) (fact 2 1 ∷ []) ∷ [])
 
 abbrev pub litTask : Task
@@ -271,6 +284,10 @@ pub starred :
     × (called withFour 5 ≡ plan 4 (4 ∷ 2 ∷ 1 ∷ 3 ∷ 65535 ∷ []) 9 true 4)
     × (forwardRun (taskOf tray) ≡ 0 ∷ 1 ∷ [])
     × (factsReached (taskOf withFour) ≡ 5)
+    × (taskOf gate ≡ gateTask)
+    × (recordEnd gate ≡ 394)
+    × (relaxedPlan (taskOf gate) ≡ 0 ∷ 2 ∷ 4 ∷ [])
+    × (called gate 8 ≡ plan 7 (0 ∷ 2 ∷ 1 ∷ 4 ∷ 0 ∷ 3 ∷ 1 ∷ 65535 ∷ []) 14 true 7)
     × (desk newest [] 3 ≡ shown 0 0 (0 ∷ 0 ∷ 0 ∷ []))
     × (desk newest (0 ∷ 2 ∷ 1 ∷ []) 3 ≡ shown 3 3 (0 ∷ 1 ∷ 1 ∷ []))
     × (desk newest (0 ∷ 2 ∷ 3 ∷ []) 3 ≡ shown 3 3 (1 ∷ 0 ∷ 1 ∷ []))
@@ -286,13 +303,17 @@ unfolding times share blackProduct check andThen inOrder answer bitAt bitsAt hol
     actionsIn goalOf variableAt variablesAt factsAt preconditionsIn effectsIn effectsFrom actionEnd actionAt actionsAt actionsEnd taskOf fieldCheck
     headerChecks goalFits variableChecks variablesChecks countIn factChecks factsChecks actionChecks actionsChecks endsAt recordEnd recordChecks
     recordCheck has touches look holds step variable act count black initial goalsFrom goals runBy runsBy stepsBy allBelow isPlan size factsIn costOf
-    adds cheapest forward addable forwardRun forwardEnd reachesGoals factsReached firstAchiever is reachedNeeded keep relaxedPlan causalArc blackArc onCycle
+    adds cheapest forward addable forwardRun forwardEnd reachesGoals factsReached firstAchiever is reachedNeeded keep relaxedPlan without reducedEffects causalArc blackArc onCycle
     cyclic fits leaves orZero target arcFrom outside returnBy lacksReturn unreturned acyclicCheck returnCheck known union everAfter usableArc adjacent
     pathIn shortest toward after pass fill ready clientsFirst order value blackMet moves stageSteps allSteps stagesFrom stages repaired lent
     capacity capacityOf roomCheck goalsCheck planned planOf planCall planList called outcome redPairs variables64 variables65 twoShelves withoutOne withoutTwo lampOne lampTwo
-    bothBlack goalMet tray door litReturn repeatedVariable withFour initialValues newer tracked track redBlackSteps stopsIn tabulate newestValues progress
+    bothBlack goalMet tray door litReturn repeatedVariable withFour gate initialValues newer tracked track redBlackSteps stopsIn tabulate newestValues progress
     newestCall newestList lengthCheck notBelow entriesCheck deskOf desk newest
 starred = (
+  refl,
+  refl,
+  refl,
+  refl,
   refl,
   refl,
   refl,

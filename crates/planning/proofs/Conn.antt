@@ -11,10 +11,11 @@ use lib.Dec.{T, T-not}
 use native.Mathlib.Decide.{ℕ-discrete}
 use Rattle.planning.specs.Record.{Action}
 use Rattle.planning.specs.Runs.{State, has, touches, Mode, step, relaxed}
+use Rattle.planning.specs.Painting.{reducedEffects}
 use Rattle.planning.proofs.Tests.{T-cases}
 use Rattle.planning.proofs.Facts.{_⊆_, has→touches, touches→has}
 use Rattle.planning.proofs.Steps.{step-eff, step-keep, step-cases, step-mono}
-use Rattle.planning.proofs.Arcs.{Arc}
+use Rattle.planning.proofs.Arcs.{Arc, arc-reduced}
 use Rattle.planning.proofs.Walks.{Walk, walk-map, walk-append, Usable, stop, move}
 use Rattle.planning.proofs.Fill.{Sound}
 use Rattle.planning.proofs.Known.{_≈_}
@@ -56,7 +57,7 @@ module _ (act : ℕ → Action) (A : ℕ) (m : Mode) (count : ℕ → ℕ) where
   pub conn-same : (W X : State) → W ≈ X → Conn W → Conn X
   conn-same W X e C v c d mv h g =
       let p = C v c d mv (e .1 v c h) (e .1 v d g) in
-      (p .0, walk-map (Usable act A X v) (λ i u. record { below = u .below; met = λ x y z. e .0 x y (u .met x y z); sets = u .sets }) (p .1))
+      (p .0, walk-map (Usable act A X v) (λ i u. record { below = u .below; met = λ x y z. e .0 x y (u .met x y z); changes = u .changes }) (p .1))
 
   module _ (S : Sound act A m) (range : (i v e : ℕ) → i < A → T (has (act i .eff) v e) → e < count v) (i : ℕ) (below : i < A) (s W : State) (met : has (act i .pre) ⊆ s) (I : Inv s W) where
     -- W after the step
@@ -89,13 +90,22 @@ module _ (act : ℕ → Action) (A : ℕ) (m : Mode) (count : ℕ → ℕ) where
       grow v x h = step-keep relaxed (act i) W v x h (λ b _. b)
 
       lift : (v j : ℕ) → Usable act A W v j → Usable act A W′ v j
-      lift v j u = record { below = u .below; met = λ x y h. grow x y (u .met x y h); sets = u .sets }
+      lift v j u = record { below = u .below; met = λ x y h. grow x y (u .met x y h); changes = u .changes }
 
-      -- the walks to and fro between the value that the action met and the one that it set
-      there : (v c e : ℕ) → T (m v) → T (s v c) → T (has (act i .eff) v e) → Walk act (Usable act A W′ v) v c (i ∷ []) e
-      there v c e mv h k = move
-          (record { below = below; met = λ u x g. grow u x (I .ins u x (met u x g)); sets = has→touches (act i .eff) v e k })
-          (λ x g. I .single v x c mv (met v x g) h) k stop
+      -- the action's own arc from the value c that it met, where it set another
+      own : (v c e : ℕ) → T (m v) → T (s v c) → T (has (act i .eff) v e) → c ≢ e → Arc act v i c e
+      own v c e mv h k q = record { from = λ x g. I .single v x c mv (met v x g) h; into = k; leaves′ = q }
+
+      -- an arc, needs in W′, is a walk of one move
+      one-move : (v j c d : ℕ) → j < A → has (act j .pre) ⊆ W′ → Arc act v j c d → Walk act (Usable act A W′ v) v c (j ∷ []) d
+      one-move v j c d b h a = move
+          (record { below = b; met = h; changes = has→touches (reducedEffects (act j)) v d (arc-reduced act v c d j a) })
+          (a .from) (a .into) stop
+
+      -- the walks to and fro between the value that the action met and the one that it set; none where they are the same
+      there : (v c e : ℕ) → T (m v) → T (s v c) → T (has (act i .eff) v e) → Dec (c ≡ e) → (p : List ℕ) × Walk act (Usable act A W′ v) v c p e
+      there v c e mv h k (yes q) = ([], subst (λ z. Walk act (Usable act A W′ v) v c [] z) q stop)
+      there v c e mv h k (no q) = (i ∷ [], one-move v i c e below (λ u x g. grow u x (I .ins u x (met u x g))) (own v c e mv h k q))
 
       back-met : (v c e : ℕ) → T (has (act i .eff) v e) → (r : Returns v i c e) → (u x : ℕ) → T (has (act (r .by) .pre) u x) → Dec (u ≡ v) → T (W′ u x)
       back-met v c e k r u x g (yes q) =
@@ -106,15 +116,8 @@ module _ (act : ℕ → Action) (A : ℕ) (m : Mode) (count : ℕ → ℕ) where
       back : (v c e : ℕ) → T (m v) → T (s v c) → T (has (act i .eff) v e) → Dec (c ≡ e) → (p : List ℕ) × Walk act (Usable act A W′ v) v e p c
       back v c e mv h k (yes q) = ([], subst (λ z. Walk act (Usable act A W′ v) v z [] c) q stop)
       back v c e mv h k (no q) =
-          let r = R v i c e mv below (I .ranged v c (I .ins v c h)) (record { from = λ x g. I .single v x c mv (met v x g) h; into = k; leaves′ = q }) in (
-            r .by ∷ [],
-            move (record {
-              below = r .below;
-              met = λ u x g. back-met v c e k r u x g (ℕ-discrete u v);
-              sets = has→touches (act (r .by) .eff) v c
-                  (r .arc .into);
-            }) (r .arc .from) (r .arc .into) stop,
-          )
+          let r = R v i c e mv below (I .ranged v c (I .ins v c h)) (own v c e mv h k q) in
+          (r .by ∷ [], one-move v (r .by) e c (r .below) (λ u x g. back-met v c e k r u x g (ℕ-discrete u v)) (r .arc))
 
       -- a value in W′ is new or old: by the walks above any two are joined by way of the value in s
       Step : ℕ → ℕ → Type 0
@@ -135,7 +138,8 @@ module _ (act : ℕ → Action) (A : ℕ) (m : Mode) (count : ℕ → ℕ) where
       join v c d mv (inr g) (inl e) =
           let o = I .val v mv in
           let p = C v c (o .0) mv g (I .ins v (o .0) (o .1)) in
-          (p .0 ++ (i ∷ []), walk-append (walk-map (Usable act A W′ v) (lift v) (p .1)) (there v (o .0) d mv (o .1) e))
+          let a = there v (o .0) d mv (o .1) e (ℕ-discrete (o .0) d) in
+          (p .0 ++ a .0, walk-append (walk-map (Usable act A W′ v) (lift v) (p .1)) (a .1))
       join v c d mv (inr g) (inr h) =
           let p = C v c d mv g h in
           (p .0, walk-map (Usable act A W′ v) (lift v) (p .1))

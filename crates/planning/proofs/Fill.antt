@@ -1,5 +1,5 @@
 -- The moves inserted for one need: a pass for each black variable, clients first. Claims, by induction over the variables taken: each
--- entry of the list so far is usable and affects, of the black variables, taken ones only (`Old`); and the list meets all needs on
+-- entry of the list so far is usable and changes, of the black variables, taken ones only (`Old`); and the list meets all needs on
 -- the settled variables (`MeetsOn`). When all are settled the list runs and meets the wanted facts. Each pass multiplies the
 -- number of gaps by at most the variable's count of values, so that the list has fewer than P entries.
 use Prim.Native.Nat.{ℕ, _+_, _*_, _≤_, _<_}
@@ -13,10 +13,12 @@ use native.Mathlib.Omega.{arith}
 use native.Mathlib.Nat.{mul-le-mul-right}
 use Rattle.planning.specs.Record.{Fact, Action}
 use Rattle.planning.specs.Runs.{State, has, touches, look, holds, Mode, step, run, runs, runBy, runsBy}
+use Rattle.planning.specs.Painting.{reducedEffects}
 use Rattle.planning.specs.Repair.{toward, after, pass, fill, moves}
 use Rattle.planning.proofs.Tests.{and-i}
-use Rattle.planning.proofs.Facts.{_⊆_, sub→holds, Func, look-some}
+use Rattle.planning.proofs.Facts.{_⊆_, sub→holds, touches→has, Func, look-some}
 use Rattle.planning.proofs.Steps.{All, all-append, all-map}
+use Rattle.planning.proofs.Arcs.{unchanged}
 use Rattle.planning.proofs.Walks.{Walk, walk-all, walk-map, Usable}
 use Rattle.planning.proofs.Pass.{MeetsOn, with, Mover, Entry, pass-meets, pass-short}
 
@@ -26,20 +28,20 @@ withs Q [] = Q
 withs Q (v ∷ vs) = withs (with Q v) vs
 
 module _ (act : ℕ → Action) (A : ℕ) (m : Mode) where
-  -- no action that sets v needs a settled black variable
+  -- no action that changes v needs a settled black variable
   abbrev pub NoArc : (ℕ → Type 0) → ℕ → Type 0
-  NoArc Q v = (i : ℕ) → i < A → T (touches (act i .eff) v) → (u x : ℕ) → T (has (act i .pre) u x) → Q u → T (m u) → ⊥
+  NoArc Q v = (i : ℕ) → i < A → T (touches (reducedEffects (act i)) v) → (u x : ℕ) → T (has (act i .pre) u x) → Q u → T (m u) → ⊥
 
   -- each variable of the list is black, is not settled yet, and has no settled client
   abbrev pub Ordered : (ℕ → Type 0) → List ℕ → Type 0
   Ordered Q [] = Unit {0}
   Ordered Q (v ∷ vs) = T (m v) × (Q v → ⊥) × NoArc Q v × Ordered (with Q v) vs
 
-  -- lists of facts are functions, and no action affects two black variables
+  -- lists of facts are functions, and no action changes two black variables
   pub record Sound : Type 0 where
     pub pres : (i : ℕ) → i < A → Func (act i .pre)
     pub effs : (i : ℕ) → i < A → Func (act i .eff)
-    pub one : (i u v : ℕ) → i < A → T (touches (act i .eff) u) → T (touches (act i .eff) v) → T (m u) → T (m v) → u ≡ v
+    pub one : (i u v : ℕ) → i < A → T (touches (reducedEffects (act i)) u) → T (touches (reducedEffects (act i)) v) → T (m u) → T (m v) → u ≡ v
 
   module _ (S : Sound) (W s : State) (path : ℕ → ℕ → ℕ → List ℕ) (val : ℕ → ℕ)
       (paths : (v c d : ℕ) → T (m v) → T (W v c) → T (W v d) → Walk act (Usable act A W v) v c (path v c d) d)
@@ -48,17 +50,20 @@ module _ (act : ℕ → Action) (A : ℕ) (m : Mode) where
     pub record Old (Q : ℕ → Type 0) (i : ℕ) : Type 0 where
       pub below : i < A
       pub met : has (act i .pre) ⊆ W
-      pub within : (u : ℕ) → T (touches (act i .eff) u) → T (m u) → Q u
+      pub within : (u : ℕ) → T (touches (reducedEffects (act i)) u) → T (m u) → Q u
 
-    -- a usable action that sets v moves nothing else that is black, and stays usable
+    -- a usable action that changes v sets no settled black variable: it changes none, and needs none that it could set again
     mover : (Q : ℕ → Type 0) (v : ℕ) → T (m v) → (Q v → ⊥) → NoArc Q v → (i : ℕ) → Usable act A W v i → Mover m Q W (act i)
     mover Q v mv nq na i U = record {
-      needs = λ u x h q. (λ mu. na i (U .below) (U .sets) u x h q mu, U .met u x h);
-      moves = λ u k mu q. nq (subst Q (S .one i u v (U .below) k (U .sets) mu mv) q);
+      needs = λ u x h q. (λ mu. na i (U .below) (U .changes) u x h q mu, U .met u x h);
+      moves = λ u k mu q.
+          let e = touches→has (act i .eff) u k in
+          let h = unchanged (act i) u (e .0) (λ c. nq (subst Q (S .one i u v (U .below) c (U .changes) mu mv) q)) (e .1) in
+          na i (U .below) (U .changes) u (e .0) h q mu;
     }
 
     fresh : (Q : ℕ → Type 0) (v : ℕ) → T (m v) → (i : ℕ) → Usable act A W v i → Old (with Q v) i
-    fresh Q v mv i U = record { below = U .below; met = U .met; within = λ u k mu. inl (S .one i u v (U .below) k (U .sets) mu mv) }
+    fresh Q v mv i U = record { below = U .below; met = U .met; within = λ u k mu. inl (S .one i u v (U .below) k (U .changes) mu mv) }
 
     older : (Q : ℕ → Type 0) (v i : ℕ) → Old Q i → Old (with Q v) i
     older Q v i o = record { below = o .below; met = o .met; within = λ u k mu. inr (o .within u k mu) }

@@ -8,7 +8,7 @@ use Rattle.planning.specs.Record.{countIn, factChecks, factsChecks, acti
 use Rattle.planning.specs.Runs.{has, touches, look, holds, step, variable, act, count, black, initial, goalsFrom, goals, runBy, runsBy, stepsBy, allBelow}
 use Rattle.planning.specs.Runs.{isPlan, size, factsIn, costOf}
 use Rattle.planning.specs.Relaxed.{adds, cheapest, forward, addable, forwardRun, forwardEnd, reachesGoals, factsReached, firstAchiever, is, reachedNeeded, keep, relaxedPlan}
-use Rattle.planning.specs.Painting.{causalArc, blackArc, onCycle, cyclic, fits, leaves, orZero, target, arcFrom, outside, returnBy, lacksReturn}
+use Rattle.planning.specs.Painting.{without, reducedEffects, causalArc, blackArc, onCycle, cyclic, fits, leaves, orZero, target, arcFrom, outside, returnBy, lacksReturn}
 use Rattle.planning.specs.Painting.{unreturned, acyclicCheck, returnCheck}
 use Rattle.planning.specs.Repair.{known, union, everAfter, usableArc, adjacent, pathIn, shortest, toward, after, pass, fill, ready, clientsFirst}
 use Rattle.planning.specs.Repair.{order, value, blackMet, moves, stageSteps, allSteps, stagesFrom, stages, repaired}
@@ -39,7 +39,7 @@ unfolding listingOf listing digitsUpto decimal numbers line verdictWord times ch
     actionAt actionsAt actionsEnd taskOf fieldCheck headerChecks goalFits variableChecks variablesChecks countIn factChecks factsChecks
     actionChecks actionsChecks endsAt recordEnd recordChecks recordCheck has touches look holds step variable act count black initial goalsFrom
     goals runBy runsBy stepsBy allBelow isPlan size factsIn costOf adds cheapest forward addable forwardRun forwardEnd reachesGoals factsReached
-    firstAchiever is reachedNeeded keep relaxedPlan causalArc blackArc onCycle cyclic fits leaves orZero target arcFrom outside returnBy
+    firstAchiever is reachedNeeded keep relaxedPlan without reducedEffects causalArc blackArc onCycle cyclic fits leaves orZero target arcFrom outside returnBy
     lacksReturn unreturned acyclicCheck returnCheck known union everAfter usableArc adjacent pathIn shortest toward after pass fill ready
     clientsFirst order value blackMet moves stageSteps allSteps stagesFrom stages repaired capacity capacityOf roomCheck goalsCheck planned planOf planCall runnable
     twoShelves withFour withoutTwo tray

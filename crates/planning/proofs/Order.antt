@@ -12,7 +12,7 @@ use native.Mathlib.Omega.{arith}
 use Rattle.planning.specs.Basics.{someBelow, tally, first, times, reach}
 use Rattle.planning.specs.Record.{Action}
 use Rattle.planning.specs.Runs.{has, touches, Mode}
-use Rattle.planning.specs.Painting.{onCycle}
+use Rattle.planning.specs.Painting.{reducedEffects, onCycle}
 use Rattle.planning.specs.Repair.{ready, clientsFirst}
 use Rattle.planning.specs.Existence.{share}
 use Rattle.planning.proofs.Tests.{T→true, F→false, or-l, or-r, or-cases, and-l, and-r, and-i, T-cases}
@@ -97,7 +97,7 @@ module _ (n : ℕ) (adj : ℕ → ℕ → Bool) (m : Mode) (inside : (v : ℕ) �
       less : (u : ℕ) → T (untaken m (taking taken v) u) → T (untaken m taken u)
       less u h = let k = untaken-elim m (taking taken v) u h in untaken-intro m taken u (k .0) (λ t. k .1 (or-r (eqb u v) (taken u) t))
 
-  module _ (act : ℕ → Action) (A : ℕ) (arcs : (i u v x : ℕ) → i < A → T (touches (act i .eff) v) → T (has (act i .pre) u x) → T (m u) → T (m v) → u ≢ v → T (adj u v)) where
+  module _ (act : ℕ → Action) (A : ℕ) (arcs : (i u v x : ℕ) → i < A → T (touches (reducedEffects (act i)) v) → T (has (act i .pre) u x) → T (m u) → T (m v) → u ≢ v → T (adj u v)) where
     -- the settled variables are those that are red or taken, and no arc leads from a taken one to an untaken one
     pub record Chosen (taken : ℕ → Bool) (Q : ℕ → Type 0) : Type 0 where
       pub shut : (u w : ℕ) → T (taken u) → (T (taken w) → ⊥) → T (adj u w) → ⊥

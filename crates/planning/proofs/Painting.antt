@@ -1,4 +1,4 @@
--- A painting that passes 7 and 8 gives the repair what it needs (`Accepted`). No black variable on a cycle: no action affects two
+-- A painting that passes 7 and 8 gives the repair what it needs (`Accepted`). No black variable on a cycle: no action changes two
 -- black variables, and the clients-first order takes each black variable when no untaken one is its client. No arc without its
 -- return: what has been walked can be walked back.
 use Prim.Native.Nat.{ℕ, _*_, _≤_, _<_}
@@ -14,7 +14,7 @@ use native.Mathlib.Decide.{ℕ-discrete, decLt}
 use Rattle.planning.specs.Basics.{someBelow}
 use Rattle.planning.specs.Record.{Fact, Variable, Task}
 use Rattle.planning.specs.Runs.{has, touches, holds, variables, actions, variable, act, count, relaxed, black, initial, goals, isPlan}
-use Rattle.planning.specs.Painting.{causalArc, blackArc, onCycle, cyclic, target, arcFrom, outside, returnBy, lacksReturn, unreturned}
+use Rattle.planning.specs.Painting.{reducedEffects, causalArc, blackArc, onCycle, cyclic, target, arcFrom, outside, returnBy, lacksReturn, unreturned}
 use Rattle.planning.specs.Repair.{known, order, stages, repaired}
 use Rattle.planning.specs.Existence.{share, blackProduct}
 use Rattle.planning.proofs.Tests.{or-l, or-r, and-l, and-r, and-i, T-cases}
@@ -41,13 +41,14 @@ black-inside t v h = go (decLt v (variables t))
     go (no n) = absurd (subst (λ (x : Variable). T (x .black)) (variable-past t v (omega arith)) h)
 
 -- the black causal graph
-blackArc-intro : (t : Task) (i u v : ℕ) → i < actions t → T (black t u) → T (black t v) → u ≢ v → T (touches (act t i .eff) v) → T (touches (act t i .pre) u || touches (act t i .eff) u)
-    → T (blackArc t u v)
+blackArc-intro : (t : Task) (i u v : ℕ) → i < actions t → T (black t u) → T (black t v) → u ≢ v → let r : List Fact = reducedEffects (act t i) in
+    T (touches r v) → T (touches (act t i .pre) u || touches r u) → T (blackArc t u v)
 unfolding blackArc causalArc
 blackArc-intro t i u v b bu bv ne tv tu =
     let n = not-T (eqb u v) (λ e. ne (eqb→eq u v e)) in
-    let s = some-intro (actions t) (λ i. touches (act t i .eff) v && (touches (act t i .pre) u || touches (act t i .eff) u)) i b
-    (and-i (touches (act t i .eff) v) (touches (act t i .pre) u || touches (act t i .eff) u) tv tu) in
+    let r : ℕ → List Fact = λ j. reducedEffects (act t j) in
+    let s = some-intro (actions t) (λ j. touches (r j) v && (touches (act t j .pre) u || touches (r j) u)) i b
+    (and-i (touches (r i) v) (touches (act t i .pre) u || touches (r i) u) tv tu) in
     search and-i
 
 blackArc-ends : (t : Task) (u v : ℕ) → T (blackArc t u v) → T (black t u) × T (black t v)
@@ -112,15 +113,15 @@ module _ (t : Task) (F : Formed t) where
         let vb = black-inside t v (blackArc-ends t u v a .1) in
         no-cycle u ub (onCycle-of (variables t) (blackArc t) u v 1 ub vb a (reach-move (variables t) (blackArc t) 0 v u u ub b (reach-here (variables t) (blackArc t) 0 u)))
 
-    -- 5.3: two black variables affected by one action would form a cycle
-    pub one-black : (i u v : ℕ) → i < actions t → T (touches (act t i .eff) u) → T (touches (act t i .eff) v) → T (black t u) → T (black t v) → u ≡ v
+    -- 5.3: two black variables changed by one action would form a cycle
+    pub one-black : (i u v : ℕ) → i < actions t → let r : List Fact = reducedEffects (act t i) in T (touches r u) → T (touches r v) → T (black t u) → T (black t v) → u ≡ v
     one-black i u v b tu tv bu bv = go (ℕ-discrete u v)
       where
         go : Dec (u ≡ v) → u ≡ v
         go (yes e) = e
         go (no n) = absurd (no-pair u v
-            (blackArc-intro t i u v b bu bv n tv (or-r (touches (act t i .pre) u) (touches (act t i .eff) u) tu))
-            (blackArc-intro t i v u b bv bu (λ e. n (sym e)) tu (or-r (touches (act t i .pre) v) (touches (act t i .eff) v) tv)))
+            (blackArc-intro t i u v b bu bv n tv (or-r (touches (act t i .pre) u) (touches (reducedEffects (act t i)) u) tu))
+            (blackArc-intro t i v u b bv bu (λ e. n (sym e)) tu (or-r (touches (act t i .pre) v) (touches (reducedEffects (act t i)) v) tv)))
 
   module _ (Y : cyclic t ≡ none) (R : unreturned t ≡ none) where
     returns-at : (i v d : ℕ) → i < actions t → v < variables t → d < count t v → T (lacksReturn t i v d) → ⊥
@@ -158,8 +159,8 @@ module _ (t : Task) (F : Formed t) where
                   ];
             }
 
-    arcs : (i u v x : ℕ) → i < actions t → T (touches (act t i .eff) v) → T (has (act t i .pre) u x) → T (black t u) → T (black t v) → u ≢ v → T (blackArc t u v)
-    arcs i u v x b tv h bu bv ne = blackArc-intro t i u v b bu bv ne tv (or-l (touches (act t i .pre) u) (touches (act t i .eff) u) (has→touches (act t i .pre) u x h))
+    arcs : (i u v x : ℕ) → i < actions t → T (touches (reducedEffects (act t i)) v) → T (has (act t i .pre) u x) → T (black t u) → T (black t v) → u ≢ v → T (blackArc t u v)
+    arcs i u v x b tv h bu bv ne = blackArc-intro t i u v b bu bv ne tv (or-l (touches (act t i .pre) u) (touches (reducedEffects (act t i)) u) (has→touches (act t i .pre) u x h))
 
     pub accepted : Accepted (act t) (actions t) (black t) (count t) (order t)
     unfolding order

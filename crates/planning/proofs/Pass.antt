@@ -1,20 +1,24 @@
 -- One variable's pass of the repair. Q are the variables that are settled: red ones, and black ones that have had their pass. The old
 -- list meets every need on Q; the pass inserts moves of v alone, so that the new list meets every need on Q and on v. The inserted
--- moves may need red facts, which W holds and which never leave, but no settled black variable (clients come first); and they move no
--- settled black variable. So the needs on Q stay met, and v is at each need where the last walk left it.
+-- moves may need red facts, which W holds and which never leave, but no settled black variable (clients come first); and they set no
+-- settled black variable. An entry of the old list may set v, but only to the value that it needs, where the walk in front of it has left
+-- v. So the needs on Q stay met, and v is at each need where the last walk left it.
 use Prim.Native.Nat.{ℕ, _+_, _*_, _≤_, _<_}
 use mathlib.Core.Path.{_≡_, refl, subst}
 use mathlib.Core.Logic.{_⊎_, inl, inr}
 use mathlib.Core.List.{List, [], _∷_, _++_, append-nil}
 use mathlib.Core.Option.{Option, none, some}
-use lib.Dec.{T}
+use lib.Dec.{T, T-not}
 use lib.ListN.{length, length-append}
 use native.Mathlib.Omega.{arith}
 use Rattle.planning.specs.Record.{Fact, Action}
 use Rattle.planning.specs.Runs.{State, has, touches, look, Mode, step}
+use Rattle.planning.specs.Painting.{reducedEffects}
 use Rattle.planning.specs.Repair.{toward, after, pass, moves}
-use Rattle.planning.proofs.Facts.{Func, look-some, look-none}
+use Rattle.planning.proofs.Tests.{T-cases}
+use Rattle.planning.proofs.Facts.{touches→has, Func, look-some, look-none}
 use Rattle.planning.proofs.Steps.{step-eff, step-keep, step-at, All}
+use Rattle.planning.proofs.Arcs.{unchanged}
 use Rattle.planning.proofs.Walks.{Walk, stop, move}
 
 -- the facts of the list on the variables of Q are in the state
@@ -62,17 +66,26 @@ module _ (act : ℕ → Action) (m : Mode) (Q : ℕ → Type 0) (W : State) (v :
     walk-meets wk t (step m (act i) t′) (near-move (act i) t t′ c d U ef n) rest w k,
   )
 
-  -- what the entries so far must satisfy: they leave v alone, and what they need of it was held
+  -- what the entries so far must satisfy: none changes v, and what they need of it was held
   pub record Entry (a : Action) : Type 0 where
     pub func : Func (a .pre)
     pub was : (x : ℕ) → T (has (a .pre) v x) → T (W v x)
-    pub still : T (touches (a .eff) v) → ⊥
+    pub still : T (touches (reducedEffects a) v) → ⊥
 
-  near-step : (a : Action) (t t′ : State) (c : ℕ) → Entry a → Near t t′ c → Near (step m a t) (step m a t′) c
-  near-step a t t′ c E n = record {
+  -- v stays at c: the entry does not set it, or it needs the value that it sets, which is c
+  stays : (a : Action) (t′ : State) (c : ℕ) → Entry a → ((x : ℕ) → T (has (a .pre) v x) → x ≡ c) → T (t′ v c) → T (step m a t′ v c)
+  stays a t′ c E f h = elim (T-cases (touches (a .eff) v)) [
+    | inl k ↦
+        let e = touches→has (a .eff) v k in
+        subst (λ x. T (step m a t′ v x)) (f (e .0) (unchanged a v (e .0) (E .still) (e .1))) (step-eff m a t′ v (e .0) (e .1))
+    | inr n ↦ step-keep m a t′ v c h (λ _ k. T-not (touches (a .eff) v) n k)
+  ]
+
+  near-step : (a : Action) (t t′ : State) (c : ℕ) → Entry a → ((x : ℕ) → T (has (a .pre) v x) → x ≡ c) → Near t t′ c → Near (step m a t) (step m a t′) c
+  near-step a t t′ c E f n = record {
     sub = λ u x q h. step-at m m a t t′ u x (λ b. b) (n .sub u x q) h;
     reds = λ u x r h. step-keep m a t′ u x (n .reds u x r h) (λ b k. r b);
-    at = step-keep m a t′ v c (n .at) (λ b k. E .still k);
+    at = stays a t′ c E f (n .at);
   }
 
   module _ (path : ℕ → ℕ → List ℕ) (paths : (c d : ℕ) → T (W v c) → T (W v d) → Walk act (λ i. Mover m Q W (act i)) v c (path c d) d) where
@@ -98,7 +111,7 @@ module _ (act : ℕ → Action) (m : Mode) (Q : ℕ → Type 0) (W : State) (v :
         toward-meets o (act i .pre) refl (E .0 .func) (E .0 .was) t t′ c n k (i ∷ pass act path v (after c o) l w) w
         (λ t″ n′ k′ eq. (
           λ u x h. elim [ inl e ↦ held-at t″ (act i .pre) v (after c o) u x e h eq (n′ .at) | inr q ↦ n′ .sub u x q (ok .0 u x h q) ],
-          pass-meets l w fn iw (E .1) (step m (act i) t) (step m (act i) t″) (after c o) (near-step (act i) t t″ (after c o) (E .0) n′) k′ (ok .1),
+          pass-meets l w fn iw (E .1) (step m (act i) t) (step m (act i) t″) (after c o) (near-step (act i) t t″ (after c o) (E .0) eq n′) k′ (ok .1),
         ))
 
 -- the length of a pass: each of the gaps takes a path of less than k moves

@@ -15,13 +15,13 @@ use native.Mathlib.Decide.{ℕ-discrete}
 use Rattle.planning.specs.Basics.{first, reach}
 use Rattle.planning.specs.Record.{Action}
 use Rattle.planning.specs.Runs.{State, has, holds}
-use Rattle.planning.specs.Painting.{target, arcFrom}
+use Rattle.planning.specs.Painting.{reducedEffects, target, arcFrom}
 use Rattle.planning.specs.Repair.{usableArc, adjacent, pathIn, shortest}
 use Rattle.planning.proofs.Tests.{and-l, and-r, and-i}
 use Rattle.planning.proofs.Below.{some-intro, some-elim, First, First?, first-is}
 use Rattle.planning.proofs.Graph.{reach-here, reach-move, reach-cases, reach-zero, reach-suc, reach-bound}
 use Rattle.planning.proofs.Facts.{holds→sub, sub→holds, has→touches, Func}
-use Rattle.planning.proofs.Arcs.{Arc, arcFrom-elim, arcFrom-intro}
+use Rattle.planning.proofs.Arcs.{Arc, arc-reduced, arcFrom-elim, arcFrom-intro}
 use Rattle.planning.proofs.Walks.{Walk, Usable, stop, move}
 
 -- compared first to last
@@ -44,7 +44,7 @@ module _ (act : ℕ → Action) (A : ℕ) (W : State) (v n : ℕ) (pres : (i : �
   unfolding usableArc
   usableArc-elim c i b t =
       let a = arcFrom-elim act v c i (pres i b) (search and-r) in
-      (record { below = b; met = holds→sub W (act i .pre) (search and-l); sets = has→touches (act i .eff) v (target act v i) (a .into) }, a)
+      (record { below = b; met = holds→sub W (act i .pre) (search and-l); changes = has→touches (reducedEffects (act i)) v (target act v i) (arc-reduced act v c (target act v i) i a) }, a)
 
   usableArc-intro : (c d i : ℕ) → Usable act A W v i → Arc act v i c d → T (usableArc act W v c i) × (target act v i ≡ d)
   unfolding usableArc

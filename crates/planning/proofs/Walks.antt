@@ -6,6 +6,7 @@ use mathlib.Core.List.{List, [], _∷_, _++_}
 use lib.Dec.{T}
 use Rattle.planning.specs.Record.{Action}
 use Rattle.planning.specs.Runs.{State, has, touches}
+use Rattle.planning.specs.Painting.{reducedEffects}
 use Rattle.planning.proofs.Facts.{_⊆_}
 use Rattle.planning.proofs.Steps.{All}
 
@@ -26,8 +27,8 @@ pub walk-append : {act : ℕ → Action} {U : ℕ → Type 0} {v b c d : ℕ} {p
 walk-append stop k = k
 walk-append (move u pr ef h) k = move u pr ef (walk-append h k)
 
--- an action that sets v and whose preconditions all lie in W
+-- an action that changes v and whose preconditions all lie in W
 pub record Usable (act : ℕ → Action) (A : ℕ) (W : State) (v i : ℕ) : Type 0 where
   pub below : i < A
   pub met : has (act i .pre) ⊆ W
-  pub sets : T (touches (act i .eff) v)
+  pub changes : T (touches (reducedEffects (act i)) v)

@@ -8,13 +8,18 @@ use Rattle.planning.specs.Basics.{Check, refuseAt, someBelow, first, rea
 use Rattle.planning.specs.Record.{Fact, Action, Task}
 use Rattle.planning.specs.Runs.{has, touches, look, holds, variables, actions, count, act, black}
 
--- 5.1, 5.4 and 2.7: the effects that make arcs
-abbrev pub arcEffects : Action → List Fact
-arcEffects a = a .eff
+-- 5.1: the facts of a list that are not among those of pre; the reduced effects of an action, those that it does not need
+unfoldable pub without : List Fact → List Fact → List Fact
+without pre [] = []
+without pre (f ∷ fs) = elim (has pre (f .var) (f .val)) [ true ↦ without pre fs | false ↦ f ∷ without pre fs ]
+
+unfoldable pub reducedEffects : Action → List Fact
+reducedEffects a = without (a .pre) (a .eff)
 
 -- 5.1: an arc of the causal graph
 unfoldable pub causalArc : Task → ℕ → ℕ → Bool
-causalArc t u v = not (eqb u v) && someBelow (actions t) (λ i. touches (arcEffects (act t i)) v && (touches (act t i .pre) u || touches (arcEffects (act t i)) u))
+causalArc t u v =
+    not (eqb u v) && someBelow (actions t) (λ i. touches (reducedEffects (act t i)) v && (touches (act t i .pre) u || touches (reducedEffects (act t i)) u))
 
 -- 5.2: an arc of the black causal graph
 unfoldable pub blackArc : Task → ℕ → ℕ → Bool
@@ -45,11 +50,11 @@ orZero (some e) = e
 
 -- 5.4: the value e to which action i sets v
 unfoldable pub target : (ℕ → Action) → ℕ → ℕ → ℕ
-target act v i = orZero (look (arcEffects (act i)) v)
+target act v i = orZero (look (reducedEffects (act i)) v)
 
 -- 5.4: action i gives an arc of v from d, to its target
 unfoldable pub arcFrom : (ℕ → Action) → ℕ → ℕ → ℕ → Bool
-arcFrom act v d i = fits (look (act i .pre) v) d && leaves (look (arcEffects (act i)) v) d
+arcFrom act v d i = fits (look (act i .pre) v) d && leaves (look (reducedEffects (act i)) v) d
 
 -- 5.5: the facts of a list on variables other than v
 unfoldable pub outside : ℕ → List Fact → List Fact
