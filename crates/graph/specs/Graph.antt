@@ -10,6 +10,7 @@ use lib.ListN.{length, getD}
 use lib.Seq.{slice}
 use Rattle.planning.specs.Record.{Action}
 use Rattle.planning.specs.Runs.{Mode, touches}
+use Rattle.planning.specs.Painting.{reducedEffects}
 use Rattle.planning.specs.Repair.{order}
 use Rattle.task.specs.Task.{cell, taskIn}
 use Rattle.task.specs.Links.{orderIn}
@@ -28,7 +29,7 @@ pub record Rows (rows : List ℕ) (s : ℕ → ℕ → Bool) : Type 0 where
 
 -- the arcs of s, and those that an action gives between variables of m
 unfoldable pub withAction : Mode → Action → (ℕ → ℕ → Bool) → ℕ → ℕ → Bool
-withAction m a s u v = s u v || ((m u && m v) && (not (eqb u v) && (touches (a .eff) v && (touches (a .pre) u || touches (a .eff) u))))
+withAction m a s u v = s u v || ((m u && m v) && (not (eqb u v) && (touches (reducedEffects a) v && (touches (a .pre) u || touches (reducedEffects a) u))))
 
 -- the ways of s, and those that are one way to k and one from k
 unfoldable pub through : ℕ → (ℕ → ℕ → Bool) → ℕ → ℕ → Bool

@@ -2,67 +2,88 @@
 // clients-first order.
 ghost use mathlib.Core.Path.{_≡_};
 ghost use mathlib.Core.Bool.{_||_, _&&_, not};
-ghost use Prim.Native.Nat.{_<_, _≤_};
+ghost use Prim.Native.Nat.{ℕ, _/_, _%_, _<_, _≤_};
 ghost use lib.Dec.{eqb};
 ghost use lib.ListN.{length};
 ghost use Rattle.planning.specs.Basics.{someBelow, first};
-ghost use Rattle.planning.specs.Runs.{touches, actions, act, black};
-ghost use Rattle.planning.specs.Painting.{blackArc, cyclic};
+ghost use Rattle.planning.specs.Runs.{has, touches, actions, act, black};
+ghost use Rattle.planning.specs.Painting.{reducedEffects, blackArc, cyclic};
 ghost use Rattle.task.specs.Task.{factsIn, taskIn, Loaded};
 ghost use Rattle.state.specs.Sets.{inSet, setsOf, modeOf, Facts};
 ghost use Rattle.graph.specs.Graph.{Rows, foundOf, withAction, through, via, StartBelow, Filled, Ordered};
 
-// The variables of the facts from place `from` up to `to`, as a set.
-fn touched(task: &[u16], from: usize, to: usize) -> u64
-    requires { ⌜ Facts (now task) from to ⌝ }
-    ensures { λ r. ⌜ modeOf r ≡ touches (factsIn (now (task .entry)) from to) ⌝ }
+// An effect f of action i changes a black variable: action i does not need f.
+pub fn changes(task: &[u16], i: usize, f: usize, paint: u64) -> bool
+    requires { ⌜ Loaded (now task) × (i < actions (taskIn (now task))) × (f < 4096) ⌝ }
+    ensures { λ r. ⌜ r ≡ (inSet paint (f / 64) && not (has (act (taskIn (now (task .entry))) i .pre) (f / 64) (f % 64))) ⌝ }
 {
+    if state::member(paint, f / 64) {
+        return !state::needs_fact(task, i, f);
+    }
+    false
+}
+
+// The black variables that action i changes, as a set: those of its reduced effects.
+fn changed(task: &[u16], i: usize, paint: u64) -> u64
+    requires { ⌜ Loaded (now task) × (i < actions (taskIn (now task))) ⌝ }
+    ensures { λ r. ⌜ ((v : ℕ) → inSet r v ≡ (inSet paint v && touches (reducedEffects (act (taskIn (now (task .entry))) i)) v)) ⌝ }
+{
+    let end = task::eff_end(task, i);
     let mut set: u64 = 0;
-    let mut k = from;
-    while k < to {
-        set = set | state::single(lists::wide(task[k]) / 64);
+    let mut k = task::eff_start(task, i);
+    while k < end {
+        let f = lists::wide(task[k]);
+        if changes(task, i, f, paint) {
+            set = set | state::single(f / 64);
+        }
         k += 1;
     }
     set
 }
 
-// Row u with arcs to the variables of `affected`, if u is black; none to u itself.
-fn joined(row: u64, affected: u64, u: usize, paint: u64) -> u64
+// Row u with arcs to the variables of `changed`, if u is black; none to u itself.
+fn joined(row: u64, changed: u64, u: usize, paint: u64) -> u64
     requires { ⌜ u < 64 ⌝ }
-    ensures { λ r. ⌜ modeOf r ≡ (λ v. inSet row v || ((inSet paint u && not (eqb u v)) && inSet affected v)) ⌝ }
+    ensures { λ r. ⌜ modeOf r ≡ (λ v. inSet row v || ((inSet paint u && not (eqb u v)) && inSet changed v)) ⌝ }
 {
     if state::member(paint, u) {
         let own = state::single(u);
-        row | ((affected | own) ^ own)
+        row | ((changed | own) ^ own)
     } else {
         row
     }
 }
 
 // Arcs from each black variable of the facts from place `from` up to `to`.
-fn add_arcs(rows: &mut [u64; 64], task: &[u16], from: usize, to: usize, affected: u64, paint: u64)
+fn add_arcs(rows: &mut [u64; 64], task: &[u16], from: usize, to: usize, changed: u64, paint: u64)
     requires { ⌜ Facts (now task) from to × (length (now rows) ≡ 64) ⌝ }
-    ensures { λ _. ⌜ Rows (now (rows .exit)) (λ u v. setsOf (now (rows .entry)) u v || (touches (factsIn (now (task .entry)) from to) u && ((inSet paint u && not (eqb u v)) && inSet affected v))) ⌝ }
+    ensures { λ _. ⌜ Rows (now (rows .exit)) (λ u v. setsOf (now (rows .entry)) u v || (touches (factsIn (now (task .entry)) from to) u && ((inSet paint u && not (eqb u v)) && inSet changed v))) ⌝ }
 {
     let mut k = from;
     while k < to {
         let u = lists::wide(task[k]) / 64;
-        rows[u] = joined(rows[u], affected, u, paint);
+        rows[u] = joined(rows[u], changed, u, paint);
         k += 1;
     }
 }
 
-// The arcs of action i: from the black variables that it mentions to those that it affects.
+// The arcs of action i: from the black variables that it mentions to those that it changes.
 fn add_action(rows: &mut [u64; 64], task: &[u16], i: usize, paint: u64)
     requires { ⌜ Loaded (now task) × (i < actions (taskIn (now task))) × (length (now rows) ≡ 64) ⌝ }
     ensures { λ _. ⌜ Rows (now (rows .exit)) (withAction (modeOf paint) (act (taskIn (now (task .entry))) i) (setsOf (now (rows .entry)))) ⌝ }
 {
-    let to = task::eff_end(task, i);
-    let affected = touched(task, task::eff_start(task, i), to) & paint;
-    if affected == 0 {
+    let set = changed(task, i, paint);
+    if set == 0 {
         return;
     }
-    add_arcs(rows, task, task::pre_start(task, i), to, affected, paint);
+    add_arcs(
+        rows,
+        task,
+        task::pre_start(task, i),
+        task::eff_end(task, i),
+        set,
+        paint,
+    );
 }
 
 // The black causal graph; `paint` are the black variables.

@@ -16,7 +16,7 @@ use Rattle.planning.proofs.Facts.{has-here, has-there, has-cases, has→touches
 use Rattle.planning.proofs.Formed.{Formed, Sorted, sorted-func}
 use Rattle.planning.proofs.Painting.{black-inside, one-black}
 use Rattle.task.specs.Task.{taskIn, Loaded}
-use Rattle.task.specs.Links.{headAt, nextAt, linked, Next, Sets, Chained, Link, Relinked, Unlinked}
+use Rattle.task.specs.Links.{headAt, nextAt, linked, Next, Changes, Chained, Link, Relinked, Unlinked}
 use Rattle.task.proofs.Relinking.{relinked-task, relinked-loaded, relinked-none, relinked-link, relinked-trans, head-new, head-old, next-new, next-old}
 use Rattle.state.specs.Sets.{modeOf}
 use Rattle.graph.specs.Graph.{Ordered}
@@ -106,16 +106,16 @@ link-one f g i task task′ q n e = rw (← q, ne-eqb f 65535 n) e
 pub record Linking (task₀ task : List ℕ) (i : ℕ) : Type 0 where
   pub relinked : Relinked task₀ task
   pub within : i ≤ actions (taskIn task₀)
-  pub heads : (v e : ℕ) → v < 64 → e < 64 → T (black (taskIn task₀) v) → Next (actions (taskIn task₀)) (Sets (taskIn task₀) v e) i (headAt task (64 * v + e))
-  pub links : (v e j : ℕ) → T (black (taskIn task₀) v) → i ≤ j → j < actions (taskIn task₀) → Sets (taskIn task₀) v e j
-      → Next (actions (taskIn task₀)) (Sets (taskIn task₀) v e) (j + 1) (nextAt task j)
+  pub heads : (v e : ℕ) → v < 64 → e < 64 → T (black (taskIn task₀) v) → Next (actions (taskIn task₀)) (Changes (taskIn task₀) v e) i (headAt task (64 * v + e))
+  pub links : (v e j : ℕ) → T (black (taskIn task₀) v) → i ≤ j → j < actions (taskIn task₀) → Changes (taskIn task₀) v e j
+      → Next (actions (taskIn task₀)) (Changes (taskIn task₀) v e) (j + 1) (nextAt task j)
 
 module _ (task₀ : List ℕ) (paint : ℕ) (A : Acyclic task₀ paint) where
   F : Formed (taskIn task₀)
   F = A .loaded .formed
 
   -- two black facts that one action sets are the same
-  one-move : (i v e w x : ℕ) → i < actions (taskIn task₀) → T (black (taskIn task₀) v) → T (black (taskIn task₀) w) → Sets (taskIn task₀) v e i → Sets (taskIn task₀) w x i → (v ≡ w) × (e ≡ x)
+  one-move : (i v e w x : ℕ) → i < actions (taskIn task₀) → T (black (taskIn task₀) v) → T (black (taskIn task₀) w) → Changes (taskIn task₀) v e i → Changes (taskIn task₀) w x i → (v ≡ w) × (e ≡ x)
   one-move i v e w x b ov ow h g =
       let q : v ≡ w = one-black (taskIn task₀) F (A .acyclic) i v w b (has→touches (act (taskIn task₀) i .eff) v e h) (has→touches (act (taskIn task₀) i .eff) w x g) ov ow in
       let k : T (has (act (taskIn task₀) i .eff) w e) = subst (λ (y : ℕ). T (has (act (taskIn task₀) i .eff) y e)) q h in
@@ -135,12 +135,12 @@ module _ (task₀ : List ℕ) (paint : ℕ) (A : Acyclic task₀ paint) where
     linked-none absent = record {
       relinked = L .relinked;
       within = omega (arith, L .within);
-      heads = λ v e vb eb o. next-skip (actions (taskIn task₀)) (Sets (taskIn task₀) v e) i (headAt task (64 * v + e)) (absent v e o) (L .heads v e vb eb o);
+      heads = λ v e vb eb o. next-skip (actions (taskIn task₀)) (Changes (taskIn task₀) v e) i (headAt task (64 * v + e)) (absent v e o) (L .heads v e vb eb o);
       links = λ v e j o l k h. go v e j (ℕ-discrete j i) o l k h;
     }
       where
-        go : (v e j : ℕ) → Dec (j ≡ i) → T (black (taskIn task₀) v) → i ≤ j → j < actions (taskIn task₀) → Sets (taskIn task₀) v e j
-            → Next (actions (taskIn task₀)) (Sets (taskIn task₀) v e) (j + 1) (nextAt task j)
+        go : (v e j : ℕ) → Dec (j ≡ i) → T (black (taskIn task₀) v) → i ≤ j → j < actions (taskIn task₀) → Changes (taskIn task₀) v e j
+            → Next (actions (taskIn task₀)) (Changes (taskIn task₀) v e) (j + 1) (nextAt task j)
         go v e j (yes q) o l k h = absurd (absent v e o (subst (λ (y : ℕ). T (has (act (taskIn task₀) y .eff) v e)) q h))
         go v e j (no q) o l k h = L .links v e j o (omega arith) k h
 
@@ -155,21 +155,21 @@ module _ (task₀ : List ℕ) (paint : ℕ) (A : Acyclic task₀ paint) where
         number : 64 * (f / 64) + f % 64 ≡ f
         number = omega arith
 
-        front : (v e : ℕ) → v < 64 → e < 64 → T (black (taskIn task₀) v) → Dec (64 * v + e ≡ f) → Next (actions (taskIn task₀)) (Sets (taskIn task₀) v e) i (headAt (linked f i task) (64 * v + e))
+        front : (v e : ℕ) → v < 64 → e < 64 → T (black (taskIn task₀) v) → Dec (64 * v + e ≡ f) → Next (actions (taskIn task₀)) (Changes (taskIn task₀) v e) i (headAt (linked f i task) (64 * v + e))
         front v e vb eb o (yes q) =
             let a : f / 64 ≡ v = omega arith in
             let c : f % 64 ≡ e = omega arith in
-            let p : Sets (taskIn task₀) v e i = rw (a, c) at (M .states) in
-            rw (q, head-new task f i (M .small) near room) (next-here (actions (taskIn task₀)) (Sets (taskIn task₀) v e) i below p)
+            let p : Changes (taskIn task₀) v e i = rw (a, c) at (M .states) in
+            rw (q, head-new task f i (M .small) near room) (next-here (actions (taskIn task₀)) (Changes (taskIn task₀) v e) i below p)
         front v e vb eb o (no q) =
             rw (head-old task f i (M .small) near room (64 * v + e) (omega arith) q)
-            (next-skip (actions (taskIn task₀)) (Sets (taskIn task₀) v e) i (headAt task (64 * v + e))
+            (next-skip (actions (taskIn task₀)) (Changes (taskIn task₀) v e) i (headAt task (64 * v + e))
             (λ h. let r = one-move i v e (f / 64) (f % 64) below o (M .on) h (M .states) in q (rw (r .0, r .1) number)) (L .heads v e vb eb o))
 
-        behind : (v e j : ℕ) → Dec (j ≡ i) → T (black (taskIn task₀) v) → i ≤ j → j < actions (taskIn task₀) → Sets (taskIn task₀) v e j
-            → Next (actions (taskIn task₀)) (Sets (taskIn task₀) v e) (j + 1) (nextAt (linked f i task) j)
+        behind : (v e j : ℕ) → Dec (j ≡ i) → T (black (taskIn task₀) v) → i ≤ j → j < actions (taskIn task₀) → Changes (taskIn task₀) v e j
+            → Next (actions (taskIn task₀)) (Changes (taskIn task₀) v e) (j + 1) (nextAt (linked f i task) j)
         behind v e j (yes q) o l k h =
-            let g : Sets (taskIn task₀) v e i = subst (λ (y : ℕ). T (has (act (taskIn task₀) y .eff) v e)) q h in
+            let g : Changes (taskIn task₀) v e i = subst (λ (y : ℕ). T (has (act (taskIn task₀) y .eff) v e)) q h in
             let r = one-move i v e (f / 64) (f % 64) below o (M .on) g (M .states) in
             let z : f ≡ 64 * v + e = rw (r .0, r .1) (sym number) in
             rw (q, next-new task f i (M .small) near room, z) (L .heads v e (omega (arith, r .0, M .small)) (omega (arith, r .1)) o)
@@ -199,7 +199,7 @@ module _ (entry task₀ : List ℕ) (paint : ℕ) (A : Acyclic entry paint) (n :
         within = omega (arith, last);
         heads = λ v e vb eb o.
             let h = U .heads (64 * v + e) (omega (arith, en, ap variables same₀, black-inside (taskIn task₀) v o)) in
-            rw h (next-none (actions (taskIn task₀)) (Sets (taskIn task₀) v e) i (omega (arith, last)));
+            rw h (next-none (actions (taskIn task₀)) (Changes (taskIn task₀) v e) i (omega (arith, last)));
         links = λ v e j o l k h. absurd (omega (arith, last));
       }
 
@@ -225,7 +225,7 @@ module _ (entry task₀ : List ℕ) (paint : ℕ) (A : Acyclic entry paint) (n :
         record {
           relinked = relinked-trans entry task₀ task (U .relinked) (L .relinked);
           chained = rw (← same₀) (record {
-            heads = λ v e vb eb o. subst (λ (y : ℕ). Next (actions (taskIn task₀)) (Sets (taskIn task₀) v e) y (headAt task (64 * v + e))) z (L .heads v e vb eb o);
+            heads = λ v e vb eb o. subst (λ (y : ℕ). Next (actions (taskIn task₀)) (Changes (taskIn task₀) v e) y (headAt task (64 * v + e))) z (L .heads v e vb eb o);
             links = λ v e j o k h. L .links v e j o (omega arith) k h;
           });
         }

@@ -21,7 +21,7 @@ use Rattle.planning.proofs.Arcs.{Arc, arcFrom-elim, arcFrom-intro}
 use Rattle.planning.proofs.Formed.{Formed, Sorted, sorted-func, sorted-has}
 use Rattle.planning.proofs.Painting.{black-inside, has-outside, outside-has, one-black}
 use Rattle.task.specs.Task.{taskIn}
-use Rattle.task.specs.Links.{headAt, nextAt, Next, Sets}
+use Rattle.task.specs.Links.{headAt, nextAt, Next, Changes}
 use Rattle.state.specs.Sets.{Asked}
 use Rattle.graph.proofs.Searches.{both, false-not, some-same, some-found, some-lacks}
 use Rattle.painting.specs.Returns.{returnsBy, returned, unreturnedFrom, arcsBy, lacksBy, lacks, OnChain, InChain, Serves, Complete}
@@ -278,7 +278,7 @@ asked-chain t j v d x q b e h = inr (h, go (look (act t j .eff) v) refl q)
 
 -- the chain of v = d, gone through from a up to action j
 pub record Chasing (t : Task) (m : State) (v d a j : ℕ) : Type 0 where
-  pub valid : (j ≡ 65535) ⊎ ((a ≤ j) × (j < actions t) × Sets t v d j)
+  pub valid : (j ≡ 65535) ⊎ ((a ≤ j) × (j < actions t) × Changes t v d j)
   pub passed : (k : ℕ) → a ≤ k → k < actions t → k < j → T (returnsBy t m v d k) → ⊥
 
 pub chasing-start : (t : Task) (m : State) (v d j : ℕ) → InChain t v d j → Chasing t m v d j j
@@ -288,7 +288,7 @@ chasing-start t m v d j h = record {
 }
 
 module _ (task : List ℕ) (f : ℕ) (O : OnChain task f) (m : State) (a j : ℕ) (J : Chasing (taskIn task) m (f / 64) (f % 64) a j) where
-  pub chasing-at : (j ≡ 65535 → ⊥) → (a ≤ j) × (j < actions (taskIn task)) × Sets (taskIn task) (f / 64) (f % 64) j
+  pub chasing-at : (j ≡ 65535 → ⊥) → (a ≤ j) × (j < actions (taskIn task)) × Changes (taskIn task) (f / 64) (f % 64) j
   chasing-at n = elim (J .valid) [ inl q ↦ absurd (n q) | inr q ↦ q ]
 
   pub chasing-near : (j ≡ 65535 → ⊥) → j < 1024
@@ -303,8 +303,8 @@ module _ (task : List ℕ) (f : ℕ) (O : OnChain task f) (m : State) (a j : ℕ
     elim (N .found) [ inl q ↦ omega (arith, chasing-near n) | inr q ↦ omega (arith, q .0) ],
   )
     where
-      N : Next (actions (taskIn task)) (Sets (taskIn task) (f / 64) (f % 64)) (j + 1) x
-      N = subst (Next (actions (taskIn task)) (Sets (taskIn task) (f / 64) (f % 64)) (j + 1)) (sym e)
+      N : Next (actions (taskIn task)) (Changes (taskIn task) (f / 64) (f % 64)) (j + 1) x
+      N = subst (Next (actions (taskIn task)) (Changes (taskIn task) (f / 64) (f % 64)) (j + 1)) (sym e)
           (O .chained .links (f / 64) (f % 64) j (O .on) (chasing-at n .1) (chasing-at n .2))
 
       go : (k : ℕ) → a ≤ k → k < actions (taskIn task) → k < x → Dec (k ≡ j) → Dec (k < j) → T (returnsBy (taskIn task) m (f / 64) (f % 64) k) → ⊥
@@ -327,10 +327,10 @@ pub next-serves : (t : Task) (m : State) (v d a j : ℕ) → Next (actions t) (�
 next-serves t m v d a j N = elim (N .found) [ inl q ↦ inl q | inr q ↦ inr (q .1, q .2) ]
 
 module _ (task : List ℕ) (f : ℕ) (O : OnChain task f) where
-  head-next : Next (actions (taskIn task)) (Sets (taskIn task) (f / 64) (f % 64)) 0 (headAt task f)
+  head-next : Next (actions (taskIn task)) (Changes (taskIn task) (f / 64) (f % 64)) 0 (headAt task f)
   head-next =
       let q : 64 * (f / 64) + f % 64 ≡ f = omega arith in
-      subst (λ (g : ℕ). Next (actions (taskIn task)) (Sets (taskIn task) (f / 64) (f % 64)) 0 (headAt task g)) q
+      subst (λ (g : ℕ). Next (actions (taskIn task)) (Changes (taskIn task) (f / 64) (f % 64)) 0 (headAt task g)) q
       (O .chained .heads (f / 64) (f % 64) (omega (arith, O .small)) (omega arith) (O .on))
 
   -- the head stands in its chain

@@ -11,9 +11,9 @@ use lib.ListN.{length, getD, set}
 use Rattle.planning.specs.Basics.{someBelow}
 use Rattle.planning.specs.Record.{Fact, Task}
 use Rattle.planning.specs.Runs.{State, has, look, holds, variables, actions, act, black, count}
-use Rattle.planning.specs.Painting.{lacksReturn}
+use Rattle.planning.specs.Painting.{reducedEffects, lacksReturn}
 use Rattle.task.specs.Task.{taskIn, Loaded, preAt, effAt}
-use Rattle.task.specs.Links.{Sets, Chained}
+use Rattle.task.specs.Links.{Changes, Chained}
 
 abbrev pub pickPlace : Bool → ℕ → ℕ → ℕ
 pickPlace true g f = f
@@ -41,9 +41,9 @@ pub record Unmarked (i : ℕ) (marks : List ℕ) : Type 0 where
 abbrev pub FirstUnmarked : List ℕ → ℕ → State → ℕ → Type 0
 FirstUnmarked task j m r = (preAt task j ≤ r) × (r ≤ effAt task j) × (holds m (act (taskIn task) j .pre) ≡ eqb r (effAt task j))
 
--- action j sets v = d and needs marked facts only
+-- action j changes v to d and needs marked facts only
 abbrev pub returnsBy : Task → State → ℕ → ℕ → ℕ → Bool
-returnsBy t m v d j = has (act t j .eff) v d && holds m (act t j .pre)
+returnsBy t m v d j = has (reducedEffects (act t j)) v d && holds m (act t j .pre)
 
 -- some action does
 unfoldable pub returned : Task → State → ℕ → ℕ → Bool
@@ -76,15 +76,15 @@ pub record OnChain (task : List ℕ) (f : ℕ) : Type 0 where
   pub small : f < 4096
   pub on : T (black (taskIn task) (f / 64))
 
--- action j sets v = d; or it is 65,535, which ends a chain
+-- action j changes v to d; or it is 65,535, which ends a chain
 abbrev pub InChain : Task → ℕ → ℕ → ℕ → Type 0
-InChain t v d j = (j ≡ 65535) ⊎ ((j < actions t) × Sets t v d j)
+InChain t v d j = (j ≡ 65535) ⊎ ((j < actions t) × Changes t v d j)
 
--- action j sets v = d and needs marked facts only; or it is 65,535
+-- action j changes v to d and needs marked facts only; or it is 65,535
 abbrev pub Serves : Task → State → ℕ → ℕ → ℕ → Type 0
 Serves t m v d j = (j ≡ 65535) ⊎ ((j < actions t) × T (returnsBy t m v d j))
 
--- each value of v is set by an action that needs nothing but what action j needs
+-- v is changed to each of its values by an action that needs nothing but what action j needs
 pub record Complete (t : Task) (v j : ℕ) : Type 0 where
   pub below : j < actions t
   pub each : (d : ℕ) → d < count t v → T (returned t (has (act t j .pre)) v d)

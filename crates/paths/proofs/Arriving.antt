@@ -18,7 +18,7 @@ use Rattle.planning.proofs.Tests.{and-l, and-r, and-i}
 use Rattle.planning.proofs.Formed.{Formed}
 use Rattle.planning.proofs.Painting.{black-inside}
 use Rattle.task.specs.Task.{taskIn}
-use Rattle.task.specs.Links.{Next, Sets, Prepared, headAt, nextAt}
+use Rattle.task.specs.Links.{Next, Changes, Prepared, headAt, nextAt}
 use Rattle.state.specs.Sets.{inSet}
 use Rattle.state.proofs.Members.{inSet-single}
 use Rattle.paths.specs.Paths.{Member, lower, sourceOf, Enters, Marks, Marked, Kept, Apart, Leads}
@@ -27,10 +27,10 @@ use Rattle.paths.proofs.Leads.{marks-turn, marks-map, usableArc-is, usa
 
 -- the actions of a chain before i, besides those that were marked before
 abbrev pub Before : Task → State → ℕ → ℕ → ℕ → ℕ → ℕ → ℕ → Type 0
-Before t K v front e i c j = Enters t K v front e c j ⊎ (T (usableArc (act t) K v c j) × Sets t v e j × (j < i))
+Before t K v front e i c j = Enters t K v front e c j ⊎ (T (usableArc (act t) K v c j) × Changes t v e j × (j < i))
 
 pub record Arriving (t : Task) (K : State) (v front e rest : ℕ) (row₀ row : List ℕ) (grow i : ℕ) : Type 0 where
-  pub here : (i ≡ 65535) ⊎ ((i < actions t) × Sets t v e i)
+  pub here : (i ≡ 65535) ⊎ ((i < actions t) × Changes t v e i)
   pub long : length row ≡ 64
   pub marks : Marks (actions t) rest (Before t K v front e i) row grow
   pub kept : Kept rest row₀ row
@@ -50,13 +50,13 @@ module _ (task : List ℕ) (v front e rest : ℕ) (H : Chain task v front e rest
   F : Formed t
   F = H .prepared .loaded .formed
 
-  next-here : (a x : ℕ) → Next (actions t) (Sets t v e) a x → (x ≡ 65535) ⊎ ((x < actions t) × Sets t v e x)
+  next-here : (a x : ℕ) → Next (actions t) (Changes t v e) a x → (x ≡ 65535) ⊎ ((x < actions t) × Changes t v e x)
   next-here a x N = elim (N .found) [ inl q ↦ inl q | inr q ↦ inr (q .1, q .2) ]
 
   pub chain-place : 64 * v + e < 4096
   chain-place = omega (arith, H .near, black-inside t v (H .painted), F .variables-max)
 
-  chain-head : Next (actions t) (Sets t v e) 0 (headAt task (64 * v + e))
+  chain-head : Next (actions t) (Changes t v e) 0 (headAt task (64 * v + e))
   chain-head = H .prepared .chained .heads v e (omega (arith, black-inside t v (H .painted), F .variables-max)) (H .near) (H .painted)
 
   pub arriving-start : (K : State) (row : List ℕ) (grow i : ℕ) → length row ≡ 64 → Marked t K v front rest e row grow → i ≡ headAt task (64 * v + e)
@@ -76,14 +76,14 @@ module _ (task : List ℕ) (v front e rest : ℕ) (H : Chain task v front e rest
     kept = λ c b h. refl;
   }
     where
-      N : Next (actions t) (Sets t v e) 0 i
+      N : Next (actions t) (Changes t v e) 0 i
       N = rw q chain-head
 
   module _ (K : State) (row₀ row : List ℕ) (grow i : ℕ) (G : Arriving t K v front e rest row₀ row grow i) where
-    pub arriving-here : i < 1024 → (i < actions t) × Sets t v e i
+    pub arriving-here : i < 1024 → (i < actions t) × Changes t v e i
     arriving-here h = elim (G .here) [ inl q ↦ absurd (omega arith) | inr q ↦ q ]
 
-    chain-next : i < 1024 → Next (actions t) (Sets t v e) (i + 1) (nextAt task i)
+    chain-next : i < 1024 → Next (actions t) (Changes t v e) (i + 1) (nextAt task i)
     chain-next h = let q = arriving-here h in H .prepared .chained .links v e i (H .painted) (q .0) (q .1)
 
     pub arriving-above : i < 1024 → (x : ℕ) → x ≡ nextAt task i → i < x
@@ -110,7 +110,7 @@ module _ (task : List ℕ) (v front e rest : ℕ) (H : Chain task v front e rest
           kept = λ c cb r. low c cb ∙ lower-not c (λ s. r (in-rest c s)) ∙ G .kept c cb r;
         }
       where
-        N : Next (actions t) (Sets t v e) (i + 1) x
+        N : Next (actions t) (Changes t v e) (i + 1) x
         N = rw ex (chain-next h)
 
         in-rest : (c : ℕ) → T (inSet set c) → T (inSet rest c)
@@ -129,7 +129,7 @@ module _ (task : List ℕ) (v front e rest : ℕ) (H : Chain task v front e rest
             go true h = absurd (h tt)
             go false h = refl
 
-        split : (c j : ℕ) → T (inSet rest c) → j < actions t → T (usableArc (act t) K v c j) → Sets t v e j → j < x → Dec (j ≡ i) → Before t K v front e i c j ⊎ ((j ≡ i) × T (inSet set c))
+        split : (c j : ℕ) → T (inSet rest c) → j < actions t → T (usableArc (act t) K v c j) → Changes t v e j → j < x → Dec (j ≡ i) → Before t K v front e i c j ⊎ ((j ≡ i) × T (inSet set c))
         split c j r jb p s l (yes z) = inr (z, rw (law c) (and-i (inSet rest c) (sourceOf t K v i c) r (usableArc-fits t F K v c i (subst (λ y. T (usableArc (act t) K v c y)) z p))))
         split c j r jb p s l (no z) = below (decLt j i)
           where
@@ -150,7 +150,7 @@ module _ (task : List ℕ) (v front e rest : ℕ) (H : Chain task v front e rest
         last = elim (G .here) [ inl q ↦ q | inr q ↦ absurd (omega (arith, q .0, F .actions-max)) ]
 
         old : (c j : ℕ) → j < actions t → (D : Enters t K v front (e + 1) c j) → Dec (D .1 .0 ≡ e) → Before t K v front e i c j
-        old c j jb D (yes z) = inr (D .0, subst (λ y. Sets t v y j) z (D .1 .3), omega (arith, last, F .actions-max))
+        old c j jb D (yes z) = inr (D .0, subst (λ y. Changes t v y j) z (D .1 .3), omega (arith, last, F .actions-max))
         old c j jb D (no z) = inl (D .0, (D .1 .0, omega (arith, D .1 .1), D .1 .2, D .1 .3))
 
 -- the values of one layer: members of front before e are done

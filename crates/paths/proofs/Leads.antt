@@ -26,7 +26,7 @@ use Rattle.planning.proofs.Formed.{Formed, sorted-has, sorted-func}
 use Rattle.planning.proofs.Short.{usableArc-elim, adjacent-elim, usableArc→adjacent}
 use Rattle.state.specs.Sets.{inSet}
 use Rattle.state.proofs.Members.{inSet-empty, inSet-or}
-use Rattle.task.specs.Links.{Next, Sets}
+use Rattle.task.specs.Links.{Next, Changes}
 use Rattle.paths.specs.Paths.{lower, leadIn, lead, numberOf, Leads, Enters, Marks, Kept, Apart}
 use Rattle.paths.proofs.Sets.{inSet-either, either}
 
@@ -155,17 +155,17 @@ module _ (t : Task) (F : Formed t) (K : State) (v : ℕ) where
   pub range : (i e : ℕ) → i < A → T (has (act t i .eff) v e) → e < n
   range i e b h = sorted-has (variables t) (count t) 0 (act t i .eff) (F .eff-sorted i) v e h .val-below
 
-  pub usableArc-sets : (c i : ℕ) → i < A → T (usableArc (act t) K v c i) → Sets t v (target (act t) v i) i
+  pub usableArc-sets : (c i : ℕ) → i < A → T (usableArc (act t) K v c i) → Changes t v (target (act t) v i) i
   usableArc-sets c i b h = usableArc-elim (act t) A K v n pres effs range c i b h .1 .into
 
-  usableArc-target : (c i e : ℕ) → i < A → T (usableArc (act t) K v c i) → Sets t v e i → target (act t) v i ≡ e
+  usableArc-target : (c i e : ℕ) → i < A → T (usableArc (act t) K v c i) → Changes t v e i → target (act t) v i ≡ e
   usableArc-target c i e b h s = effs i b v (target (act t) v i) e (usableArc-sets c i b h) s
 
   pub usableArc-adj : (c i : ℕ) → i < A → T (usableArc (act t) K v c i) → T (adj c (target (act t) v i))
   usableArc-adj c i b h = usableArc→adjacent (act t) A K v n pres effs range c i b h
 
   -- an action that sets v to e, at a value other than e
-  pub usableArc-is : (c e i : ℕ) → i < A → Sets t v e i → (c ≡ e → ⊥) → T (holds K (act t i .pre) && fits (look (act t i .pre) v) c) → T (usableArc (act t) K v c i)
+  pub usableArc-is : (c e i : ℕ) → i < A → Changes t v e i → (c ≡ e → ⊥) → T (holds K (act t i .pre) && fits (look (act t i .pre) v) c) → T (usableArc (act t) K v c i)
   unfolding usableArc arcFrom leaves
   usableArc-is c e i b s ne h =
       let q = look-is (act t i .eff) v e (effs i b) s (look (act t i .eff) v) refl in

@@ -11,7 +11,7 @@ use Rattle.planning.specs.Record.{Fact, Action, Task}
 use Rattle.planning.specs.Runs.{State, touches, look, holds, actions, count, act, black}
 use Rattle.planning.specs.Painting.{target, fits}
 use Rattle.planning.specs.Repair.{usableArc, adjacent, shortest}
-use Rattle.task.specs.Links.{Next, Sets}
+use Rattle.task.specs.Links.{Next, Changes}
 use Rattle.state.specs.Sets.{inSet}
 use Rattle.paths.specs.declared.Written.{Written}
 use Rattle.paths.specs.declared.Written.the-variants.{Upto, Long}
@@ -58,7 +58,7 @@ Leads t K v d row = (c : ℕ) → c < count t v → getD row c 0 ≡ leadOf t K 
 
 -- action j sets v to a member of the set front that is below e
 abbrev pub Found : Task → ℕ → ℕ → ℕ → ℕ → Type 0
-Found t v front e j = (x : ℕ) × (x < e) × T (inSet front x) × Sets t v x j
+Found t v front e j = (x : ℕ) × (x < e) × T (inSet front x) × Changes t v x j
 
 -- action j leads from c to such a member
 abbrev pub Enters : Task → State → ℕ → ℕ → ℕ → ℕ → ℕ → Type 0

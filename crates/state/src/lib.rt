@@ -5,7 +5,7 @@ use task::Goal;
 ghost use mathlib.Core.Path.{_≡_};
 ghost use Prim.Native.Nat.{ℕ, _+_, _*_, _/_, _%_, _^_, _<_, _≤_};
 ghost use lib.ListN.{length, getD};
-ghost use Rattle.planning.specs.Runs.{actions, act, holds, look, step, initial, relaxed, black, size};
+ghost use Rattle.planning.specs.Runs.{actions, act, has, holds, look, step, initial, relaxed, black, size};
 ghost use Rattle.planning.specs.Newest.{initialValues, newer, alone};
 ghost use Rattle.task.specs.Task.{factsIn, taskIn, Loaded};
 ghost use Rattle.state.specs.Sets.{inSet, setsOf, valuesOf, modeOf, redBlackOf, further, GoalsOf, Asked};
@@ -180,6 +180,20 @@ pub fn asked(facts: &[u16], from: usize, to: usize, v: usize) -> usize
         k += 1;
     }
     64
+}
+
+// Fact f is among the preconditions of action i.
+pub fn needs_fact(task: &[u16], i: usize, f: usize) -> bool
+    requires { ⌜ Loaded (now task) × (i < actions (taskIn (now task))) ⌝ }
+    ensures { λ r. ⌜ r ≡ has (act (taskIn (now (task .entry))) i .pre) (f / 64) (f % 64) ⌝ }
+{
+    let d = asked(
+        task,
+        task::pre_start(task, i),
+        task::eff_start(task, i),
+        f / 64,
+    );
+    d == f % 64
 }
 
 // The black variables, as a set of variables.

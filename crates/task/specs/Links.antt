@@ -1,5 +1,5 @@
--- The parts of a loaded task that are written once the painting is looked at: chains of actions by the black fact that they set, and
--- the clients-first order. Check 8 and the search for paths go through a chain instead of all actions.
+-- The parts of a loaded task that are written once the painting is looked at: chains of actions by the black fact to which they change a
+-- variable, and the clients-first order. Check 8 and the search for paths go through a chain instead of all actions.
 use mathlib.Core.Path.{_≡_}
 use mathlib.Core.Logic.{_⊎_}
 use mathlib.Core.List.{List}
@@ -10,7 +10,7 @@ use lib.ListN.{length, getD, set}
 use lib.Seq.{slice}
 use Rattle.planning.specs.Record.{Task}
 use Rattle.planning.specs.Runs.{has, actions, act, black}
-use Rattle.planning.specs.Painting.{cyclic, unreturned}
+use Rattle.planning.specs.Painting.{reducedEffects, cyclic, unreturned}
 use Rattle.planning.specs.Repair.{order}
 use Rattle.task.specs.Task.{orderFrom, headsFrom, nextsFrom, linksEnd, cell, taskIn, Loaded}
 
@@ -28,14 +28,14 @@ pub record Next (n : ℕ) (P : ℕ → Type 0) (a x : ℕ) : Type 0 where
   pub least : (j : ℕ) → a ≤ j → j < n → j < x → P j → ⊥
   pub found : (x ≡ 65535) ⊎ ((a ≤ x) × (x < n) × P x)
 
--- action i sets v to e
-abbrev pub Sets : Task → ℕ → ℕ → ℕ → Type 0
-Sets t v e i = T (has (act t i .eff) v e)
+-- action i changes v to e: a reduced effect of it
+abbrev pub Changes : Task → ℕ → ℕ → ℕ → Type 0
+Changes t v e i = T (has (reducedEffects (act t i)) v e)
 
--- for each fact of a black variable the actions that set it, rising: the first of them, and the next behind each
+-- for each fact of a black variable the actions that change the variable to it, rising: the first of them, and the next behind each
 pub record Chained (t : Task) (task : List ℕ) : Type 0 where
-  pub heads : (v e : ℕ) → v < 64 → e < 64 → T (black t v) → Next (actions t) (Sets t v e) 0 (headAt task (64 * v + e))
-  pub links : (v e i : ℕ) → T (black t v) → i < actions t → Sets t v e i → Next (actions t) (Sets t v e) (i + 1) (nextAt task i)
+  pub heads : (v e : ℕ) → v < 64 → e < 64 → T (black t v) → Next (actions t) (Changes t v e) 0 (headAt task (64 * v + e))
+  pub links : (v e i : ℕ) → T (black t v) → i < actions t → Changes t v e i → Next (actions t) (Changes t v e) (i + 1) (nextAt task i)
 
 -- what searches and repair stand on: a loaded task whose painting passed, with its chains and its order
 pub record Prepared (task : List ℕ) : Type 0 where
