@@ -231,8 +231,8 @@ touches-reduced a u = both (touches (a .pre) u || touches (a .eff) u) (touches (
       | inr q ↦ elim (T-cases (touches (reducedEffects a) u)) [
         | inl r ↦ or-r (touches (a .pre) u) (touches (reducedEffects a) u) r
         | inr n ↦
-          let e = touches→has (a .eff) u q in
-          or-l (touches (a .pre) u) (touches (reducedEffects a) u) (has→touches (a .pre) u (e .0) (unchanged a u (e .0) (T-not (touches (reducedEffects a) u) n) (e .1)))
+            let e = touches→has (a .eff) u q in
+            or-l (touches (a .pre) u) (touches (reducedEffects a) u) (has→touches (a .pre) u (e .0) (unchanged a u (e .0) (T-not (touches (reducedEffects a) u) n) (e .1)))
       ]
     ]
 
@@ -240,8 +240,8 @@ touches-reduced a u = both (touches (a .pre) u || touches (a .eff) u) (touches (
     back h = elim (or-cases (touches (a .pre) u) (touches (reducedEffects a) u) h) [
       | inl p ↦ or-l (touches (a .pre) u) (touches (a .eff) u) p
       | inr r ↦
-        let e = touches→has (reducedEffects a) u r in
-        or-r (touches (a .pre) u) (touches (a .eff) u) (has→touches (a .eff) u (e .0) (reduced-elim a u (e .0) (e .1) .0))
+          let e = touches→has (reducedEffects a) u r in
+          or-r (touches (a .pre) u) (touches (a .eff) u) (has→touches (a .eff) u (e .0) (reduced-elim a u (e .0) (e .1) .0))
     ]
 
 -- the arcs that action i gives, from the loop's equation

@@ -10,8 +10,9 @@ use lib.Dec.{T, eqb}
 use Rattle.planning.specs.Basics.{Refusal, Check, someBelow, first, refuseAt, andThen}
 use Rattle.planning.specs.Record.{Fact, Task}
 use Rattle.planning.specs.Runs.{State, has, look, variables, actions, act, black, count}
-use Rattle.planning.specs.Painting.{blackArc, onCycle, cyclic, lacksReturn, unreturned, acyclicCheck, returnCheck}
+use Rattle.planning.specs.Painting.{reducedEffects, blackArc, onCycle, cyclic, lacksReturn, unreturned, acyclicCheck, returnCheck}
 use Rattle.planning.proofs.Below.{First?, first-is}
+use Rattle.planning.proofs.Arcs.{reduced-elim}
 use Rattle.planning.proofs.Formed.{Formed}
 use Rattle.task.specs.Task.{taskIn}
 use Rattle.planning.specs.Repair.{order}
@@ -99,7 +100,7 @@ pub few-values : (t : Task) → Formed t → (v n : ℕ) → n ≡ count t v →
 few-values t F v n e = omega (arith, F .count-max v)
 
 -- one action, which marks its facts with 2 × i
-module _ (t : Task) (F : Formed t) (i : ℕ) (h : i < actions t) (marks : List ℕ) (U : Unmarked (2 * i) marks) (f : ℕ) (K : Move (black t) (act t i .eff) f) where
+module _ (t : Task) (F : Formed t) (i : ℕ) (h : i < actions t) (marks : List ℕ) (U : Unmarked (2 * i) marks) (f : ℕ) (K : Move (black t) (reducedEffects (act t i)) f) where
   small : 2 * i < 65535
   small = omega (arith, F .actions-max)
 
@@ -111,7 +112,7 @@ module _ (t : Task) (F : Formed t) (i : ℕ) (h : i < actions t) (marks : List �
     lacking-move Y = lacks-is t F i (f / 64) (f % 64) (marked (2 * i) marks′) (K .states) allows h Y (K .on)
       where
         states : T (has (act t i .pre ++ act t i .eff) (f / 64) (f % 64))
-        states = has-right (act t i .pre) (act t i .eff) (f / 64) (f % 64) (K .states)
+        states = has-right (act t i .pre) (act t i .eff) (f / 64) (f % 64) (reduced-elim (act t i) (f / 64) (f % 64) (K .states) .0)
 
         allows : Allows (f / 64) (f % 64) (act t i .pre ++ act t i .eff) (marked (2 * i) marks′)
         allows = rw (same, all) (marks-allow (2 * i) f (act t i .pre ++ act t i .eff) marks (facts-small t F i) small U (K .small) states)

@@ -1,4 +1,4 @@
--- The chains, built from the last action to the first: at action i the heads have the first action from i on that sets each black
+-- The chains, built from the last action to the first: at action i the heads have the first action from i on with the move to each black
 -- fact. An action has one move at most, since 7 passes, so that it stands in one chain.
 use mathlib.Core.Path.{_≡_, refl, sym, ap, _∙_, subst}
 use mathlib.Core.Logic.{_⊎_, inl, inr}
@@ -12,8 +12,10 @@ use lib.Dec.{T}
 use lib.ListN.{length}
 use Rattle.planning.specs.Record.{Fact, Task}
 use Rattle.planning.specs.Runs.{Mode, has, variables, actions, act, black, count}
+use Rattle.planning.specs.Painting.{reducedEffects}
 use Rattle.planning.proofs.Facts.{has-here, has-there, has-cases, has→touches}
-use Rattle.planning.proofs.Formed.{Formed, Sorted, sorted-func}
+use Rattle.planning.proofs.Arcs.{reduced-elim, reduced-func}
+use Rattle.planning.proofs.Formed.{Formed, sorted-has, sorted-func}
 use Rattle.planning.proofs.Painting.{black-inside, one-black}
 use Rattle.task.specs.Task.{taskIn, Loaded}
 use Rattle.task.specs.Links.{headAt, nextAt, linked, Next, Changes, Chained, Link, Relinked, Unlinked}
@@ -32,21 +34,24 @@ pub record Move (m : Mode) (fs : List Fact) (f : ℕ) : Type 0 where
 abbrev pub NoMove : Mode → List Fact → Type 0
 NoMove m fs = (v e : ℕ) → T (m v) → T (has fs v e) → ⊥
 
-pub move-is : (m : Mode) (n : ℕ) (count : ℕ → ℕ) → n ≤ 64 → ((v : ℕ) → count v ≤ 64) → (low : ℕ) (fs : List Fact) → Sorted n count low fs
-    → ((moveOf m fs ≡ 65535) × NoMove m fs) ⊎ Move m fs (moveOf m fs)
+-- the facts of a list are of 64 variables with 64 values
+abbrev pub InRange : List Fact → Type 0
+InRange fs = (v e : ℕ) → T (has fs v e) → (v < 64) × (e < 64)
+
+pub move-is : (m : Mode) (fs : List Fact) → InRange fs → ((moveOf m fs ≡ 65535) × NoMove m fs) ⊎ Move m fs (moveOf m fs)
 unfolding moveOf has
-move-is m n count b c low [] S = inl (refl, λ v e o h. h)
-move-is m n count b c low (f ∷ fs) S = go (m (f .var)) refl (move-is m n count b c (f .var + 1) fs (S .3))
+move-is m [] R = inl (refl, λ v e o h. h)
+move-is m (f ∷ fs) R = go (m (f .var)) refl (move-is m fs (λ v e h. R v e (has-there f fs v e h)))
   where
     pick : Bool → ℕ
     pick x = elim x [ true ↦ 64 * f .var + f .val | false ↦ moveOf m fs ]
 
     go : (x : Bool) → m (f .var) ≡ x → ((moveOf m fs ≡ 65535) × NoMove m fs) ⊎ Move m fs (moveOf m fs) → ((pick x ≡ 65535) × NoMove m (f ∷ fs)) ⊎ Move m (f ∷ fs) (pick x)
     go true e r =
-        let l : f .val < 64 = omega (arith, S .2, c (f .var)) in
-        let q : (64 * f .var + f .val) / 64 ≡ f .var = omega arith in
-        let z : (64 * f .var + f .val) % 64 ≡ f .val = omega arith in
-        inr (record { small = omega (arith, S .1); on = rw (q, e) tt; states = rw (q, z) (has-here f fs) })
+        let l = R (f .var) (f .val) (has-here f fs) in
+        let q : (64 * f .var + f .val) / 64 ≡ f .var = omega (arith, l .1) in
+        let z : (64 * f .var + f .val) % 64 ≡ f .val = omega (arith, l .1) in
+        inr (record { small = omega (arith, l .0, l .1); on = rw (q, e) tt; states = rw (q, z) (has-here f fs) })
     go false e (inl r) = inl (
       r .0,
       λ v x o h. elim (has-cases f fs v x h) [
@@ -82,13 +87,15 @@ acyclic-relinked before after paint A R =
 
 -- the move of an action
 module _ (m : Mode) (t : Task) (F : Formed t) (i : ℕ) where
-  pub formed-move : ((moveOf m (act t i .eff) ≡ 65535) × NoMove m (act t i .eff)) ⊎ Move m (act t i .eff) (moveOf m (act t i .eff))
-  formed-move = move-is m (variables t) (count t) (F .variables-max) (F .count-max) 0 (act t i .eff) (F .eff-sorted i)
+  pub formed-move : ((moveOf m (reducedEffects (act t i)) ≡ 65535) × NoMove m (reducedEffects (act t i))) ⊎ Move m (reducedEffects (act t i)) (moveOf m (reducedEffects (act t i)))
+  formed-move = move-is m (reducedEffects (act t i)) (λ v e h.
+      let k = sorted-has (variables t) (count t) 0 (act t i .eff) (F .eff-sorted i) v e (reduced-elim (act t i) v e h .0) in
+      (omega (arith, k .var-below, F .variables-max), omega (arith, k .val-below, F .count-max v)))
 
-  pub the-move : (f : ℕ) → f ≡ moveOf m (act t i .eff) → (f ≡ 65535 → ⊥) → Move m (act t i .eff) f
+  pub the-move : (f : ℕ) → f ≡ moveOf m (reducedEffects (act t i)) → (f ≡ 65535 → ⊥) → Move m (reducedEffects (act t i)) f
   the-move f e n = elim formed-move [ inl q ↦ absurd (n (e ∙ q .0)) | inr q ↦ rw e q ]
 
-  pub no-move : (f : ℕ) → f ≡ moveOf m (act t i .eff) → f ≡ 65535 → NoMove m (act t i .eff)
+  pub no-move : (f : ℕ) → f ≡ moveOf m (reducedEffects (act t i)) → f ≡ 65535 → NoMove m (reducedEffects (act t i))
   no-move f e n = elim formed-move [ inl q ↦ q .1 | inr q ↦ absurd (omega (arith, q .small)) ]
 
 pub colour-move : (task : List ℕ) (paint : ℕ) → Acyclic task paint → (f : ℕ) (fs : List Fact) → f ≡ moveOf (modeOf paint) fs → f ≡ moveOf (black (taskIn task)) fs
@@ -114,12 +121,12 @@ module _ (task₀ : List ℕ) (paint : ℕ) (A : Acyclic task₀ paint) where
   F : Formed (taskIn task₀)
   F = A .loaded .formed
 
-  -- two black facts that one action sets are the same
+  -- two black facts to which one action changes are the same
   one-move : (i v e w x : ℕ) → i < actions (taskIn task₀) → T (black (taskIn task₀) v) → T (black (taskIn task₀) w) → Changes (taskIn task₀) v e i → Changes (taskIn task₀) w x i → (v ≡ w) × (e ≡ x)
   one-move i v e w x b ov ow h g =
-      let q : v ≡ w = one-black (taskIn task₀) F (A .acyclic) i v w b (has→touches (act (taskIn task₀) i .eff) v e h) (has→touches (act (taskIn task₀) i .eff) w x g) ov ow in
-      let k : T (has (act (taskIn task₀) i .eff) w e) = subst (λ (y : ℕ). T (has (act (taskIn task₀) i .eff) y e)) q h in
-      (q, sorted-func (variables (taskIn task₀)) (count (taskIn task₀)) 0 (act (taskIn task₀) i .eff) (F .eff-sorted i) w e x k g)
+      let q : v ≡ w = one-black (taskIn task₀) F (A .acyclic) i v w b (has→touches (reducedEffects (act (taskIn task₀) i)) v e h) (has→touches (reducedEffects (act (taskIn task₀) i)) w x g) ov ow in
+      let k : T (has (reducedEffects (act (taskIn task₀) i)) w e) = subst (λ (y : ℕ). T (has (reducedEffects (act (taskIn task₀) i)) y e)) q h in
+      (q, reduced-func (act (taskIn task₀) i) (sorted-func (variables (taskIn task₀)) (count (taskIn task₀)) 0 (act (taskIn task₀) i .eff) (F .eff-sorted i)) w e x k g)
 
   module _ (task : List ℕ) (i : ℕ) (L : Linking task₀ task (i + 1)) where
     below : i < actions (taskIn task₀)
@@ -131,7 +138,7 @@ module _ (task₀ : List ℕ) (paint : ℕ) (A : Acyclic task₀ paint) where
     room : 5444 ≤ length task
     room = omega (arith, A .loaded .head, L .relinked .long)
 
-    linked-none : NoMove (black (taskIn task₀)) (act (taskIn task₀) i .eff) → Linking task₀ task i
+    linked-none : NoMove (black (taskIn task₀)) (reducedEffects (act (taskIn task₀) i)) → Linking task₀ task i
     linked-none absent = record {
       relinked = L .relinked;
       within = omega (arith, L .within);
@@ -141,10 +148,10 @@ module _ (task₀ : List ℕ) (paint : ℕ) (A : Acyclic task₀ paint) where
       where
         go : (v e j : ℕ) → Dec (j ≡ i) → T (black (taskIn task₀) v) → i ≤ j → j < actions (taskIn task₀) → Changes (taskIn task₀) v e j
             → Next (actions (taskIn task₀)) (Changes (taskIn task₀) v e) (j + 1) (nextAt task j)
-        go v e j (yes q) o l k h = absurd (absent v e o (subst (λ (y : ℕ). T (has (act (taskIn task₀) y .eff) v e)) q h))
+        go v e j (yes q) o l k h = absurd (absent v e o (subst (λ (y : ℕ). T (has (reducedEffects (act (taskIn task₀) y)) v e)) q h))
         go v e j (no q) o l k h = L .links v e j o (omega arith) k h
 
-    linked-move : (f : ℕ) → Move (black (taskIn task₀)) (act (taskIn task₀) i .eff) f → Linking task₀ (linked f i task) i
+    linked-move : (f : ℕ) → Move (black (taskIn task₀)) (reducedEffects (act (taskIn task₀) i)) f → Linking task₀ (linked f i task) i
     linked-move f M = record {
       relinked = relinked-link task₀ task f i (M .small) near (L .relinked);
       within = omega (arith, L .within);
@@ -169,17 +176,17 @@ module _ (task₀ : List ℕ) (paint : ℕ) (A : Acyclic task₀ paint) where
         behind : (v e j : ℕ) → Dec (j ≡ i) → T (black (taskIn task₀) v) → i ≤ j → j < actions (taskIn task₀) → Changes (taskIn task₀) v e j
             → Next (actions (taskIn task₀)) (Changes (taskIn task₀) v e) (j + 1) (nextAt (linked f i task) j)
         behind v e j (yes q) o l k h =
-            let g : Changes (taskIn task₀) v e i = subst (λ (y : ℕ). T (has (act (taskIn task₀) y .eff) v e)) q h in
+            let g : Changes (taskIn task₀) v e i = subst (λ (y : ℕ). T (has (reducedEffects (act (taskIn task₀) y)) v e)) q h in
             let r = one-move i v e (f / 64) (f % 64) below o (M .on) g (M .states) in
             let z : f ≡ 64 * v + e = rw (r .0, r .1) (sym number) in
             rw (q, next-new task f i (M .small) near room, z) (L .heads v e (omega (arith, r .0, M .small)) (omega (arith, r .1)) o)
         behind v e j (no q) o l k h = rw (next-old task f i (M .small) near room j q) (L .links v e j o (omega arith) k h)
 
-    linking-turn : (task′ : List ℕ) → task′ ≡ linkedMove (moveOf (black (taskIn task₀)) (act (taskIn task₀) i .eff)) i task → Linking task₀ task′ i
-    linking-turn task′ K = go (moveOf (black (taskIn task₀)) (act (taskIn task₀) i .eff)) K (formed-move (black (taskIn task₀)) (taskIn task₀) F i)
+    linking-turn : (task′ : List ℕ) → task′ ≡ linkedMove (moveOf (black (taskIn task₀)) (reducedEffects (act (taskIn task₀) i))) i task → Linking task₀ task′ i
+    linking-turn task′ K = go (moveOf (black (taskIn task₀)) (reducedEffects (act (taskIn task₀) i))) K (formed-move (black (taskIn task₀)) (taskIn task₀) F i)
       where
         go : (f : ℕ) → task′ ≡ linkedMove f i task
-            → ((f ≡ 65535) × NoMove (black (taskIn task₀)) (act (taskIn task₀) i .eff)) ⊎ Move (black (taskIn task₀)) (act (taskIn task₀) i .eff) f → Linking task₀ task′ i
+            → ((f ≡ 65535) × NoMove (black (taskIn task₀)) (reducedEffects (act (taskIn task₀) i))) ⊎ Move (black (taskIn task₀)) (reducedEffects (act (taskIn task₀) i)) f → Linking task₀ task′ i
         go f K (inl r) = rw (K ∙ sym (link-none f f i task refl (r .0))) (linked-none (r .1))
         go f K (inr M) = rw (K ∙ sym (link-one f f i task (linked f i task) refl (λ q. omega (arith, M .small)) refl)) (linked-move f M)
 
@@ -213,7 +220,7 @@ module _ (entry task₀ : List ℕ) (paint : ℕ) (A : Acyclic entry paint) (n :
     pub linking-below : 0 < i → i - 1 < actions (taskIn task)
     linking-below h = omega (arith, L .within, ap actions same)
 
-    pub linking-back : 0 < i → (task′ : List ℕ) → task′ ≡ linkedMove (moveOf (modeOf paint) (act (taskIn task) (i - 1) .eff)) (i - 1) task → Linking task₀ task′ (i - 1)
+    pub linking-back : 0 < i → (task′ : List ℕ) → task′ ≡ linkedMove (moveOf (modeOf paint) (reducedEffects (act (taskIn task) (i - 1)))) (i - 1) task → Linking task₀ task′ (i - 1)
     linking-back h task′ K = linking-turn task₀ paint A₀ task (i - 1) (subst (Linking task₀ task) (omega arith) L) task′ (rw (same, A₀ .colours) at K)
 
     pub linking-long : length task ≡ length entry

@@ -1,5 +1,5 @@
 -- Check 8 by chains and marks. An action with the move v = e gives arcs of v alone, since 7 passes; its arc from d has its
--- return exactly if some action sets v = d and needs marked facts alone.
+-- return exactly if some action changes v to d and needs marked facts alone.
 use mathlib.Core.Path.{_≡_, refl, sym, _∙_, subst}
 use mathlib.Core.Logic.{_⊎_, inl, inr, _≢_}
 use mathlib.Core.Bool.{Bool, true, false, not, _&&_}
@@ -13,11 +13,11 @@ use lib.Dec.{T, T-not, not-T, eqb, eqb→eq, eqb-refl}
 use Rattle.planning.specs.Basics.{someBelow}
 use Rattle.planning.specs.Record.{Fact, Task}
 use Rattle.planning.specs.Runs.{State, has, look, holds, variables, actions, act, black, count}
-use Rattle.planning.specs.Painting.{arcFrom, target, orZero, outside, returnBy, lacksReturn, cyclic}
+use Rattle.planning.specs.Painting.{reducedEffects, arcFrom, target, orZero, outside, returnBy, lacksReturn, cyclic}
 use Rattle.planning.proofs.Tests.{T→true, true→T, F→false, T-cases, and-l, and-r, and-i}
 use Rattle.planning.proofs.Below.{some-intro, some-elim}
 use Rattle.planning.proofs.Facts.{has-cases, has-here, has-there, has-nil, has-++, holds→sub, sub→holds, has→touches, Func, look-some, look-none, look-is}
-use Rattle.planning.proofs.Arcs.{Arc, arcFrom-elim, arcFrom-intro}
+use Rattle.planning.proofs.Arcs.{Arc, reduced-intro, reduced-elim, reduced-func, arc-reduced, arcFrom-elim, arcFrom-intro}
 use Rattle.planning.proofs.Formed.{Formed, Sorted, sorted-func, sorted-has}
 use Rattle.planning.proofs.Painting.{black-inside, has-outside, outside-has, one-black}
 use Rattle.task.specs.Task.{taskIn}
@@ -97,10 +97,10 @@ module _ (t : Task) (F : Formed t) where
   pub facts-small : (i : ℕ) → Small (act t i .pre ++ act t i .eff)
   facts-small i = small-++ (act t i .pre) (act t i .eff) (needs-small i) (sorted-small (variables t) (count t) (F .variables-max) (F .count-max) 0 (act t i .eff) (F .eff-sorted i))
 
-  module _ (i v e : ℕ) (m : State) (sets : T (has (act t i .eff) v e)) (A : Allows v e (act t i .pre ++ act t i .eff) m) where
+  module _ (i v e : ℕ) (m : State) (sets : T (has (reducedEffects (act t i)) v e)) (A : Allows v e (act t i .pre ++ act t i .eff) m) where
     aim : target (act t) v i ≡ e
     unfolding target orZero
-    aim = rw (look-is (act t i .eff) v e (eff-func i) sets (look (act t i .eff) v) refl) refl
+    aim = rw (look-is (reducedEffects (act t i)) v e (reduced-func (act t i) (eff-func i)) sets (look (reducedEffects (act t i)) v) refl) refl
 
     union : List Fact
     union = outside v (act t i .pre) ++ outside v (act t i .eff)
@@ -120,18 +120,18 @@ module _ (t : Task) (F : Formed t) where
     ]
 
     -- what returns is what sets v = d and needs marked facts alone
-    return-is : (d : ℕ) → d ≢ e → (j : ℕ) → returnBy t v d i j ≡ (has (act t j .eff) v d && holds m (act t j .pre))
+    return-is : (d : ℕ) → d ≢ e → (j : ℕ) → returnBy t v d i j ≡ (has (reducedEffects (act t j)) v d && holds m (act t j .pre))
     unfolding returnBy union
-    return-is d n j = both (returnBy t v d i j) (has (act t j .eff) v d && holds m (act t j .pre)) there back
+    return-is d n j = both (returnBy t v d i j) (has (reducedEffects (act t j)) v d && holds m (act t j .pre)) there back
       where
         there : T ((arcFrom (act t) v (target (act t) v i) j && eqb (target (act t) v j) d) && holds (has (outside v (act t i .pre) ++ outside v (act t i .eff))) (outside v (act t j .pre)))
-            → T (has (act t j .eff) v d && holds m (act t j .pre))
+            → T (has (reducedEffects (act t j)) v d && holds m (act t j .pre))
         there h =
             let a : T (arcFrom (act t) v (target (act t) v i) j) = search (and-l, and-r) in
             let q : target (act t) v j ≡ d = eqb→eq (target (act t) v j) d (search (and-l, and-r)) in
             let o : T (holds (has (outside v (act t i .pre) ++ outside v (act t i .eff))) (outside v (act t j .pre))) = search (and-l, and-r) in
             let x = arcFrom-elim (act t) v (target (act t) v i) j (pre-func j) a in
-            and-i (has (act t j .eff) v d) (holds m (act t j .pre)) (subst (λ (y : ℕ). T (has (act t j .eff) v y)) q (x .into))
+            and-i (has (reducedEffects (act t j)) v d) (holds m (act t j .pre)) (subst (λ (y : ℕ). T (has (reducedEffects (act t j)) v y)) q (arc-reduced (act t) v (target (act t) v i) (target (act t) v j) j x))
             (sub→holds m (act t j .pre) (λ u y g. need u y g (ℕ-discrete u v) x o))
           where
             need : (u y : ℕ) → T (has (act t j .pre) u y) → Dec (u ≡ v) → Arc (act t) v j (target (act t) v i) (target (act t) v j)
@@ -142,14 +142,14 @@ module _ (t : Task) (F : Formed t) where
             need u y g (no z) x o =
                 A .other u y z (of-union u y (holds→sub (has (outside v (act t i .pre) ++ outside v (act t i .eff))) (outside v (act t j .pre)) o u y (has-outside v (act t j .pre) u y z g)))
 
-        back : T (has (act t j .eff) v d && holds m (act t j .pre))
+        back : T (has (reducedEffects (act t j)) v d && holds m (act t j .pre))
             → T ((arcFrom (act t) v (target (act t) v i) j && eqb (target (act t) v j) d) && holds (has (outside v (act t i .pre) ++ outside v (act t i .eff))) (outside v (act t j .pre)))
         back h =
-            let s : T (has (act t j .eff) v d) = search (and-l, and-r) in
+            let s : T (has (reducedEffects (act t j)) v d) = search (and-l, and-r) in
             let p : T (holds m (act t j .pre)) = search (and-l, and-r) in
             let r = arcFrom-intro (act t) v (target (act t) v i) d j (eff-func j) (record {
               from = λ x g. A .only x (pre-small j v x g .1) (holds→sub m (act t j .pre) p v x g) ∙ sym aim;
-              into = s;
+              into = reduced-elim (act t j) v d s .0;
               leaves′ = λ z. n (sym z ∙ aim);
             }) in
             let q : T (eqb (target (act t) v j) d) = rw (r .1) (eqb-refl d) in
@@ -183,7 +183,7 @@ module _ (t : Task) (F : Formed t) where
       lack-intro : (d : ℕ) → d ≢ e → ((x : ℕ) → T (has (act t i .pre) v x) → x ≡ d) → T (not (returned t m v d)) → T (lacksReturn t i v d)
       unfolding lacksReturn
       lack-intro d n f r =
-          let a = arcFrom-intro (act t) v d e i (eff-func i) (record { from = f; into = sets; leaves′ = n }) in
+          let a = arcFrom-intro (act t) v d e i (eff-func i) (record { from = f; into = reduced-elim (act t i) v e sets .0; leaves′ = n }) in
           let b : T (arcFrom (act t) v d i) = a .0 in
           let q : T (not (someBelow (actions t) (returnBy t v d i))) = subst (λ (b : Bool). T (not b)) (sym (returned-is d n)) r in
           and-i (black t v && arcFrom (act t) v d i) (not (someBelow (actions t) (returnBy t v d i))) (and-i (black t v) (arcFrom (act t) v d i) bv b) q
@@ -195,7 +195,7 @@ module _ (t : Task) (F : Formed t) where
           let a : T (arcFrom (act t) w d i) = search (and-l, and-r) in
           let o : T (black t w) = search (and-l, and-r) in
           let x = arcFrom-elim (act t) w d i (pre-func i) a in
-          one-black t F Y i w v ib (has→touches (act t i .eff) w (target (act t) w i) (x .into)) (has→touches (act t i .eff) v e sets) o bv
+          one-black t F Y i w v ib (has→touches (reducedEffects (act t i)) w (target (act t) w i) (arc-reduced (act t) w d (target (act t) w i) i x)) (has→touches (reducedEffects (act t i)) v e sets) o bv
 
       pub lacks-is : lacksBy t m i v e ≡ lacks t i
       unfolding lacksBy lacks
@@ -239,9 +239,9 @@ module _ (t : Task) (F : Formed t) where
   returned-more m m′ more v d h =
       let r = some-elim (actions t) (returnsBy t m v d) h in
       let j : ℕ = r .0 in
-      let p : T (holds m (act t j .pre)) = and-r (has (act t j .eff) v d) (holds m (act t j .pre)) (r .2) in
+      let p : T (holds m (act t j .pre)) = and-r (has (reducedEffects (act t j)) v d) (holds m (act t j .pre)) (r .2) in
       let q = sub→holds m′ (act t j .pre) (λ u x g. more u x (pre-small j u x g .0) (pre-small j u x g .1) (holds→sub m (act t j .pre) p u x g)) in
-      some-intro (actions t) (returnsBy t m′ v d) j (r .1) (and-i (has (act t j .eff) v d) (holds m′ (act t j .pre)) (and-l (has (act t j .eff) v d) (holds m (act t j .pre)) (r .2)) q)
+      some-intro (actions t) (returnsBy t m′ v d) j (r .1) (and-i (has (reducedEffects (act t j)) v d) (holds m′ (act t j .pre)) (and-l (has (reducedEffects (act t j)) v d) (holds m (act t j .pre)) (r .2)) q)
 
   -- an action whose marks allow a return to every value is complete
   pub complete-of : (m : State) (v e j n : ℕ) → j < actions t → ((u x : ℕ) → u < 64 → x < 64 → T (m u x) → T (has (act t j .pre) u x))
@@ -261,16 +261,16 @@ module _ (t : Task) (F : Formed t) where
       T-not (returned t m v (0 + r .0)) (r .3) (returned-more (has (act t j .pre)) m (λ u x _ _ g. sub u x g) v (0 + r .0) (C .each (0 + r .0) (omega (arith, r .1)))))
 
   -- an action with no move has no arc
-  pub lacks-none : (i : ℕ) → NoMove (black t) (act t i .eff) → lacks t i ≡ false
+  pub lacks-none : (i : ℕ) → NoMove (black t) (reducedEffects (act t i)) → lacks t i ≡ false
   unfolding lacks lacksReturn
   lacks-none i absent = some-lacks (variables t) (λ v. someBelow (count t v) (lacksReturn t i v)) (λ v _. some-lacks (count t v) (lacksReturn t i v) (λ d _. F→false (lacksReturn t i v d) (λ h.
       let a : T (arcFrom (act t) v d i) = search (and-l, and-r) in
       let o : T (black t v) = search (and-l, and-r) in
-      absent v (target (act t) v i) o (arcFrom-elim (act t) v d i (pre-func i) a .into))))
+      absent v (target (act t) v i) o (arc-reduced (act t) v d (target (act t) v i) i (arcFrom-elim (act t) v d i (pre-func i) a)))))
 
--- an action is in the chain of v = d where the value that its effects ask of v is d
-pub asked-chain : (t : Task) (j v d x : ℕ) → Asked (look (act t j .eff) v) x → d < 64 → x ≡ d → j < actions t → InChain t v d j
-asked-chain t j v d x q b e h = inr (h, go (look (act t j .eff) v) refl q)
+-- an action is in the chain of v = d where the value that its effects ask of v is d, and it does not need v = d
+pub asked-chain : (t : Task) (j v d x : ℕ) → Asked (look (act t j .eff) v) x → d < 64 → x ≡ d → has (act t j .pre) v d ≡ false → j < actions t → InChain t v d j
+asked-chain t j v d x q b e n h = inr (h, reduced-intro (act t j) v d (go (look (act t j .eff) v) refl q) (false-not (has (act t j .pre) v d) n))
   where
     go : (o : Option ℕ) → look (act t j .eff) v ≡ o → Asked o x → T (has (act t j .eff) v d)
     go none y q = absurd (omega arith)
@@ -309,14 +309,14 @@ module _ (task : List ℕ) (f : ℕ) (O : OnChain task f) (m : State) (a j : ℕ
 
       go : (k : ℕ) → a ≤ k → k < actions (taskIn task) → k < x → Dec (k ≡ j) → Dec (k < j) → T (returnsBy (taskIn task) m (f / 64) (f % 64) k) → ⊥
       go k l b h (yes y) w r =
-          let p : T (holds m (act (taskIn task) k .pre)) = and-r (has (act (taskIn task) k .eff) (f / 64) (f % 64)) (holds m (act (taskIn task) k .pre)) r in
+          let p : T (holds m (act (taskIn task) k .pre)) = and-r (has (reducedEffects (act (taskIn task) k)) (f / 64) (f % 64)) (holds m (act (taskIn task) k .pre)) r in
           false-not (holds m (act (taskIn task) j .pre)) z (subst (λ (i : ℕ). T (holds m (act (taskIn task) i .pre))) y p)
       go k l b h (no y) (yes w) r = J .passed k l b w r
-      go k l b h (no y) (no w) r = N .least k (omega arith) b h (and-l (has (act (taskIn task) k .eff) (f / 64) (f % 64)) (holds m (act (taskIn task) k .pre)) r)
+      go k l b h (no y) (no w) r = N .least k (omega arith) b h (and-l (has (reducedEffects (act (taskIn task) k)) (f / 64) (f % 64)) (holds m (act (taskIn task) k .pre)) r)
 
   pub chasing-hit : (j ≡ 65535 → ⊥) → holds m (act (taskIn task) j .pre) ≡ true → Next (actions (taskIn task)) (λ k. T (returnsBy (taskIn task) m (f / 64) (f % 64) k)) a j
   chasing-hit n e =
-      let p = and-i (has (act (taskIn task) j .eff) (f / 64) (f % 64)) (holds m (act (taskIn task) j .pre)) (chasing-at n .2) (true→T (holds m (act (taskIn task) j .pre)) e) in
+      let p = and-i (has (reducedEffects (act (taskIn task) j)) (f / 64) (f % 64)) (holds m (act (taskIn task) j .pre)) (chasing-at n .2) (true→T (holds m (act (taskIn task) j .pre)) e) in
       record { least = λ k l b h r. J .passed k l b h r; found = inr (chasing-at n .0, chasing-at n .1, p) }
 
   pub chasing-end : j ≡ 65535 → Next (actions (taskIn task)) (λ k. T (returnsBy (taskIn task) m (f / 64) (f % 64) k)) a j
@@ -356,7 +356,7 @@ module _ (task : List ℕ) (f : ℕ) (O : OnChain task f) where
       where
         none-serves : j ≡ 65535 → (k : ℕ) → k < actions (taskIn task) → Dec (k < h) → T (returnsBy (taskIn task) m (f / 64) (f % 64) k) → ⊥
         none-serves q k b (yes l) r =
-            head-next .least k (omega arith) b (omega arith) (and-l (has (act (taskIn task) k .eff) (f / 64) (f % 64)) (holds m (act (taskIn task) k .pre)) r)
+            head-next .least k (omega arith) b (omega arith) (and-l (has (reducedEffects (act (taskIn task) k)) (f / 64) (f % 64)) (holds m (act (taskIn task) k .pre)) r)
         none-serves q k b (no l) r = N .least k (omega arith) b (omega (arith, O .loaded .formed .actions-max)) r
 
         go : Dec (j ≡ 65535) → not (eqb j 65535) ≡ someBelow (actions (taskIn task)) (returnsBy (taskIn task) m (f / 64) (f % 64))

@@ -1,7 +1,7 @@
 -- Loops over the facts of an action: what is computed of all facts is what is computed of those still to come. One law for the
 -- move and the test of marks.
 use mathlib.Core.Path.{_≡_, refl, sym, ap, _∙_, subst}
-use mathlib.Core.Bool.{Bool, true, false, _&&_}
+use mathlib.Core.Bool.{Bool, true, false, not, _&&_}
 use mathlib.Core.List.{List, [], _∷_, _++_}
 use Prim.Native.Nat.{ℕ, zero, suc, _+_, _-_, _*_, _/_, _%_, _<_, _≤_}
 use native.Mathlib.Omega.{arith}
@@ -9,7 +9,8 @@ use borrow.Author.Tests.{eq-eqb, ne-eqb}
 use lib.Dec.{eqb}
 use lib.ListN.{getD}
 use Rattle.planning.specs.Record.{Fact, Action}
-use Rattle.planning.specs.Runs.{State, Mode, holds, look, act}
+use Rattle.planning.specs.Runs.{State, has, holds, look, act}
+use Rattle.planning.specs.Painting.{without}
 use Rattle.task.specs.Task.{factOf, factsIn, preAt, effAt, endAt, actionIn, taskIn}
 use Rattle.state.specs.Sets.{inSet, modeOf, Asked, Facts}
 use Rattle.state.proofs.Listed.{Listed}
@@ -73,17 +74,43 @@ module _ (A : Type 0) (of : List Fact → A) (fs : List Fact) (task : List ℕ) 
 pub number : (f : ℕ) → 64 * (f / 64) + f % 64 ≡ f
 number f = omega arith
 
-pub move-hit : (paint f : ℕ) → inSet paint (f / 64) ≡ true → (fs : List Fact) → moveOf (modeOf paint) (factOf f ∷ fs) ≡ f
-unfolding moveOf modeOf factOf
-move-hit paint f e fs = rw (moveOf, e) (number f)
+-- the move among the facts of a list that are not needed
+abbrev pub moveWithout : ℕ → List Fact → List Fact → ℕ
+moveWithout paint pre fs = moveOf (modeOf paint) (without pre fs)
 
-pub move-skip : (paint f : ℕ) → inSet paint (f / 64) ≡ false → (fs : List Fact) → moveOf (modeOf paint) (factOf f ∷ fs) ≡ moveOf (modeOf paint) fs
-unfolding moveOf modeOf factOf
-move-skip paint f e fs = rw (moveOf, e) refl
+module _ (paint : ℕ) (pre : List Fact) (f : ℕ) (fs : List Fact) where
+  kept : has pre (f / 64) (f % 64) ≡ false → without pre (factOf f ∷ fs) ≡ factOf f ∷ without pre fs
+  unfolding without factOf
+  kept e = rw (without, e) refl
 
-pub move-none : (m : Mode) → moveOf m [] ≡ 65535
-unfolding moveOf
-move-none m = refl
+  dropped : has pre (f / 64) (f % 64) ≡ true → without pre (factOf f ∷ fs) ≡ without pre fs
+  unfolding without factOf
+  dropped e = rw (without, e) refl
+
+  Tested : Bool → Bool → Type 0
+  Tested x y = (inSet paint (f / 64) ≡ x) × (has pre (f / 64) (f % 64) ≡ y)
+
+  pub move-hit : (inSet paint (f / 64) && not (has pre (f / 64) (f % 64))) ≡ true → moveWithout paint pre (factOf f ∷ fs) ≡ f
+  unfolding moveOf modeOf factOf Tested
+  move-hit = go (inSet paint (f / 64)) (has pre (f / 64) (f % 64)) (refl, refl)
+    where
+      go : (x y : Bool) → Tested x y → (x && not y) ≡ true → moveWithout paint pre (factOf f ∷ fs) ≡ f
+      go true false q e = rw (kept (q .1), moveOf, q .0) (number f)
+      go true true q e = let z : _≡_ {A = ℕ} 0 1 = cc in absurd (omega arith)
+      go false y q e = let z : _≡_ {A = ℕ} 0 1 = cc in absurd (omega arith)
+
+  pub move-skip : (inSet paint (f / 64) && not (has pre (f / 64) (f % 64))) ≡ false → moveWithout paint pre (factOf f ∷ fs) ≡ moveWithout paint pre fs
+  unfolding moveOf modeOf factOf Tested
+  move-skip = go (inSet paint (f / 64)) (has pre (f / 64) (f % 64)) (refl, refl)
+    where
+      go : (x y : Bool) → Tested x y → (x && not y) ≡ false → moveWithout paint pre (factOf f ∷ fs) ≡ moveWithout paint pre fs
+      go x true q e = rw (dropped (q .1)) refl
+      go true false q e = let z : _≡_ {A = ℕ} 0 1 = cc in absurd (omega arith)
+      go false false q e = rw (kept (q .1), moveOf, q .0) refl
+
+pub move-none : (paint : ℕ) (pre : List Fact) → moveWithout paint pre [] ≡ 65535
+unfolding moveOf without
+move-none paint pre = refl
 
 module _ (marks : List ℕ) (i f : ℕ) where
   pub marked-skip : getD marks f 0 ≡ i → (fs : List Fact) → holds (marked i marks) (factOf f ∷ fs) ≡ holds (marked i marks) fs

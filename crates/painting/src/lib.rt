@@ -1,5 +1,5 @@
 // The check of a painting, 7 then 8, and what it leaves in the loaded task: the chains of actions by the black fact that they set,
-// and the clients-first order. Once the black causal graph has no cycle, an action sets one black fact at most: its move. The return
+// and the clients-first order. Once the black causal graph has no cycle, an action changes one black variable at most: its move. The return
 // of an arc is looked for in the chain of the fact that it has to set, with what the first action allows marked. For arcs from every
 // value an action is kept whose preconditions allow all the returns, so that the search is not repeated for each action that allows them.
 use answers::Checked;
@@ -12,7 +12,7 @@ ghost use Prim.Native.Nat.{ℕ, _+_, _-_, _*_, _/_, _%_, _<_, _≤_};
 ghost use lib.Dec.{T, eqb};
 ghost use Rattle.planning.specs.Basics.{refuseAt};
 ghost use Rattle.planning.specs.Runs.{holds, actions, act};
-ghost use Rattle.planning.specs.Painting.{blackArc, unreturned};
+ghost use Rattle.planning.specs.Painting.{reducedEffects, blackArc, unreturned};
 ghost use Rattle.answers.specs.Answers.{checkOf};
 ghost use Rattle.task.specs.Task.{factsIn, taskIn, Loaded};
 ghost use Rattle.task.specs.Links.{Next, Chained};
@@ -23,16 +23,16 @@ ghost use Rattle.painting.specs.Returns.{FirstUnmarked, place, markAll, 
 ghost use Rattle.painting.specs.Returns.{returnsBy, returned, unreturnedFrom, lacksBy, lacksAny, lacks};
 ghost use Rattle.painting.specs.Answers.{Readied};
 
-// The first black fact that action i sets; 65,535 if there is none.
+// The move of action i, the first black fact that it sets and does not need; 65,535 if there is none.
 fn move_of(task: &[u16], i: usize, paint: u64) -> usize
     requires { ⌜ Loaded (now task) × (i < actions (taskIn (now task))) ⌝ }
-    ensures { λ r. ⌜ r ≡ moveOf (modeOf paint) (act (taskIn (now (task .entry))) i .eff) ⌝ }
+    ensures { λ r. ⌜ r ≡ moveOf (modeOf paint) (reducedEffects (act (taskIn (now (task .entry))) i)) ⌝ }
 {
     let end = task::eff_end(task, i);
     let mut k = task::eff_start(task, i);
     while k < end {
         let f = lists::wide(task[k]);
-        if state::member(paint, f / 64) {
+        if graph::changes(task, i, f, paint) {
             return f;
         }
         k += 1;
@@ -43,7 +43,7 @@ fn move_of(task: &[u16], i: usize, paint: u64) -> usize
 // Action i in front of the chain of its move, if it has one.
 fn link(task: &mut [u16], i: usize, paint: u64)
     requires { ⌜ Loaded (now task) × (i < actions (taskIn (now task))) ⌝ }
-    ensures { λ _. ⌜ now (task .exit) ≡ linkedMove (moveOf (modeOf paint) (act (taskIn (now (task .entry))) i .eff)) i (now (task .entry)) ⌝ }
+    ensures { λ _. ⌜ now (task .exit) ≡ linkedMove (moveOf (modeOf paint) (reducedEffects (act (taskIn (now (task .entry))) i))) i (now (task .entry)) ⌝ }
 {
     let f = move_of(task, i, paint);
     if f == 65535 {
@@ -132,7 +132,7 @@ fn all_marked(task: &[u16], j: usize, marks: &[u16; 4096], i: u16, last: &mut [u
     false
 }
 
-// The first action from j on that sets the black fact f and needs facts that are marked i alone; 65,535 if there is none. The walk goes
+// The first action from j on whose move is f and that needs facts that are marked i alone; 65,535 if there is none. The walk goes
 // along the chain of f, in which j stands.
 fn first_return(
     task: &[u16],
@@ -155,7 +155,7 @@ fn first_return(
     k
 }
 
-// The same from h on, which may be any number; 65,535 also if h does not set f.
+// The same from h on, which may be any number; 65,535 also if f is not the move of h.
 fn later_return(
     task: &[u16],
     marks: &[u16; 4096],
@@ -179,10 +179,13 @@ fn later_return(
     if d != f % 64 {
         return 65535;
     }
+    if state::needs_fact(task, h, f) {
+        return 65535;
+    }
     first_return(task, marks, i, f, h, last)
 }
 
-// Some action sets the black fact f and needs facts that are marked i alone. The walk starts at the one that was found last, for f or for
+// Some action with the move f needs facts that are marked i alone. The walk starts at the one that was found last, for f or for
 // a fact that shares its place, and then at the first.
 fn is_returned(task: &[u16], marks: &[u16; 4096], i: u16, f: usize, last: &mut [u16; LAST]) -> bool
     requires { ⌜ OnChain (now task) f ⌝ }

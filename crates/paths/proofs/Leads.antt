@@ -14,14 +14,15 @@ use lib.Bits.{bitOr, bitXor}
 use lib.Dec.{T, T-not, not-T, eqb, ltb, lt→ltb, ltb→lt, eqb→eq}
 use lib.ListN.{length, getD}
 use Rattle.planning.specs.Basics.{first, reach}
-use Rattle.planning.specs.Record.{Task}
+use Rattle.planning.specs.Record.{Fact, Task}
 use Rattle.planning.specs.Runs.{State, has, look, holds, variables, actions, count, act}
-use Rattle.planning.specs.Painting.{target, fits, leaves, arcFrom}
+use Rattle.planning.specs.Painting.{reducedEffects, target, fits, leaves, arcFrom}
 use Rattle.planning.specs.Repair.{usableArc, adjacent}
 use Rattle.planning.proofs.Tests.{or-l, or-r, or-cases, and-l, and-r, and-i, T-cases}
 use Rattle.planning.proofs.Below.{First?, first-is}
 use Rattle.planning.proofs.Graph.{reach-here, reach-move, reach-cases, reach-suc, reach-stable}
 use Rattle.planning.proofs.Facts.{Func, look-is}
+use Rattle.planning.proofs.Arcs.{reduced-elim, reduced-func, arc-reduced}
 use Rattle.planning.proofs.Formed.{Formed, sorted-has, sorted-func}
 use Rattle.planning.proofs.Short.{usableArc-elim, adjacent-elim, usableArc→adjacent}
 use Rattle.state.specs.Sets.{inSet}
@@ -156,27 +157,31 @@ module _ (t : Task) (F : Formed t) (K : State) (v : ℕ) where
   range i e b h = sorted-has (variables t) (count t) 0 (act t i .eff) (F .eff-sorted i) v e h .val-below
 
   pub usableArc-sets : (c i : ℕ) → i < A → T (usableArc (act t) K v c i) → Changes t v (target (act t) v i) i
-  usableArc-sets c i b h = usableArc-elim (act t) A K v n pres effs range c i b h .1 .into
+  usableArc-sets c i b h = arc-reduced (act t) v c (target (act t) v i) i (usableArc-elim (act t) A K v n pres effs range c i b h .1)
+
+  pub usableArc-inside : (c i : ℕ) → i < A → T (usableArc (act t) K v c i) → target (act t) v i < n
+  usableArc-inside c i b h = range i (target (act t) v i) b (reduced-elim (act t i) v (target (act t) v i) (usableArc-sets c i b h) .0)
 
   usableArc-target : (c i e : ℕ) → i < A → T (usableArc (act t) K v c i) → Changes t v e i → target (act t) v i ≡ e
-  usableArc-target c i e b h s = effs i b v (target (act t) v i) e (usableArc-sets c i b h) s
+  usableArc-target c i e b h s = reduced-func (act t i) (effs i b) v (target (act t) v i) e (usableArc-sets c i b h) s
 
   pub usableArc-adj : (c i : ℕ) → i < A → T (usableArc (act t) K v c i) → T (adj c (target (act t) v i))
   usableArc-adj c i b h = usableArc→adjacent (act t) A K v n pres effs range c i b h
 
-  -- an action that sets v to e, at a value other than e
+  -- an action that changes v to e, at a value other than e
   pub usableArc-is : (c e i : ℕ) → i < A → Changes t v e i → (c ≡ e → ⊥) → T (holds K (act t i .pre) && fits (look (act t i .pre) v) c) → T (usableArc (act t) K v c i)
   unfolding usableArc arcFrom leaves
   usableArc-is c e i b s ne h =
-      let q = look-is (act t i .eff) v e (effs i b) s (look (act t i .eff) v) refl in
-      let l : T (leaves (look (act t i .eff) v) c) = rw q (not-T (eqb c e) (λ x. ne (eqb→eq c e x))) in
+      let r : List Fact = reducedEffects (act t i) in
+      let q = look-is r v e (reduced-func (act t i) (effs i b)) s (look r v) refl in
+      let l : T (leaves (look r v) c) = rw q (not-T (eqb c e) (λ x. ne (eqb→eq c e x))) in
       let f : T (fits (look (act t i .pre) v) c) = search and-r in
-      and-i (holds K (act t i .pre)) (fits (look (act t i .pre) v) c && leaves (look (act t i .eff) v) c) (search and-l) (and-i (fits (look (act t i .pre) v) c) (leaves (look (act t i .eff) v) c) f l)
+      and-i (holds K (act t i .pre)) (fits (look (act t i .pre) v) c && leaves (look r v) c) (search and-l) (and-i (fits (look (act t i .pre) v) c) (leaves (look r v) c) f l)
 
   pub usableArc-fits : (c i : ℕ) → T (usableArc (act t) K v c i) → T (holds K (act t i .pre) && fits (look (act t i .pre) v) c)
   unfolding usableArc arcFrom
   usableArc-fits c i h =
-      let a : T (fits (look (act t i .pre) v) c && leaves (look (act t i .eff) v) c) = search and-r in
+      let a : T (fits (look (act t i .pre) v) c && leaves (look (reducedEffects (act t i)) v) c) = search and-r in
       and-i (holds K (act t i .pre)) (fits (look (act t i .pre) v) c) (search and-l) (search and-l)
 
   module _ (d : ℕ) where
@@ -249,13 +254,13 @@ module _ (t : Task) (F : Formed t) (K : State) (v : ℕ) where
         enters-of : (c i : ℕ) → i < A → (T (R k c) → ⊥) → T (usableArc (act t) K v c i) → T (R k (target (act t) v i)) → Enters t K v front 64 c i
         enters-of c i b x h r =
             let s = usableArc-sets c i b h in
-            (h, (target (act t) v i, small (target (act t) v i) (range i (target (act t) v i) b s), L .cover c i b h x r, s))
+            (h, (target (act t) v i, small (target (act t) v i) (usableArc-inside c i b h), L .cover c i b h x r, s))
 
         enters-reach : (c i : ℕ) → i < A → Enters t K v front 64 c i → T (R k (target (act t) v i))
         enters-reach c i b D = subst (λ x. T (R k x)) (sym (usableArc-target c i (D .1 .0) b (D .0) (D .1 .3))) (L .fronts (D .1 .0) (D .1 .2))
 
         reach-next : (c i : ℕ) → i < A → T (usableArc (act t) K v c i) → T (R k (target (act t) v i)) → T (R (suc k) c)
-        reach-next c i b h r = reach-move n adj k c (target (act t) v i) d (range i (target (act t) v i) b (usableArc-sets c i b h)) (usableArc-adj c i b h) r
+        reach-next c i b h r = reach-move n adj k c (target (act t) v i) d (usableArc-inside c i b h) (usableArc-adj c i b h) r
 
         marked-reach : (c : ℕ) → T (inSet grow c) → T (R (suc k) c)
         marked-reach c g =
@@ -328,7 +333,7 @@ module _ (t : Task) (F : Formed t) (K : State) (v : ℕ) where
           fronts = marked-reach;
           cover = λ c i b h x r. elim (T-cases (R k (target (act t) v i))) [
             | inl y ↦ absurd (x (reach-next c i b h y))
-            | inr y ↦ reach-marked (target (act t) v i) (range i (target (act t) v i) b (usableArc-sets c i b h)) (T-not (R k (target (act t) v i)) y) r
+            | inr y ↦ reach-marked (target (act t) v i) (usableArc-inside c i b h) (T-not (R k (target (act t) v i)) y) r
           ];
           leads = λ c b r. elim (T-cases (R k c)) [ inl y ↦ kept c b y | inr y ↦ lead-new c b kb (T-not (R k c) y) r ];
           blanks = λ c b x. unmarked c b (λ r. x (reach-suc n adj k c d r)) (λ g. x (marked-reach c g));

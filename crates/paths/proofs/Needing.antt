@@ -14,9 +14,10 @@ use lib.ListN.{length, getD}
 use Rattle.planning.specs.Basics.{first, someBelow, reach}
 use Rattle.planning.specs.Record.{Fact, Action, Task}
 use Rattle.planning.specs.Runs.{State, has, touches, look, holds, actions, count, act, black, noAction}
-use Rattle.planning.specs.Painting.{target, fits, leaves, arcFrom}
+use Rattle.planning.specs.Painting.{reducedEffects, target, fits, leaves, arcFrom}
 use Rattle.planning.specs.Repair.{usableArc, adjacent}
-use Rattle.planning.proofs.Facts.{_⊆_, has→touches, look-some, holds→sub, sub→holds}
+use Rattle.planning.proofs.Facts.{_⊆_, has-nil, has→touches, look-some, holds→sub, sub→holds}
+use Rattle.planning.proofs.Arcs.{reduced-elim}
 use Rattle.planning.proofs.Fields.{act-past}
 use Rattle.planning.proofs.Tests.{T→true, F→false, true→T, bool-same, or-l, or-r, or-cases, and-l, and-r, and-i}
 use Rattle.task.specs.Task.{factOf, factsIn}
@@ -112,15 +113,12 @@ touches-any t (f ∷ fs) v b h = elim (or-cases (eqb v (f .var)) (touches fs v) 
 ]
 
 -- an action that sets something is one of the task
-sets-inside : (t : Task) (i v x : ℕ) → look (act t i .eff) v ≡ some x → i < actions t
-unfolding look
-sets-inside t i v x e = go (decLt i (actions t))
+sets-inside : (t : Task) (i v x : ℕ) → T (has (act t i .eff) v x) → i < actions t
+sets-inside t i v x s = go (decLt i (actions t))
   where
     go : Dec (i < actions t) → i < actions t
     go (yes b) = b
-    go (no n) =
-        let q : look (act t i .eff) v ≡ look [] v = ap (λ (a : Action). look (a .eff) v) (act-past t i (omega arith)) in
-        let z : _≡_ {A = ℕ} 0 1 = cc in absurd (omega arith)
+    go (no n) = absurd (has-nil v x (subst (λ (a : Action). T (has (a .eff) v x)) (act-past t i (omega arith)) s))
 
 -- more facts are known, but none of a needed variable
 module _ (t : Task) (m : ℕ) (C : Covers t (actions t) m) (K L : State) (sub : K ⊆ L) (new : (v d : ℕ) → T (inSet m v) → T (L v d) → T (K v d)) where
@@ -135,16 +133,17 @@ module _ (t : Task) (m : ℕ) (C : Covers t (actions t) m) (K L : State) (sub : 
 
   usable-same : (v : ℕ) → T (black t v) → (c i : ℕ) → usableArc (act t) K v c i ≡ usableArc (act t) L v c i
   unfolding usableArc arcFrom leaves
-  usable-same v bl c i = go (look (act t i .eff) v) refl
+  usable-same v bl c i = go (look (reducedEffects (act t i)) v) refl
     where
       f : Bool
       f = fits (look (act t i .pre) v) c
 
-      go : (o : Option ℕ) → look (act t i .eff) v ≡ o → (holds K (act t i .pre) && (f && leaves o c)) ≡ (holds L (act t i .pre) && (f && leaves o c))
+      go : (o : Option ℕ) → look (reducedEffects (act t i)) v ≡ o → (holds K (act t i .pre) && (f && leaves o c)) ≡ (holds L (act t i .pre) && (f && leaves o c))
       go none e = simp and-false
       go (some x) e =
-          let any : T (anyBlack t (act t i .eff)) = touches-any t (act t i .eff) v bl (has→touches (act t i .eff) v x (look-some (act t i .eff) v x e)) in
-          rw (pre-same i (sets-inside t i v x e) any) refl
+          let s = reduced-elim (act t i) v x (look-some (reducedEffects (act t i)) v x e) .0 in
+          let any : T (anyBlack t (act t i .eff)) = touches-any t (act t i .eff) v bl (has→touches (act t i .eff) v x s) in
+          rw (pre-same i (sets-inside t i v x s) any) refl
 
   pub memo-same : (memo : List ℕ) → Memo t K memo → Memo t L memo
   memo-same memo M = record {

@@ -16,13 +16,14 @@ use Rattle.planning.specs.Painting.{target, orZero}
 use Rattle.planning.specs.Repair.{usableArc, adjacent, pathIn, shortest}
 use Rattle.planning.proofs.Tests.{and-l, and-r}
 use Rattle.planning.proofs.Facts.{look-is}
+use Rattle.planning.proofs.Arcs.{reduced-elim}
 use Rattle.planning.proofs.Below.{First?, first-is}
 use Rattle.planning.proofs.Graph.{reach-move}
 use Rattle.planning.proofs.Formed.{Formed}
 use Rattle.state.specs.Sets.{Asked}
 use Rattle.paths.specs.Paths.{pathsOf, leadIn, lead, numberOf, Leads, Put}
 use Rattle.paths.specs.declared.Written.the-variants.{Upto}
-use Rattle.paths.proofs.Leads.{first-at, range, usableArc-sets, usableArc-adj, effs}
+use Rattle.paths.proofs.Leads.{first-at, range, usableArc-sets, usableArc-inside, usableArc-adj, effs}
 
 -- the list while a path is written: what stands before e, and the path from the value x on
 pub record Walking (t : Task) (K : State) (v d c at : ℕ) (row d₀ dd : List ℕ) (x e i : ℕ) : Type 0 where
@@ -88,7 +89,7 @@ module _ (t : Task) (F : Formed t) (K : State) (v d : ℕ) where
               let h : T (usableArc (act t) K v c i) = and-l (usableArc (act t) K v c i) (R k (target (act t) v i)) (g .passes) in
               let r : T (R k (target (act t) v i)) = and-r (usableArc (act t) K v c i) (R k (target (act t) v i)) (g .passes) in
               let b : suc k < n = f .below in
-              let there : target (act t) v i < n = range t F K v i (target (act t) v i) (g .below) (usableArc-sets t F K v c i (g .below) h) in
+              let there : target (act t) v i < n = usableArc-inside t F K v c i (g .below) h in
               let s : Path′ (target (act t) v i) ≡ pathIn (act t) A K v n k (target (act t) v i) d = shortest-at k (target (act t) v i) (omega arith) r
               (λ j l z. f .least (suc j) (omega arith) (reach-move n (adjacent (act t) A K v) j c (target (act t) v i) d there (usableArc-adj t F K v c i (g .below) h) z)) in
               rw e (record {
@@ -101,7 +102,7 @@ module _ (t : Task) (F : Formed t) (K : State) (v d : ℕ) where
   pub target-is : (c x y : ℕ) → Move c x → Asked (look (act t x .eff) v) y → (y ≡ target (act t) v x) × (y < n)
   unfolding target orZero
   target-is c x y M q =
-      let s = usableArc-sets t F K v c x (M .below) (M .hops) in
+      let s = reduced-elim (act t x) v (target (act t) v x) (usableArc-sets t F K v c x (M .below) (M .hops)) .0 in
       let l = look-is (act t x .eff) v (target (act t) v x) (effs t F K v x (M .below)) s (look (act t x .eff) v) refl in
       let z : y ≡ target (act t) v x = (rw l at q) .0 in
       (z, rw z (range t F K v x (target (act t) v x) (M .below) s))

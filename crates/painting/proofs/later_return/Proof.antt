@@ -1,5 +1,5 @@
 use mathlib.Core.Logic.{inl}
-use mathlib.Core.Path.{refl}
+use mathlib.Core.Path.{refl, sym, _∙_}
 use Prim.Native.Nat.{_<_}
 use native.Mathlib.Omega.{arith}
 use Rattle.planning.specs.Runs.{actions}
@@ -39,19 +39,26 @@ asked-requires c κs =
 returns-2 : tie.Need-returns-2
 returns-2 c = inl refl
 
+needs-fact-requires : tie.Need-needs-fact-requires
+needs-fact-requires c κs = let n = c .before .before .before .before in (n .before .before .before .pre .loaded, below n)
+
+returns-3 : tie.Need-returns-3
+returns-3 c = inl refl
+
 first-return-requires : tie.Need-first-return-requires
 first-return-requires c κs =
-    let k = c .before .before in
+    let d = c .before .before in
+    let k = d .before .before in
     let e = k .before in
     let s = e .before in
     let n = s .before in
     let p = n .before .before .before .pre in
     let L = loaded-listed _ (p .loaded) _ (below n) in
     let q = asked-eff _ _ L _ _ _ _ (k .asked .ensures) (s .eff-start .ensures) (e .eff-end .ensures) in
-    (p, asked-chain _ _ _ _ _ q (omega arith) (c .before .if2 .left) (below n))
+    (p, asked-chain _ _ _ _ _ q (omega arith) (d .before .if2 .left) (sym (d .needs-fact .ensures) ∙ c .before .if3 .left) (below n))
 
-returns-3 : tie.Need-returns-3
-returns-3 c = next-serves _ _ _ _ _ _ (c .first-return .ensures)
+returns-4 : tie.Need-returns-4
+returns-4 c = next-serves _ _ _ _ _ _ (c .first-return .ensures)
 
 pub later-return-spec : {M : Type 1} → statement M
 later-return-spec =
@@ -63,5 +70,7 @@ later-return-spec =
     eff-end-requires
     asked-requires
     returns-2
+    needs-fact-requires
+    returns-3
     first-return-requires
-    returns-3)
+    returns-4)

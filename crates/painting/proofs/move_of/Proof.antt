@@ -2,19 +2,18 @@ use mathlib.Core.Path.{sym, _∙_}
 use Prim.Native.Nat.{ℕ, _-_}
 use native.Mathlib.Omega.{arith}
 use Rattle.planning.specs.Runs.{act}
+use Rattle.planning.specs.Painting.{reducedEffects}
 use Rattle.task.specs.Task.{taskIn}
-use Rattle.state.specs.Sets.{modeOf}
 use Rattle.state.proofs.Listing.{loaded-listed}
 use Rattle.graph.proofs.Rows.{listed-effects}
-use Rattle.painting.specs.Chains.{moveOf}
-use Rattle.painting.proofs.Walks.{Walking, walking-start, walking-turn, walking-hit, walking-end, walking-small, eff-facts, move-hit, move-skip, move-none}
+use Rattle.painting.proofs.Walks.{Walking, walking-start, walking-turn, walking-hit, walking-end, walking-small, eff-facts, moveWithout, move-hit, move-skip, move-none}
 use borrow.Author.Needs.{needs}
 use Rattle.painting.proofs.move_of.Statement.{statement}
 use Rattle.painting.proofs.move_of.Tie as tie
 
--- The move of all effects is the move of those from place k on: the ones passed are of red variables.
+-- The move of all effects is the move of those from place k on: the ones passed are of red variables or are needed.
 abbrev Inv-loop : tie.InvT-loop
-Inv-loop task i paint end k₀ k = Walking ℕ (moveOf (modeOf paint)) (act (taskIn task) i .eff) task end k
+Inv-loop task i paint end k₀ k = Walking ℕ (moveWithout paint (act (taskIn task) i .pre)) (act (taskIn task) i .eff) task end k
 
 abbrev μ-loop : tie.MeasureT-loop
 μ-loop task i paint end k₀ k = end - k
@@ -41,14 +40,18 @@ shared-slice-read-wide c = let l = c .before .before in omega (arith, l .loop .i
 wide-requires : tie.Need-wide-requires Inv-loop μ-loop
 wide-requires c κs = search needs
 
-member-requires : tie.Need-member-requires Inv-loop μ-loop
-member-requires c κs = let l = c .before .before .before in let q = walking-small _ _ _ _ _ _ (l .loop .inv) (omega arith) _ (c .wide .ensures) in omega (arith, q)
+changes-requires : tie.Need-changes-requires Inv-loop μ-loop
+changes-requires c κs =
+    let l = c .before .before .before in
+    let p = l .before .before .before .before .pre in
+    (p .0, p .1, walking-small _ _ _ _ _ _ (l .loop .inv) (omega arith) _ (c .wide .ensures))
 
 returns : tie.Need-returns Inv-loop μ-loop
+unfolding reducedEffects
 returns c =
     let w = c .before .before in
     let l = w .before .before .before in
-    walking-hit _ _ _ _ _ _ (l .loop .inv) (omega arith) _ (w .wide .ensures) _ (move-hit _ _ (sym (c .before .member .ensures) ∙ c .if1 .taken))
+    walking-hit _ _ _ _ _ _ (l .loop .inv) (omega arith) _ (w .wide .ensures) _ (λ fs. move-hit _ _ _ fs (sym (c .before .changes .ensures) ∙ c .if1 .taken))
 
 add-k : tie.Need-add-k Inv-loop μ-loop
 add-k c = search needs
@@ -60,10 +63,11 @@ loop-again : tie.Need-loop-again Inv-loop μ-loop
 loop-again c =
     let w = c .before .before in
     let l = w .before .before .before in
-    walking-turn _ _ _ _ _ _ (l .loop .inv) (omega arith) _ (w .wide .ensures) (move-skip _ _ (sym (c .before .member .ensures) ∙ c .if1 .left))
+    walking-turn _ _ _ _ _ _ (l .loop .inv) (omega arith) _ (w .wide .ensures) (λ fs. move-skip _ _ _ fs (sym (c .before .changes .ensures) ∙ c .if1 .left))
 
 returns-2 : tie.Need-returns-2 Inv-loop μ-loop
-returns-2 c = walking-end _ _ _ _ _ _ (c .before .loop .inv) (omega arith) _ (move-none _)
+unfolding reducedEffects
+returns-2 c = walking-end _ _ _ _ _ _ (c .before .loop .inv) (omega arith) _ (move-none _ _)
 
 pub move-of-spec : {M : Type 1} → statement M
 move-of-spec =
@@ -77,7 +81,7 @@ move-of-spec =
     mul-wide
     shared-slice-read-wide
     wide-requires
-    member-requires
+    changes-requires
     returns
     add-k
     loop-less
