@@ -6,7 +6,7 @@ use crate::refusal::Refusal;
 use crate::returns::Returns;
 use crate::room::{table, Table};
 use crate::set::{contains, members};
-use crate::task::{variables_of, Action, Fact, Task};
+use crate::task::{variables_of, Fact, Task};
 
 /// What an accepted painting gives to the repair, and room for the next one.
 pub struct Painting {
@@ -14,7 +14,7 @@ pub struct Painting {
     pub black: u64,
     /// The black variables in the order of the repair, clients first.
     pub order: Vec<usize>,
-    /// The move of each action, where something is black.
+    /// The move of each action that changes a black variable, where something is black.
     pub moves: Table<Option<Move>, ACTIONS>,
     returns: Returns,
 }
@@ -46,13 +46,25 @@ impl Painting {
     /// The moves; answers for each black variable the black ones to which it has an arc.
     fn find_moves(&mut self, task: &Task) -> [u64; 64] {
         let mut arcs = [0; 64];
+        let mut needs = Needs::new();
         for (number, action) in task.actions().enumerate() {
-            let affected = variables_of(action.effects) & self.black;
-            self.moves[number % ACTIONS] = Move::of(action, affected);
-            if affected != 0 {
-                let needed = variables_of(action.preconditions) & self.black;
-                members(needed | affected).for_each(|u| arcs[u] |= affected & !(1 << u));
+            self.moves[number % ACTIONS] = None;
+            if variables_of(action.effects) & self.black == 0 {
+                continue;
             }
+            needs.fill(action.preconditions);
+            let mut changed = 0;
+            for fact in action.effects.iter().filter(|fact| contains(self.black, fact.variable())) {
+                if let Some(moved) = needs.change(*fact) {
+                    self.moves[number % ACTIONS] = Some(moved);
+                    changed |= 1 << fact.variable();
+                }
+            }
+            if changed != 0 {
+                let needed = variables_of(action.preconditions) & self.black;
+                members(needed | changed).for_each(|u| arcs[u] |= changed & !(1 << u));
+            }
+            needs.clear(action.preconditions);
         }
         arcs
     }
@@ -84,11 +96,38 @@ fn lowest_on_cycle(black: u64, arcs: &[u64; 64]) -> usize {
     members(black).find(|&v| contains(reach[v], v)).unwrap()
 }
 
-/// An action's move of its black variable.
+/// The value of each variable that an action needs, or `ANYWHERE`.
+struct Needs([u8; 64]);
+
+impl Needs {
+    fn new() -> Self {
+        Needs([ANYWHERE; 64])
+    }
+
+    #[inline(always)]
+    fn fill(&mut self, preconditions: &[Fact]) {
+        preconditions.iter().for_each(|fact| self.0[fact.variable()] = fact.value() as u8);
+    }
+
+    #[inline(always)]
+    fn clear(&mut self, preconditions: &[Fact]) {
+        preconditions.iter().for_each(|fact| self.0[fact.variable()] = ANYWHERE);
+    }
+
+    /// What an effect does, unless the action needs the same fact.
+    #[inline(always)]
+    fn change(&self, effect: Fact) -> Option<Move> {
+        let (variable, to) = (effect.variable() as u8, effect.value() as u8);
+        let from = self.0[effect.variable()];
+        (from != to).then_some(Move { variable, from, to })
+    }
+}
+
+/// How an action changes its black variable.
 #[derive(Clone, Copy, Debug)]
 pub struct Move {
     pub variable: u8,
-    /// The value left, or `ANYWHERE`.
+    /// The value left, or `ANYWHERE`; never the one set.
     pub from: u8,
     pub to: u8,
 }
@@ -97,21 +136,6 @@ pub struct Move {
 pub const ANYWHERE: u8 = 64;
 
 impl Move {
-    /// The move of an action, by the black variables that it affects.
-    #[inline(always)]
-    fn of(action: Action, affected: u64) -> Option<Move> {
-        if affected == 0 {
-            return None;
-        }
-        let variable = affected.trailing_zeros() as usize;
-        let value = |facts: &[Fact]| {
-            let own = facts.iter().find(|fact| fact.variable() == variable);
-            own.map_or(ANYWHERE, |fact| fact.value() as u8)
-        };
-        let (from, to) = (value(action.preconditions), value(action.effects));
-        Some(Move { variable: variable as u8, from, to })
-    }
-
     /// The fact that it sets.
     #[inline(always)]
     pub fn target(self) -> Fact {
@@ -189,12 +213,39 @@ mod tests {
     }
 
     #[test]
-    fn a_value_needed_and_set_makes_no_arc_but_counts_as_effect() {
-        let mut task = task(&[true, true]);
+    fn a_value_needed_and_set_makes_no_arc() {
+        let mut task = task(&[true, true, true]);
         task.push(1, &[Fact::new(0, 1)], &[Fact::new(0, 1)]);
-        assert_eq!(refused(&task), None);
-        task.push(1, &[Fact::new(0, 1)], &[Fact::new(0, 1), Fact::new(1, 1)]);
+        task.push(1, &[Fact::new(0, 1), Fact::new(1, 2)], &[Fact::new(0, 1), Fact::new(1, 2)]);
+        for (from, to) in [(0, 1), (1, 0)] {
+            let needs = [Fact::new(0, 1), Fact::new(1, from), Fact::new(2, 0)];
+            task.push(1, &needs, &[Fact::new(0, 1), Fact::new(1, to), Fact::new(2, 0)]);
+        }
+        let painting = painting(&task).ok().unwrap();
+        assert_eq!(painting.order, [1, 0, 2]);
+        assert!(painting.moves[..2].iter().all(|moved| moved.is_none()));
+    }
+
+    #[test]
+    fn a_gate_set_again_is_still_needed() {
+        let mut task = task(&[true, true]);
+        two_way(&mut task, 1, 0, 1, &[Fact::new(0, 1)]);
+        task.push(1, &[Fact::new(0, 1), Fact::new(1, 1)], &[Fact::new(0, 2), Fact::new(1, 1)]);
         assert_eq!(refused(&task), Some((7, 0)));
+    }
+
+    #[test]
+    fn other_effects_on_a_needed_variable_make_arcs() {
+        let with_gate = |needs: &[Fact], gate: usize| {
+            let mut task = task(&[true, true]);
+            let sets = [Fact::new(0, gate), Fact::new(1, 1)];
+            task.push(1, &[needs, &[Fact::new(1, 0)]].concat(), &sets);
+            task.push(1, &[needs, &[Fact::new(1, 1)]].concat(), &[Fact::new(1, 0)]);
+            refused(&task)
+        };
+        assert_eq!(with_gate(&[Fact::new(0, 1)], 1), None);
+        assert_eq!(with_gate(&[Fact::new(0, 1)], 2), Some((7, 0)));
+        assert_eq!(with_gate(&[], 0), Some((7, 0)));
     }
 
     #[test]
