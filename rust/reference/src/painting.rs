@@ -6,7 +6,7 @@ use crate::refusal::Refusal;
 use crate::returns::Returns;
 use crate::room::{table, Table};
 use crate::set::{contains, members};
-use crate::task::{variables_of, Fact, Task};
+use crate::task::{variables_of, Action, Fact, Task};
 
 /// What an accepted painting gives to the repair, and room for the next one.
 pub struct Painting {
@@ -45,28 +45,19 @@ impl Painting {
 
     /// The moves; answers for each black variable the black ones to which it has an arc.
     fn find_moves(&mut self, task: &Task) -> [u64; 64] {
-        let mut arcs = [0; 64];
-        let mut needs = Needs::new();
+        let mut arcs = Arcs { from: [0; 64], to: [0; 64] };
         for (number, action) in task.actions().enumerate() {
-            self.moves[number % ACTIONS] = None;
-            if variables_of(action.effects) & self.black == 0 {
-                continue;
-            }
-            needs.fill(action.preconditions);
-            let mut changed = 0;
-            for fact in action.effects.iter().filter(|fact| contains(self.black, fact.variable())) {
-                if let Some(moved) = needs.change(*fact) {
-                    self.moves[number % ACTIONS] = Some(moved);
-                    changed |= 1 << fact.variable();
-                }
-            }
-            if changed != 0 {
+            let affected = variables_of(action.effects) & self.black;
+            let several = affected & affected.wrapping_sub(1) != 0;
+            let changed = if several { affected & !set_again(action) } else { affected };
+            let moved = Move::of(action, changed);
+            self.moves[number % ACTIONS] = moved;
+            if moved.is_some() {
                 let needed = variables_of(action.preconditions) & self.black;
-                members(needed | changed).for_each(|u| arcs[u] |= changed & !(1 << u));
+                members(changed).for_each(|v| arcs.add(needed | changed, v));
             }
-            needs.clear(action.preconditions);
         }
-        arcs
+        arcs.from
     }
 
     /// Clients first: of those untaken, the lowest with no arc to another untaken one; 7 if there
@@ -84,6 +75,22 @@ impl Painting {
     }
 }
 
+/// For each variable those to which it has an arc, and those that have one to it.
+struct Arcs {
+    from: [u64; 64],
+    to: [u64; 64],
+}
+
+impl Arcs {
+    /// Arcs from others to a variable.
+    #[inline(always)]
+    fn add(&mut self, others: u64, v: usize) {
+        let new = others & !(1 << v) & !self.to[v];
+        self.to[v] |= new;
+        members(new).for_each(|u| self.from[u] |= 1 << v);
+    }
+}
+
 fn lowest_on_cycle(black: u64, arcs: &[u64; 64]) -> usize {
     let mut reach = *arcs;
     for k in members(black) {
@@ -96,31 +103,15 @@ fn lowest_on_cycle(black: u64, arcs: &[u64; 64]) -> usize {
     members(black).find(|&v| contains(reach[v], v)).unwrap()
 }
 
-/// The value of each variable that an action needs, or `ANYWHERE`.
-struct Needs([u8; 64]);
-
-impl Needs {
-    fn new() -> Self {
-        Needs([ANYWHERE; 64])
-    }
-
-    #[inline(always)]
-    fn fill(&mut self, preconditions: &[Fact]) {
-        preconditions.iter().for_each(|fact| self.0[fact.variable()] = fact.value() as u8);
-    }
-
-    #[inline(always)]
-    fn clear(&mut self, preconditions: &[Fact]) {
-        preconditions.iter().for_each(|fact| self.0[fact.variable()] = ANYWHERE);
-    }
-
-    /// What an effect does, unless the action needs the same fact.
-    #[inline(always)]
-    fn change(&self, effect: Fact) -> Option<Move> {
-        let (variable, to) = (effect.variable() as u8, effect.value() as u8);
-        let from = self.0[effect.variable()];
-        (from != to).then_some(Move { variable, from, to })
-    }
+/// The variables of which an action sets the value that it needs.
+#[inline(always)]
+fn set_again(action: Action) -> u64 {
+    let mut needs = [ANYWHERE; 64];
+    action.preconditions.iter().for_each(|fact| needs[fact.variable()] = fact.value() as u8);
+    action.effects.iter().fold(0, |set, fact| {
+        let again = needs[fact.variable()] == fact.value() as u8;
+        set | u64::from(again) << fact.variable()
+    })
 }
 
 /// How an action changes its black variable.
@@ -136,6 +127,21 @@ pub struct Move {
 pub const ANYWHERE: u8 = 64;
 
 impl Move {
+    /// The move of the lowest of some variables, unless the action sets what it needs of it.
+    #[inline(always)]
+    fn of(action: Action, variables: u64) -> Option<Move> {
+        if variables == 0 {
+            return None;
+        }
+        let variable = variables.trailing_zeros() as usize;
+        let value = |facts: &[Fact]| {
+            let own = facts.iter().find(|fact| fact.variable() == variable);
+            own.map_or(ANYWHERE, |fact| fact.value() as u8)
+        };
+        let (from, to) = (value(action.preconditions), value(action.effects));
+        (from != to).then_some(Move { variable: variable as u8, from, to })
+    }
+
     /// The fact that it sets.
     #[inline(always)]
     pub fn target(self) -> Fact {
