@@ -43,7 +43,8 @@ impl Painting {
         self.returns.check(task, self.black, &self.moves)
     }
 
-    /// The moves; answers for each black variable the black ones to which it has an arc.
+    /// The moves; answers for each black variable the black ones to which it has an arc. A single
+    /// black variable that is set again is left out by its move, which is none.
     fn find_moves(&mut self, task: &Task) -> [u64; 64] {
         let mut arcs = Arcs { from: [0; 64], to: [0; 64] };
         for (number, action) in task.actions().enumerate() {
