@@ -1,5 +1,5 @@
-/* Calls every function of the header on two shelves (and a tray, and two shelves with a fifth action) and on records and
- * lists with faults, and prints what comes back, the lists lent with all their entries. */
+/* Calls every function of the header on two shelves (and a tray, two shelves with a fifth action, and a gate) and on
+ * records and lists with faults, and prints what comes back, the lists lent with all their entries. */
 #include "mardiskos.h"
 #include "output.h"
 
@@ -19,13 +19,21 @@ static const uint8_t two_shelves_with_4[41] = {
     0x00, 0x48, 0x40, 0x00, 0x10, 0x81, 0x00, 0x00, 0x0c, 0x44, 0x00, 0x00, 0x04,
 };
 
+/* A gate and a carriage, both black, and a box; the drives need the gate shut and set it shut again: 394 bits. */
+static const uint8_t gate[50] = {
+    0x10, 0x60, 0x14, 0x18, 0x10, 0x01, 0x81, 0x00, 0x10, 0x10, 0x40, 0x00, 0x44, 0x40,
+    0x00, 0x00, 0x40, 0x00, 0x44, 0x40, 0x04, 0x00, 0x00, 0x01, 0x08, 0x80, 0x04, 0x10,
+    0x00, 0x04, 0x10, 0x40, 0x01, 0x08, 0x80, 0x04, 0x10, 0x40, 0x04, 0x10, 0x00, 0x00,
+    0x8c, 0x40, 0x00, 0x10, 0x42, 0x00, 0x20, 0x40,
+};
+
 /* A tray and two boxes, all red, and two actions, each of which loads a box on the tray. */
 static const uint8_t tray[29] = {
     0x10, 0x60, 0x08, 0x10, 0x00, 0x01, 0x01, 0x04, 0x10, 0x10, 0x40, 0x00, 0x48, 0x80, 0x00,
     0x10, 0x00, 0x04, 0x10, 0x40, 0x00, 0x48, 0x80, 0x00, 0x20, 0x00, 0x04, 0x20, 0x40,
 };
 
-enum { ENTRIES = 6 };
+enum { ENTRIES = 6, GATE_ENTRIES = 8 };
 static const uint16_t both_boxes[] = {0, 1};
 static const uint16_t relaxed[] = {0, 2, 3};
 static const uint16_t repaired[] = {0, 2, 1, 3};
@@ -147,13 +155,13 @@ static void print_plan(mardiskos_plan_result p, const uint16_t *list, size_t len
 
 static void plan(const char *what, const uint8_t *record, size_t record_len, size_t len, size_t work_len)
 {
-    uint16_t list[ENTRIES] = {0}, work[ENTRIES] = {0};
+    uint16_t list[GATE_ENTRIES] = {0}, work[GATE_ENTRIES] = {0};
     printf("plan%s, %zu bytes, %zu and %zu entries lent: ", what, record_len, len, work_len);
     mardiskos_plan_result p = mardiskos_plan(record, record_len, list, len, work, work_len);
     print_plan(p, list, len, work, work_len);
 }
 
-/* Each way from the record to a plan, with room and without; then with action 4, with room. */
+/* Each way from the record to a plan, with room and without; then with action 4, with room; then the gate's plan. */
 static void plans(void)
 {
     forward("", two_shelves, sizeof two_shelves, 4);
@@ -166,6 +174,7 @@ static void plans(void)
     forward(", with action 4", two_shelves_with_4, sizeof two_shelves_with_4, 4);
     relax(", with action 4", two_shelves_with_4, sizeof two_shelves_with_4, 4);
     plan(", with action 4", two_shelves_with_4, sizeof two_shelves_with_4, ENTRIES, 4);
+    plan(", gate", gate, sizeof gate, GATE_ENTRIES, 7);
 }
 
 static void repair(const char *what, const uint16_t *actions, size_t count, size_t len)

@@ -75,8 +75,8 @@ extern "C" {
 #endif
 
 /* The version, as text and as 10,000 * major + 100 * minor + patch. */
-#define MARDISKOS_VERSION "0.3.0"
-#define MARDISKOS_VERSION_NUMBER 300
+#define MARDISKOS_VERSION "0.4.0"
+#define MARDISKOS_VERSION_NUMBER 400
 
 #define MARDISKOS_NUMBER(code) ((unsigned)((code) % 32))
 #define MARDISKOS_PLACE(code) ((code) / 32)
@@ -202,7 +202,8 @@ typedef struct {
 
 /* The planner: the repair of the record's relaxed plan. The plan fills the front of the plan list and
  * 65,535 the rest. The length of the work list bounds the plan's as that of the plan list does; it holds
- * 65,535 throughout afterwards, always. Refuses with 1 to 8, 10, 11.
+ * 65,535 throughout afterwards, always. Refuses with 1 to 8, 10, 11; for 7 and 8 an action does not change
+ * what it needs and sets to the same value again.
  *
  * With F the sum over all variables of the count of values less one, and P the product of the black
  * variables' counts of values (1 if none is black), for every record that passes 1 to 8:

@@ -66,6 +66,11 @@ class Calls(unittest.TestCase):
         self.assertEqual(mardiskos.relax(record), [4, 2, 3])
         self.assertEqual(mardiskos.plan(record), Plan([4, 2, 1, 3], 9, 4, True))
 
+    def test_gate_set_again(self):
+        record = example("gate")
+        self.assertEqual(mardiskos.plan(record), Plan([0, 2, 1, 4, 0, 3, 1], 14, 7, True))
+        self.assertEqual(mardiskos.newest(record, [0, 2]), ([1, 1, 0], 2, 2))
+
     def test_plan(self):
         self.assertEqual(mardiskos.plan(TWO_SHELVES), Plan([0, 2, 1, 3], 10, 4, True))
         self.assertEqual(mardiskos.plan(example("goal-met")), Plan([], 0, 0, True))

@@ -47,7 +47,7 @@ fn run(options: &Options) -> Result<(), String> {
     println!("seed {}", options.seed);
     for (name, suite) in SUITES {
         if options.suites.is_empty() || options.suites.iter().any(|chosen| chosen == name) {
-            let compared = suite(options).map_err(|d| format!("{name}: difference\n{d}"))?;
+            let compared = suite(options).map_err(|fault| format!("{name}: {fault}"))?;
             println!("{name}: {compared} compared");
         }
     }

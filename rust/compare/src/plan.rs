@@ -4,7 +4,7 @@ use compare::guard::Guarded;
 use compare::lent::Lent;
 use compare::lists;
 use compare::suite::{hex, list_hex, same, same_lent, Options};
-use generate::{mixture, Random};
+use generate::{gates, mixture, Random};
 use mardiskos::lent::PlanResult;
 use reference::{entry, examples, record, search, Refusal, Task};
 
@@ -13,6 +13,8 @@ const MOST_ENTRIES: usize = 41_000;
 const MOST_BYTES: usize = 60_000;
 const MAX_STEPS: usize = entry::MAX_STEPS;
 const SEARCHED_STATES: usize = 500;
+/// One record in so many must pass 7 only since facts set again make no arcs.
+const LEAST_GAINED: usize = 50;
 
 pub fn run(options: &Options) -> Result<String, String> {
     let mut plans = Plans {
@@ -25,14 +27,15 @@ pub fn run(options: &Options) -> Result<String, String> {
         calls: 0,
         planned: 0,
         searched: 0,
+        gated: 0,
+        gained: 0,
     };
     plans.examples()?;
     let records = options.count.unwrap_or(COUNT);
     for _ in 0..records {
         plans.compare_record()?;
     }
-    let Plans { calls, planned, searched, .. } = plans;
-    Ok(format!("{records} records ({planned} with a plan, {searched} searched), {calls} calls"))
+    plans.summary(records)
 }
 
 struct Plans {
@@ -46,6 +49,10 @@ struct Plans {
     calls: usize,
     planned: usize,
     searched: usize,
+    /// Records in which an action sets again a black fact that it needs, and those of them that would
+    /// be refused with 7 if that made arcs.
+    gated: usize,
+    gained: usize,
 }
 
 impl Plans {
@@ -68,10 +75,30 @@ impl Plans {
         let bytes = mixture::record(&mut self.random);
         let answer = self.longest_plan(&bytes, None);
         if let Ok(task) = record::read(&bytes) {
+            self.count_gates(&task, answer);
             self.check_reference(&bytes, &task, answer)?;
             self.repairs(&bytes, &task)?;
         }
         self.around(&bytes, None, answer)
+    }
+
+    fn count_gates(&mut self, task: &Task, answer: Result<entry::PlanResult, Refusal>) {
+        let passes = !matches!(answer, Err(Refusal { number: 7, .. }));
+        self.gated += usize::from(gates::has_gate(task));
+        self.gained += usize::from(passes && gates::was_cyclic(task));
+    }
+
+    /// What was compared, or that too few records have gates.
+    fn summary(self, records: usize) -> Result<String, String> {
+        let Plans { calls, planned, searched, gated, gained, .. } = self;
+        let gates =
+            format!("{gated} with gates set again, {gained} pass 7 only since that is no arc");
+        if gained < records / LEAST_GAINED {
+            return Err(format!("too few of {records} records: {gates}"));
+        }
+        Ok(format!(
+            "{records} records ({planned} with a plan, {searched} searched, {gates}), {calls} calls"
+        ))
     }
 
     /// The reference's answer with all the room that counts.

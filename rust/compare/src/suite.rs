@@ -1,6 +1,6 @@
 use std::time::{SystemTime, UNIX_EPOCH};
 
-/// A suite answers what it compared, or the first difference.
+/// A suite answers what it compared, or the first fault.
 pub type Suite = fn(&Options) -> Result<String, String>;
 
 pub struct Options {
@@ -50,7 +50,7 @@ pub fn same<T: PartialEq + std::fmt::Debug>(
     if library == reference {
         return Ok(());
     }
-    Err(format!("library: {library:?}\nreference: {reference:?}\n{}", input()))
+    Err(format!("difference\nlibrary: {library:?}\nreference: {reference:?}\n{}", input()))
 }
 
 /// Fails with the first entry in which something lent differs afterwards.
@@ -60,7 +60,7 @@ pub fn same_lent(
     input: impl FnOnce() -> String,
 ) -> Result<(), String> {
     match difference {
-        Some(entry) => Err(format!("{what} differs at entry {entry}\n{}", input())),
+        Some(entry) => Err(format!("difference\n{what} differs at entry {entry}\n{}", input())),
         None => Ok(()),
     }
 }

@@ -7,6 +7,7 @@ use reference::{Fact, Task, Variable};
 const VARIABLES: usize = 64;
 const VALUES: usize = 64;
 const FACTS: usize = 15;
+const MOVERS: usize = 16;
 
 fn variable(black: bool, goal: Option<usize>) -> Variable {
     Variable { values: VALUES as u8, black, initial: 0, goal: goal.map(|value| value as u8) }
@@ -193,7 +194,6 @@ fn from_anywhere(random: &mut Random, actions: usize, needs: impl Fn(usize) -> V
 /// 16 black variables with as many moves each way as there is room for. Each move has exactly one
 /// return, which differs from the others in its last condition.
 pub fn returns(random: &mut Random, actions: usize) -> Task {
-    const MOVERS: usize = 16;
     let variables = (0..VARIABLES).map(|v| variable(v < MOVERS, Some(0)));
     let mut task = Task::new(variables.collect());
     for k in 0..actions {
@@ -205,6 +205,24 @@ pub fn returns(random: &mut Random, actions: usize) -> Task {
         let mut sets = vec![Fact::new(mover, 1 - back)];
         sets.extend((VARIABLES - FACTS..VARIABLES - 1).map(|v| Fact::new(v, (k + v) % VALUES)));
         task.push(cost(random), &needs, &sets);
+    }
+    task
+}
+
+/// The same with black gates in place of what the moves share: each move needs all gates where they are
+/// and sets them so again.
+pub fn gates(random: &mut Random, actions: usize) -> Task {
+    const GATES: std::ops::Range<usize> = MOVERS..MOVERS + FACTS - 2;
+    let variables = (0..VARIABLES).map(|v| variable(v < GATES.end, Some(0)));
+    let mut task = Task::new(variables.collect());
+    for k in 0..actions {
+        let (mover, pair, back) = (k % MOVERS, k / MOVERS / 2, k / MOVERS % 2);
+        let gates = GATES.map(|v| Fact::new(v, mover));
+        let own = Fact::new(VARIABLES - 1, pair);
+        let facts = |value| -> Vec<Fact> {
+            [Fact::new(mover, value)].into_iter().chain(gates.clone()).chain([own]).collect()
+        };
+        task.push(cost(random), &facts(back), &facts(1 - back));
     }
     task
 }

@@ -3,6 +3,7 @@
 pub mod choices;
 pub mod damage;
 pub mod extremes;
+pub mod gates;
 pub mod listings;
 pub mod mixture;
 pub mod random;

@@ -2,7 +2,7 @@
 //! drawn records of every kind of answer that the planner has.
 
 use crate::random::Random;
-use crate::{damage, mixture, records, stores};
+use crate::{damage, gates, mixture, records, stores};
 use reference::{examples, listing, record, Task};
 
 /// How many records of each kind, by the last line of the listing without its last number.
@@ -57,13 +57,18 @@ fn drawn(random: &mut Random) -> Vec<u8> {
     bytes
 }
 
+/// One in three with facts set again.
 fn task(random: &mut Random) -> Task {
-    match random.below(40) {
+    let task = match random.below(40) {
         0 => mixture::any_tower(random),
         1..12 => stores::store(random, stores::LARGE),
         12..15 => records::random_task(random, records::MIDDLE),
         _ => mixture::small_task(random),
+    };
+    if random.chance(1, 3) {
+        return gates::with_gates(random, &task);
     }
+    task
 }
 
 /// Standard input of the program: each record behind the count of its bytes.

@@ -1,7 +1,7 @@
 //! A mixture of all kinds of records, most of them small.
 
 use crate::random::Random;
-use crate::{choices, damage, extremes, records, ring, stores};
+use crate::{choices, damage, extremes, gates, records, ring, stores};
 use reference::{record, Task};
 
 /// A record, one in twenty damaged.
@@ -13,11 +13,15 @@ pub fn record(random: &mut Random) -> Vec<u8> {
     bytes
 }
 
-/// One in three is changed so that its forward run has more to choose from.
+/// One in three is changed so that its forward run has more to choose from, and one in three so that
+/// facts are set again.
 pub fn task(random: &mut Random) -> Task {
-    let task = any_task(random);
+    let mut task = any_task(random);
     if random.chance(1, 3) {
-        return choices::with_choices(random, &task);
+        task = choices::with_choices(random, &task);
+    }
+    if random.chance(1, 3) {
+        task = gates::with_gates(random, &task);
     }
     task
 }
@@ -47,7 +51,7 @@ pub fn small_task(random: &mut Random) -> Task {
 }
 
 fn extreme_task(random: &mut Random) -> Task {
-    match random.below(9) {
+    match random.below(10) {
         0 => extremes::chain(random, 1024),
         1 => extremes::wheel(random),
         2 => extremes::lamp_wheel(random),
@@ -56,6 +60,7 @@ fn extreme_task(random: &mut Random) -> Task {
         5 => ring::ring(random, 64, 60, 14),
         6 => extremes::falling_wave(1024),
         7 => extremes::different_waves(random, 1024),
+        8 => extremes::gates(random, 1024),
         _ => records::dense_task(random, 64, 1024, 15),
     }
 }

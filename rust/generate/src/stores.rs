@@ -19,7 +19,7 @@ pub const LARGE: Store = Store { movers: 6, places: 8, gates: 4, boxes: 8 };
 pub const FULL: Store = Store { movers: 4, places: 64, gates: 6, boxes: 6 };
 
 const MAX_ACTIONS: usize = 1024;
-const MAX_FACTS: usize = 15;
+pub(crate) const MAX_FACTS: usize = 15;
 
 /// Effects and preconditions on one variable each, put together before the action is numbered.
 pub(crate) type Draft = (Vec<Fact>, Vec<Fact>);

@@ -74,6 +74,9 @@ fn extremes_do_what_they_are_for() {
     let wheel = record::write(&extremes::wheel(random));
     assert!(entry::judge(&wheel, &rounds).unwrap().real.plan);
     assert_eq!(plan(&extremes::returns(random, 1024)).0.unwrap().steps, 0);
+    let gates = extremes::gates(random, 1024);
+    assert_eq!(plan(&gates).0.unwrap().steps, 0);
+    assert_eq!(plan(&gates.without(700)).0, Err(Refusal::new(8, 684)));
     let steps = plan(&stores::tower(random, 5, 5, 33)).0.unwrap().steps;
     assert!((15_000..17_000).contains(&steps), "{steps}");
     let far = plan(&stores::tower(random, 16, 16, 4)).0;

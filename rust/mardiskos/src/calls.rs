@@ -165,6 +165,7 @@ pub fn relax(record: &[u8]) -> Result<Vec<u16>, Refusal> {
 }
 
 /// The planner: the repair of the record's relaxed plan, with room for [`MAX_STEPS`]. Refuses with 7, 8, 10 and 11 too.
+/// For 7 and 8 an action does not change what it needs and sets to the same value again.
 ///
 /// ```
 /// # fn main() -> Result<(), Box<dyn std::error::Error>> {
@@ -172,6 +173,9 @@ pub fn relax(record: &[u8]) -> Result<Vec<u16>, Refusal> {
 /// let plan = mardiskos::plan(&record)?;
 /// assert_eq!((plan.steps.as_slice(), plan.real), ([0, 1].as_slice(), false));
 /// assert_eq!(plan.runnable(), [0]);
+///
+/// let record = std::fs::read("../../examples/gate.record")?;
+/// assert_eq!(mardiskos::plan(&record)?.steps, [0, 2, 1, 4, 0, 3, 1]);
 /// # Ok(())
 /// # }
 /// ```

@@ -101,6 +101,19 @@ pub fn two_shelves_with_4() -> Task {
     task
 }
 
+/// A carriage, variable 1, that moves only while the gate, variable 0, is shut, and sets it so again; a
+/// box fetched with the gate open.
+pub fn gate() -> Task {
+    let mover = variable(2, true, 0, Some(0));
+    let mut task = Task::new(vec![mover, mover, variable(2, false, 0, Some(1))]);
+    push(&mut task, 1, &[(0, 0)], &[(0, 1)]);
+    push(&mut task, 1, &[(0, 1)], &[(0, 0)]);
+    push(&mut task, 4, &[(0, 1), (1, 0)], &[(0, 1), (1, 1)]);
+    push(&mut task, 4, &[(0, 1), (1, 1)], &[(0, 1), (1, 0)]);
+    push(&mut task, 2, &[(0, 0), (1, 1), (2, 0)], &[(2, 1)]);
+    task
+}
+
 /// One action with two effects on one variable, which no record may have.
 pub fn repeated_variable() -> Task {
     let mut task = Task::new(vec![variable(2, false, 0, None)]);
@@ -137,6 +150,7 @@ pub fn files() -> Vec<(&'static str, Vec<u8>)> {
         ("lit-return", lit_return()),
         ("newest", newest()),
         ("two-shelves-with-4", two_shelves_with_4()),
+        ("gate", gate()),
         ("repeated-variable", repeated_variable()),
         ("variables-64", sized(64, 0, 0)),
         ("variables-65", sized(65, 0, 0)),

@@ -14,7 +14,7 @@ pub struct Painting {
     pub black: u64,
     /// The black variables in the order of the repair, clients first.
     pub order: Vec<usize>,
-    /// The move of each action, where something is black.
+    /// The move of each action that changes a black variable, where something is black.
     pub moves: Table<Option<Move>, ACTIONS>,
     returns: Returns,
 }
@@ -43,18 +43,22 @@ impl Painting {
         self.returns.check(task, self.black, &self.moves)
     }
 
-    /// The moves; answers for each black variable the black ones to which it has an arc.
+    /// The moves; answers for each black variable the black ones to which it has an arc. A single
+    /// black variable that is set again is left out by its move, which is none.
     fn find_moves(&mut self, task: &Task) -> [u64; 64] {
-        let mut arcs = [0; 64];
+        let mut arcs = Arcs { from: [0; 64], to: [0; 64] };
         for (number, action) in task.actions().enumerate() {
             let affected = variables_of(action.effects) & self.black;
-            self.moves[number % ACTIONS] = Move::of(action, affected);
-            if affected != 0 {
+            let several = affected & affected.wrapping_sub(1) != 0;
+            let changed = if several { affected & !set_again(action) } else { affected };
+            let moved = Move::of(action, changed);
+            self.moves[number % ACTIONS] = moved;
+            if moved.is_some() {
                 let needed = variables_of(action.preconditions) & self.black;
-                members(needed | affected).for_each(|u| arcs[u] |= affected & !(1 << u));
+                members(changed).for_each(|v| arcs.add(needed | changed, v));
             }
         }
-        arcs
+        arcs.from
     }
 
     /// Clients first: of those untaken, the lowest with no arc to another untaken one; 7 if there
@@ -72,6 +76,22 @@ impl Painting {
     }
 }
 
+/// For each variable those to which it has an arc, and those that have one to it.
+struct Arcs {
+    from: [u64; 64],
+    to: [u64; 64],
+}
+
+impl Arcs {
+    /// Arcs from others to a variable.
+    #[inline(always)]
+    fn add(&mut self, others: u64, v: usize) {
+        let new = others & !(1 << v) & !self.to[v];
+        self.to[v] |= new;
+        members(new).for_each(|u| self.from[u] |= 1 << v);
+    }
+}
+
 fn lowest_on_cycle(black: u64, arcs: &[u64; 64]) -> usize {
     let mut reach = *arcs;
     for k in members(black) {
@@ -84,11 +104,22 @@ fn lowest_on_cycle(black: u64, arcs: &[u64; 64]) -> usize {
     members(black).find(|&v| contains(reach[v], v)).unwrap()
 }
 
-/// An action's move of its black variable.
+/// The variables of which an action sets the value that it needs.
+#[inline(always)]
+fn set_again(action: Action) -> u64 {
+    let mut needs = [ANYWHERE; 64];
+    action.preconditions.iter().for_each(|fact| needs[fact.variable()] = fact.value() as u8);
+    action.effects.iter().fold(0, |set, fact| {
+        let again = needs[fact.variable()] == fact.value() as u8;
+        set | u64::from(again) << fact.variable()
+    })
+}
+
+/// How an action changes its black variable.
 #[derive(Clone, Copy, Debug)]
 pub struct Move {
     pub variable: u8,
-    /// The value left, or `ANYWHERE`.
+    /// The value left, or `ANYWHERE`; never the one set.
     pub from: u8,
     pub to: u8,
 }
@@ -97,19 +128,19 @@ pub struct Move {
 pub const ANYWHERE: u8 = 64;
 
 impl Move {
-    /// The move of an action, by the black variables that it affects.
+    /// The move of the lowest of some variables, unless the action sets what it needs of it.
     #[inline(always)]
-    fn of(action: Action, affected: u64) -> Option<Move> {
-        if affected == 0 {
+    fn of(action: Action, variables: u64) -> Option<Move> {
+        if variables == 0 {
             return None;
         }
-        let variable = affected.trailing_zeros() as usize;
+        let variable = variables.trailing_zeros() as usize;
         let value = |facts: &[Fact]| {
             let own = facts.iter().find(|fact| fact.variable() == variable);
             own.map_or(ANYWHERE, |fact| fact.value() as u8)
         };
         let (from, to) = (value(action.preconditions), value(action.effects));
-        Some(Move { variable: variable as u8, from, to })
+        (from != to).then_some(Move { variable: variable as u8, from, to })
     }
 
     /// The fact that it sets.
@@ -189,12 +220,39 @@ mod tests {
     }
 
     #[test]
-    fn a_value_needed_and_set_makes_no_arc_but_counts_as_effect() {
-        let mut task = task(&[true, true]);
+    fn a_value_needed_and_set_makes_no_arc() {
+        let mut task = task(&[true, true, true]);
         task.push(1, &[Fact::new(0, 1)], &[Fact::new(0, 1)]);
-        assert_eq!(refused(&task), None);
-        task.push(1, &[Fact::new(0, 1)], &[Fact::new(0, 1), Fact::new(1, 1)]);
+        task.push(1, &[Fact::new(0, 1), Fact::new(1, 2)], &[Fact::new(0, 1), Fact::new(1, 2)]);
+        for (from, to) in [(0, 1), (1, 0)] {
+            let needs = [Fact::new(0, 1), Fact::new(1, from), Fact::new(2, 0)];
+            task.push(1, &needs, &[Fact::new(0, 1), Fact::new(1, to), Fact::new(2, 0)]);
+        }
+        let painting = painting(&task).ok().unwrap();
+        assert_eq!(painting.order, [1, 0, 2]);
+        assert!(painting.moves[..2].iter().all(|moved| moved.is_none()));
+    }
+
+    #[test]
+    fn a_gate_set_again_is_still_needed() {
+        let mut task = task(&[true, true]);
+        two_way(&mut task, 1, 0, 1, &[Fact::new(0, 1)]);
+        task.push(1, &[Fact::new(0, 1), Fact::new(1, 1)], &[Fact::new(0, 2), Fact::new(1, 1)]);
         assert_eq!(refused(&task), Some((7, 0)));
+    }
+
+    #[test]
+    fn other_effects_on_a_needed_variable_make_arcs() {
+        let with_gate = |needs: &[Fact], gate: usize| {
+            let mut task = task(&[true, true]);
+            let sets = [Fact::new(0, gate), Fact::new(1, 1)];
+            task.push(1, &[needs, &[Fact::new(1, 0)]].concat(), &sets);
+            task.push(1, &[needs, &[Fact::new(1, 1)]].concat(), &[Fact::new(1, 0)]);
+            refused(&task)
+        };
+        assert_eq!(with_gate(&[Fact::new(0, 1)], 1), None);
+        assert_eq!(with_gate(&[Fact::new(0, 1)], 2), Some((7, 0)));
+        assert_eq!(with_gate(&[], 0), Some((7, 0)));
     }
 
     #[test]

@@ -59,9 +59,6 @@ impl Paths {
 
     /// Adds a move that became usable, and mends the rows that it shortens.
     pub fn add(&mut self, moves: &Moves, moved: Move, number: usize) {
-        if moved.from == moved.to {
-            return;
-        }
         self.usable.insert(moved.target(), number);
         let v = moved.variable as usize % 64;
         for to in members(self.known[v]) {

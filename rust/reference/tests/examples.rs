@@ -107,6 +107,18 @@ fn cheap_comes_before_low_numbered() {
 }
 
 #[test]
+fn a_gate_that_is_needed_and_set_again_is_accepted() {
+    let task = examples::gate();
+    let (answer, list) = plan(&task, 8, 8);
+    assert_eq!(answer, Ok(PlanResult { steps: 7, cost: 14, runs: 7, real: true }));
+    assert_eq!(list, [0, 2, 1, 4, 0, 3, 1, REST]);
+    assert_eq!(plan(&task, 6, 8).0, Err(Refusal::new(11, 6)));
+    assert_eq!(refused(&task.without(3)), (8, 2));
+    let expected = "reached 6\nrelaxed 3 0 2 4\nplan 7 14 0 2 1 4 0 3 1\nreal 7\n";
+    assert_eq!(listing::listing(&record::write(&task)), expected);
+}
+
+#[test]
 fn runs_of_lit_return() {
     let bytes = record::write(&examples::lit_return());
     let mut list = [0; 4];
@@ -151,7 +163,7 @@ fn proved_records_are_the_files() {
     let table = root().join("crates/planning/proofs/Acceptance.antt");
     let text = fs::read_to_string(table).unwrap();
     let records: Vec<_> = text.split("\n\n").filter_map(proved).collect();
-    assert_eq!(records.len(), 13);
+    assert_eq!(records.len(), 14);
     for (name, bytes) in records {
         assert_eq!(file(name), bytes, "{name}");
     }
@@ -255,4 +267,5 @@ fn search_agrees() {
     assert_eq!(found(&examples::two_shelves()), Some(true));
     assert_eq!(found(&examples::two_shelves().without(2)), Some(false));
     assert_eq!(found(&examples::tray()), Some(true));
+    assert_eq!(found(&examples::gate()), Some(true));
 }

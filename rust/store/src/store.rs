@@ -59,6 +59,12 @@ impl Action {
     pub fn set(&self, variable: usize) -> Option<usize> {
         value_in(&self.sets, variable)
     }
+
+    /// The variables that it changes: a fact that it needs and sets again is no change.
+    pub fn changed(&self) -> impl Iterator<Item = usize> + Clone + '_ {
+        let changes = self.sets.iter().filter(|fact| !self.needs.contains(fact));
+        changes.map(|fact| fact.variable())
+    }
 }
 
 fn value_in(facts: &[Fact], variable: usize) -> Option<usize> {

@@ -53,6 +53,23 @@ fn the_cheaper_way_out_is_taken() {
 }
 
 #[test]
+fn drives_set_the_gate_shut_again() {
+    let store = example("gate");
+    let plan = Plan::find(&store).unwrap();
+    let expected = "\
+7 steps, cost 14, real: 7 steps run
+0  shut        gate = shut
+1  drive-out   gate = shut, carriage = shelf
+2  open        gate = open  (inserted)
+3  fetch       box = fetched
+4  shut        gate = shut  (inserted)
+5  drive-back  gate = shut, carriage = home  (inserted)
+6  open        gate = open  (inserted)
+";
+    assert_eq!(show::plan(&store, &plan).unwrap().text, expected);
+}
+
+#[test]
 fn tray_says_why_it_is_unreal() {
     let store = example("tray");
     let plan = Plan::find(&store).unwrap();

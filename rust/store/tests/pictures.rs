@@ -193,6 +193,8 @@ fn causal_arcs() {
     assert_eq!(arcs("two-shelves"), [((0, 1), vec![2, 3])]);
     assert_eq!(arcs("lamp-1"), [((0, 1), vec![0]), ((1, 0), vec![0, 1])]);
     assert_eq!(arcs("two-black-effects"), [((0, 1), vec![0]), ((1, 0), vec![0])]);
+    assert_eq!(arcs("gate"), [((0, 1), vec![2, 3]), ((0, 2), vec![4]), ((1, 2), vec![4])]);
+    assert_eq!(arcs("gate"), arcs("door"));
     let tray = causal_graph(&example("tray"));
     assert_eq!(tray.into_keys().collect::<Vec<_>>(), [(0, 1), (0, 2), (1, 0), (2, 0)]);
 }

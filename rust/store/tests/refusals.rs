@@ -3,7 +3,7 @@
 mod common;
 
 use common::{example, random_accepted, random_task, unnamed, Folder, Random};
-use reference::{examples, record, Refusal};
+use reference::{examples, record, Fact, Refusal};
 use store::explain::{in_general, in_words, record as of_record, sheet as of_sheet};
 use store::library::{self, check, write_sheet, Sheet};
 use store::plan::Plan;
@@ -233,6 +233,21 @@ fn returns() {
     assert_eq!(of_store(&example("two-shelves-without-1")), (8, 0, none));
     let more = format!("{begin} drive-back, which moves it back, also needs lamp = flashing; {lacking} and lamp = on");
     assert_eq!(of_store(&example("lamp-2")), (8, 0, more));
+}
+
+#[test]
+fn a_gate_set_again_is_not_what_moves() {
+    let mut store = example("gate");
+    store.actions.retain(|action| action.name != "drive-back");
+    let words = "drive-out moves carriage from home to shelf, and no action moves it back; what is lacking is an action that sets carriage = home and needs nothing but carriage = shelf and gate = shut";
+    assert_eq!(of_store(&store), (8, 2, words.into()));
+    store.actions[2].sets[0] = Fact::new(0, 0);
+    let (number, place, words) = of_store(&store);
+    assert_eq!((number, place), (7, 0));
+    assert!(
+        words.contains("gate to carriage by drive-out, carriage to gate by drive-out"),
+        "{words}"
+    );
 }
 
 #[test]

@@ -75,7 +75,7 @@ fn several(graph: &BlackGraph, cycle: &[usize]) -> Vec<usize> {
 /// 8: the lowest arc of an action that lacks its return, and the return it lacks.
 pub fn lacking_return(store: &Store, action: usize) -> Option<String> {
     let of = store.actions.get(action)?;
-    let moved = of.sets.iter().map(|fact| fact.variable()).find(|&v| store.variables[v].black)?;
+    let moved = of.changed().find(|&v| store.variables[v].black)?;
     let arcs = value_arcs(store, moved).into_iter();
     let arc =
         arcs.filter(|arc| arc.action == action).find(|&arc| !has_return(store, moved, arc))?;

@@ -9,8 +9,8 @@ use crate::store::{Action, Store, Variable};
 /// As many actions of an arc are named beside it; its title has all.
 const MAX_LABELS: usize = 3;
 
-/// The arcs, each with the actions that make it: one from each variable that an action names to each
-/// other variable that it sets.
+/// The arcs, each with the actions that make it: one from each variable that an action needs or
+/// changes to each other variable that it changes.
 pub fn causal_graph(store: &Store) -> BTreeMap<(usize, usize), Vec<usize>> {
     let mut arcs: BTreeMap<_, Vec<usize>> = BTreeMap::new();
     for (number, action) in store.actions.iter().enumerate() {
@@ -23,8 +23,8 @@ pub fn causal_graph(store: &Store) -> BTreeMap<(usize, usize), Vec<usize>> {
 }
 
 fn arcs_of(action: &Action) -> impl Iterator<Item = (usize, usize)> + '_ {
-    let from = action.needs.iter().chain(&action.sets).map(|fact| fact.variable());
-    let pairs = from.flat_map(|u| action.sets.iter().map(move |fact| (u, fact.variable())));
+    let from = action.needs.iter().map(|fact| fact.variable()).chain(action.changed());
+    let pairs = from.flat_map(|u| action.changed().map(move |v| (u, v)));
     pairs.filter(|(u, v)| u != v)
 }
 

@@ -9,7 +9,7 @@ use std::sync::atomic::{AtomicUsize, Ordering};
 use reference::{Fact, Task, Variable};
 use store::{parse, Store};
 
-pub const EXAMPLES: [&str; 12] = [
+pub const EXAMPLES: [&str; 13] = [
     "two-shelves",
     "two-shelves-without-1",
     "two-shelves-without-2",
@@ -22,6 +22,7 @@ pub const EXAMPLES: [&str; 12] = [
     "lit-return",
     "newest",
     "two-shelves-with-4",
+    "gate",
 ];
 
 pub fn path(name: &str, extension: &str) -> PathBuf {
@@ -151,8 +152,8 @@ pub fn random_task(random: &mut Random) -> Task {
 }
 
 /// A task whose painting is accepted: each black variable moves along its values both ways, and now
-/// and then from anywhere to anywhere, under outside conditions on lower variables; other actions set
-/// one red variable.
+/// and then from anywhere to anywhere, under outside conditions on lower variables, which one move in
+/// three sets again; other actions set one red variable.
 pub fn random_accepted(random: &mut Random) -> Task {
     let count = 2 + random.below(6);
     let variables: Vec<Variable> = (0..count).map(|_| random_variable(random, 5)).collect();
@@ -186,8 +187,10 @@ fn push_moves(task: &mut Task, random: &mut Random, v: usize, value: usize) {
     match lamp {
         Some(lamp) => push_lamp_moves(task, Fact::new(lamp, 0), d, e),
         None => {
-            push_move(task, &outside, d, e);
-            push_move(task, &outside, e, d);
+            for (from, to) in [(d, e), (e, d)] {
+                let again: &[Fact] = if random.chance(3) { &outside } else { &[] };
+                task.push(1, &[&outside[..], &[from]].concat(), &[again, &[to]].concat());
+            }
         }
     }
 }
@@ -196,10 +199,6 @@ fn push_moves(task: &mut Task, random: &mut Random, v: usize, value: usize) {
 fn push_lamp_moves(task: &mut Task, lamp: Fact, from: Fact, to: Fact) {
     task.push(1, &[from], &[lamp, to]);
     task.push(1, &[lamp, to], &[from]);
-}
-
-fn push_move(task: &mut Task, outside: &[Fact], from: Fact, to: Fact) {
-    task.push(1, &[outside, &[from]].concat(), &[to]);
 }
 
 pub fn unnamed(task: &Task) -> Store {
