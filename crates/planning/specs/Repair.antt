@@ -49,7 +49,7 @@ unfoldable pub after : ℕ → Option ℕ → ℕ
 after c none = c
 after c (some d) = d
 
--- 6.6: the pass of v over a list of moves, v being at c and w the wanted facts. No entry of the list sets v, since 7 passed.
+-- 6.6: the pass of v over a list of moves, v being at c and w the wanted facts. No entry of the list changes v, since 7 passed.
 unfoldable pub pass : (ℕ → Action) → (ℕ → ℕ → List ℕ) → ℕ → ℕ → List ℕ → List Fact → List ℕ
 pass act path v c [] w = toward path c (look w v)
 pass act path v c (i ∷ l) w = toward path c (look (act i .pre) v) ++ (i ∷ pass act path v (after c (look (act i .pre) v)) l w)
