@@ -150,7 +150,7 @@ fn first_return(
         if all_marked(task, k, marks, i, last) {
             return k;
         }
-        k = task::next_setter(task, k);
+        k = task::next_mover(task, k);
     }
     k
 }
@@ -194,7 +194,7 @@ fn is_returned(task: &[u16], marks: &[u16; 4096], i: u16, f: usize, last: &mut [
     let h = lists::wide(last[f % 1024]);
     let mut j = later_return(task, marks, i, f, h, last);
     if j == 65535 {
-        j = first_return(task, marks, i, f, task::first_setter(task, f), last);
+        j = first_return(task, marks, i, f, task::first_mover(task, f), last);
     }
     last[f % 1024] = j as u16;
     j != 65535

@@ -156,14 +156,14 @@ module _ (t : Task) (F : Formed t) (K : State) (v : ℕ) where
   pub range : (i e : ℕ) → i < A → T (has (act t i .eff) v e) → e < n
   range i e b h = sorted-has (variables t) (count t) 0 (act t i .eff) (F .eff-sorted i) v e h .val-below
 
-  pub usableArc-sets : (c i : ℕ) → i < A → T (usableArc (act t) K v c i) → Changes t v (target (act t) v i) i
-  usableArc-sets c i b h = arc-reduced (act t) v c (target (act t) v i) i (usableArc-elim (act t) A K v n pres effs range c i b h .1)
+  pub usableArc-changes : (c i : ℕ) → i < A → T (usableArc (act t) K v c i) → Changes t v (target (act t) v i) i
+  usableArc-changes c i b h = arc-reduced (act t) v c (target (act t) v i) i (usableArc-elim (act t) A K v n pres effs range c i b h .1)
 
   pub usableArc-inside : (c i : ℕ) → i < A → T (usableArc (act t) K v c i) → target (act t) v i < n
-  usableArc-inside c i b h = range i (target (act t) v i) b (reduced-elim (act t i) v (target (act t) v i) (usableArc-sets c i b h) .0)
+  usableArc-inside c i b h = range i (target (act t) v i) b (reduced-elim (act t i) v (target (act t) v i) (usableArc-changes c i b h) .0)
 
   usableArc-target : (c i e : ℕ) → i < A → T (usableArc (act t) K v c i) → Changes t v e i → target (act t) v i ≡ e
-  usableArc-target c i e b h s = reduced-func (act t i) (effs i b) v (target (act t) v i) e (usableArc-sets c i b h) s
+  usableArc-target c i e b h s = reduced-func (act t i) (effs i b) v (target (act t) v i) e (usableArc-changes c i b h) s
 
   pub usableArc-adj : (c i : ℕ) → i < A → T (usableArc (act t) K v c i) → T (adj c (target (act t) v i))
   usableArc-adj c i b h = usableArc→adjacent (act t) A K v n pres effs range c i b h
@@ -253,7 +253,7 @@ module _ (t : Task) (F : Formed t) (K : State) (v : ℕ) where
         -- an action into the layers is one into the last
         enters-of : (c i : ℕ) → i < A → (T (R k c) → ⊥) → T (usableArc (act t) K v c i) → T (R k (target (act t) v i)) → Enters t K v front 64 c i
         enters-of c i b x h r =
-            let s = usableArc-sets c i b h in
+            let s = usableArc-changes c i b h in
             (h, (target (act t) v i, small (target (act t) v i) (usableArc-inside c i b h), L .cover c i b h x r, s))
 
         enters-reach : (c i : ℕ) → i < A → Enters t K v front 64 c i → T (R k (target (act t) v i))

@@ -23,7 +23,7 @@ use Rattle.planning.proofs.Formed.{Formed}
 use Rattle.state.specs.Sets.{Asked}
 use Rattle.paths.specs.Paths.{pathsOf, leadIn, lead, numberOf, Leads, Put}
 use Rattle.paths.specs.declared.Written.the-variants.{Upto}
-use Rattle.paths.proofs.Leads.{first-at, range, usableArc-sets, usableArc-inside, usableArc-adj, effs}
+use Rattle.paths.proofs.Leads.{first-at, range, usableArc-changes, usableArc-inside, usableArc-adj, effs}
 
 -- the list while a path is written: what stands before e, and the path from the value x on
 pub record Walking (t : Task) (K : State) (v d c at : ℕ) (row d₀ dd : List ℕ) (x e i : ℕ) : Type 0 where
@@ -102,7 +102,7 @@ module _ (t : Task) (F : Formed t) (K : State) (v d : ℕ) where
   pub target-is : (c x y : ℕ) → Move c x → Asked (look (act t x .eff) v) y → (y ≡ target (act t) v x) × (y < n)
   unfolding target orZero
   target-is c x y M q =
-      let s = reduced-elim (act t x) v (target (act t) v x) (usableArc-sets t F K v c x (M .below) (M .hops)) .0 in
+      let s = reduced-elim (act t x) v (target (act t) v x) (usableArc-changes t F K v c x (M .below) (M .hops)) .0 in
       let l = look-is (act t x .eff) v (target (act t) v x) (effs t F K v x (M .below)) s (look (act t x .eff) v) refl in
       let z : y ≡ target (act t) v x = (rw l at q) .0 in
       (z, rw z (range t F K v x (target (act t) v x) (M .below) s))

@@ -120,13 +120,13 @@ fn arrive(
     ensures { λ r. ⌜ Marked (taskIn (now (task .entry))) (setsOf (now (ever .entry))) v front rest (e + 1) (now (row .exit)) r ⌝ }
     ensures { λ _. ⌜ Kept rest (now (row .entry)) (now (row .exit)) ⌝ }
 {
-    let mut i = task::first_setter(task, 64 * v + e);
+    let mut i = task::first_mover(task, 64 * v + e);
     let mut g = grow;
     while i < 1024 {
         let set = usable_sources(ever, task, i, v, rest);
         mark(row, set, i as u16);
         g = g | set;
-        i = task::next_setter(task, i);
+        i = task::next_mover(task, i);
     }
     g
 }

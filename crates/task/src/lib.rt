@@ -110,16 +110,16 @@ pub fn eff_end(task: &[u16], i: usize) -> usize
     lists::wide(task[4 * (ACTION_ROWS + i) + 3])
 }
 
-// The first action that sets fact f, as it was linked.
-pub fn first_setter(task: &[u16], f: usize) -> usize
+// The first action that changes a black variable to fact f, as it was linked.
+pub fn first_mover(task: &[u16], f: usize) -> usize
     requires { ⌜ Loaded (now task) × (f < 4096) ⌝ }
     ensures { λ r. ⌜ r ≡ headAt (now (task .entry)) f ⌝ }
 {
     lists::wide(task[HEADS + f])
 }
 
-// The next action that sets the same black fact as action i, as it was linked.
-pub fn next_setter(task: &[u16], i: usize) -> usize
+// The next action that changes it to the same fact as action i, as it was linked.
+pub fn next_mover(task: &[u16], i: usize) -> usize
     requires { ⌜ Loaded (now task) × (i < 1024) ⌝ }
     ensures { λ r. ⌜ r ≡ nextAt (now (task .entry)) i ⌝ }
 {

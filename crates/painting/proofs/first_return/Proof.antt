@@ -30,8 +30,8 @@ returns c =
     let p = l .before .before .pre in
     chasing-hit _ _ (p .0) _ _ _ (l .loop .inv) (m .before .before .loop-test .taken) (sym (m .all-marked .ensures) ∙ c .if1 .taken)
 
-next-setter-requires : tie.Need-next-setter-requires Inv-loop μ-loop
-next-setter-requires c κs =
+next-mover-requires : tie.Need-next-mover-requires Inv-loop μ-loop
+next-mover-requires c κs =
     let n = c .before .before .before in
     let l = n .before in
     let p = l .before .before .pre in
@@ -43,7 +43,7 @@ loop-less c =
     let l = m .before .before .before in
     let p = l .before .before .pre in
     let b = chasing-near _ _ (p .0) _ _ _ (l .loop .inv) (m .before .before .loop-test .taken) in
-    let r = chasing-turn _ _ (p .0) _ _ _ (l .loop .inv) (m .before .before .loop-test .taken) _ (c .next-setter .ensures) (sym (m .all-marked .ensures) ∙ c .before .if1 .left) in
+    let r = chasing-turn _ _ (p .0) _ _ _ (l .loop .inv) (m .before .before .loop-test .taken) _ (c .next-mover .ensures) (sym (m .all-marked .ensures) ∙ c .before .if1 .left) in
     omega (arith, b, r .1)
 
 loop-again : tie.Need-loop-again Inv-loop μ-loop
@@ -51,7 +51,7 @@ loop-again c =
     let m = c .before .before in
     let l = m .before .before .before in
     let p = l .before .before .pre in
-    chasing-turn _ _ (p .0) _ _ _ (l .loop .inv) (m .before .before .loop-test .taken) _ (c .next-setter .ensures) (sym (m .all-marked .ensures) ∙ c .before .if1 .left) .0
+    chasing-turn _ _ (p .0) _ _ _ (l .loop .inv) (m .before .before .loop-test .taken) _ (c .next-mover .ensures) (sym (m .all-marked .ensures) ∙ c .before .if1 .left) .0
 
 returns-2 : tie.Need-returns-2 Inv-loop μ-loop
 returns-2 c =
@@ -68,7 +68,7 @@ first-return-spec =
     loop-holds
     all-marked-requires
     returns
-    next-setter-requires
+    next-mover-requires
     loop-less
     loop-again
     returns-2)

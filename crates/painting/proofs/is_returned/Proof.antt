@@ -17,13 +17,13 @@ wide-requires c κs = search needs
 later-return-requires : tie.Need-later-return-requires
 later-return-requires c κs = search needs
 
-first-setter-requires : tie.Need-first-setter-requires
-first-setter-requires c κs = search needs
+first-mover-requires : tie.Need-first-mover-requires
+first-mover-requires c κs = search needs
 
 first-return-requires : tie.Need-first-return-requires
 first-return-requires c κs =
     let p = c .before .before .before .before .before .before .before .before .pre in
-    (p, head-chain _ _ p _ (c .before .first-setter .ensures))
+    (p, head-chain _ _ p _ (c .before .first-mover .ensures))
 
 cast-last : tie.Need-cast-last
 cast-last c =
@@ -57,7 +57,7 @@ is-returned-spec =
     element-copy-out-wide
     wide-requires
     later-return-requires
-    first-setter-requires
+    first-mover-requires
     first-return-requires
     cast-last
     mul-last

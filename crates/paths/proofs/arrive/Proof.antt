@@ -22,19 +22,19 @@ start-of h = h .before .before .before .before
 chain : (s : tie.Start Inv-loop μ-loop) → Chain (s .args .task .now) (s .args .v) (s .args .front) (s .args .e) (s .args .rest)
 chain s = let p = s .pre in record { prepared = p .0 .0; painted = p .0 .1; near = p .0 .3; member = p .1 .0; apart = p .1 .1 }
 
-mul-first-setter : tie.Need-mul-first-setter Inv-loop μ-loop
-mul-first-setter c = omega (arith, chain-place _ _ _ _ _ (chain (c .before .before)))
+mul-first-mover : tie.Need-mul-first-mover Inv-loop μ-loop
+mul-first-mover c = omega (arith, chain-place _ _ _ _ _ (chain (c .before .before)))
 
-add-first-setter : tie.Need-add-first-setter Inv-loop μ-loop
-add-first-setter c = omega (arith, chain-place _ _ _ _ _ (chain (c .before .before)))
+add-first-mover : tie.Need-add-first-mover Inv-loop μ-loop
+add-first-mover c = omega (arith, chain-place _ _ _ _ _ (chain (c .before .before)))
 
-first-setter-requires : tie.Need-first-setter-requires Inv-loop μ-loop
-first-setter-requires c κs = let s = c .before .before in (s .pre .0 .0 .loaded, chain-place _ _ _ _ _ (chain s))
+first-mover-requires : tie.Need-first-mover-requires Inv-loop μ-loop
+first-mover-requires c κs = let s = c .before .before in (s .pre .0 .0 .loaded, chain-place _ _ _ _ _ (chain s))
 
 loop-holds : tie.Need-loop-holds Inv-loop μ-loop
 loop-holds c =
     let s = c .before .before .before in
-    arriving-start _ _ _ _ _ (chain s) _ _ _ _ (s .pre .0 .2) (s .pre .1 .2) (c .first-setter .ensures)
+    arriving-start _ _ _ _ _ (chain s) _ _ _ _ (s .pre .0 .2) (s .pre .1 .2) (c .first-mover .ensures)
 
 usable-sources-requires : tie.Need-usable-sources-requires Inv-loop μ-loop
 usable-sources-requires c κs =
@@ -48,13 +48,13 @@ cast-mark c = omega arith
 mark-requires : tie.Need-mark-requires Inv-loop μ-loop
 mark-requires c κs = let h = c .before .before .before in h .loop .inv .long
 
-next-setter-requires : tie.Need-next-setter-requires Inv-loop μ-loop
-next-setter-requires c κs = let h = c .before .before .before .before .before .before in (start-of h .pre .0 .0 .loaded, omega arith)
+next-mover-requires : tie.Need-next-mover-requires Inv-loop μ-loop
+next-mover-requires c κs = let h = c .before .before .before .before .before .before in (start-of h .pre .0 .0 .loaded, omega arith)
 
 loop-less : tie.Need-loop-less Inv-loop μ-loop
 loop-less c =
     let h = c .before .before .before .before .before .before .before in
-    omega (arith, arriving-above _ _ _ _ _ (chain (start-of h)) _ _ _ _ _ (h .loop .inv) (omega arith) _ (c .next-setter .ensures))
+    omega (arith, arriving-above _ _ _ _ _ (chain (start-of h)) _ _ _ _ _ (h .loop .inv) (omega arith) _ (c .next-mover .ensures))
 
 loop-again : tie.Need-loop-again Inv-loop μ-loop
 loop-again c =
@@ -62,7 +62,7 @@ loop-again c =
     let found = marked .before .before in
     let h = found .before .before in
     arriving-turn _ _ _ _ _ (chain (start-of h)) _ _ _ _ _ (h .loop .inv) (omega arith) _ _ _
-    (c .before .before .row .given ∙ h .loop .inv .long) (found .usable-sources .ensures) (marked .mark .ensures) (c .next-setter .ensures)
+    (c .before .before .row .given ∙ h .loop .inv .long) (found .usable-sources .ensures) (marked .mark .ensures) (c .next-mover .ensures)
 
 same-length : tie.Need-same-length Inv-loop μ-loop
 same-length c = let h = c .before in h .loop .inv .long ∙ sym (start-of h .pre .0 .2)
@@ -76,14 +76,14 @@ arrive-spec =
     (tie.spec
     Inv-loop
     μ-loop
-    mul-first-setter
-    add-first-setter
-    first-setter-requires
+    mul-first-mover
+    add-first-mover
+    first-mover-requires
     loop-holds
     usable-sources-requires
     cast-mark
     mark-requires
-    next-setter-requires
+    next-mover-requires
     loop-less
     loop-again
     same-length
