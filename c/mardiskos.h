@@ -11,7 +11,9 @@
  *   5       a fact of a variable that does not exist, or that   where the variable starts
  *           is not above the one before it in its list
  *   6       the padding is not 0, or bytes follow               where the last field ends
- *   7       black variables depend on one another in a circle   the lowest of them
+ *   7       black variables depend on one another in a circle;  the lowest of them
+ *           setting again a fact that the action needs counts
+ *           for nothing here
  *   8       an arc of a black variable lacks its return         the lowest action with such an arc
  *   9       an entry that is no action of the record; in a      the entry's position; for a goal, the
  *           caller's relaxed plan also one that does not        length of the list
@@ -202,8 +204,7 @@ typedef struct {
 
 /* The planner: the repair of the record's relaxed plan. The plan fills the front of the plan list and
  * 65,535 the rest. The length of the work list bounds the plan's as that of the plan list does; it holds
- * 65,535 throughout afterwards, always. Refuses with 1 to 8, 10, 11; for 7 and 8 an action does not change
- * what it needs and sets to the same value again.
+ * 65,535 throughout afterwards, always. Refuses with 1 to 8, 10, 11.
  *
  * With F the sum over all variables of the count of values less one, and P the product of the black
  * variables' counts of values (1 if none is black), for every record that passes 1 to 8:

@@ -220,8 +220,7 @@ def relax(record: bytes) -> List[int]:
 
 
 def plan(record: bytes, room: int = MAX_STEPS) -> Plan:
-    """The planner: the repair of the record's relaxed plan. `room` is the most steps wanted. Refuses with 7, 8, 10, 11 too; for
-    7 and 8 an action does not change what it needs and sets to the same value again."""
+    """The planner: the repair of the record's relaxed plan. `room` is the most steps wanted. Refuses with 7, 8, 10, 11 too."""
     steps, work = _room(room), _room(room)
     return _plan(_library.mardiskos_plan(*_bytes(record), *_lend(steps), *_lend(work)), steps)
 

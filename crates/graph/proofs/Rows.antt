@@ -282,12 +282,12 @@ module _ (task : List ℕ) (i paint : ℕ) (s : ℕ → ℕ → Bool) (L : Liste
       none-at : (u v : ℕ) → s u v ≡ (s u v || (touches (factsIn task a c) u && arcs w paint u v))
       none-at u v = rw (e, inSet-empty v, and-false (inSet paint u && not (eqb u v)), and-false (touches (factsIn task a c) u)) (sym (or-false (s u v)))
 
--- the whole graph: arcs of the actions below i
-abbrev changes : Task → ℕ → ℕ → ℕ → Bool
-changes t u v i = touches (reducedEffects (act t i)) v && (touches (act t i .pre) u || touches (reducedEffects (act t i)) u)
+-- action i gives the arc from u to v; the whole graph: arcs of the actions below i
+abbrev givesArc : Task → ℕ → ℕ → ℕ → Bool
+givesArc t u v i = touches (reducedEffects (act t i)) v && (touches (act t i .pre) u || touches (reducedEffects (act t i)) u)
 
 unfoldable pub arcsBelow : Task → ℕ → ℕ → ℕ → Bool
-arcsBelow t n u v = (black t u && black t v) && (not (eqb u v) && someBelow n (changes t u v))
+arcsBelow t n u v = (black t u && black t v) && (not (eqb u v) && someBelow n (givesArc t u v))
 
 one-more : (x y s p : Bool) → ((x && (y && s)) || (x && (y && p))) ≡ (x && (y && (s || p)))
 one-more true true s p = refl
@@ -297,7 +297,7 @@ one-more false y s p = refl
 arcs-more : (t : Task) (i : ℕ) → withAction (black t) (act t i) (arcsBelow t i) ≡ arcsBelow t (i + 1)
 unfolding withAction arcsBelow someBelow
 arcs-more t i = fun-ext (λ u. fun-ext (λ v. rw add-one
-    (one-more (black t u && black t v) (not (eqb u v)) (someBelow i (changes t u v)) (changes t u v i))))
+    (one-more (black t u && black t v) (not (eqb u v)) (someBelow i (givesArc t u v)) (givesArc t u v i))))
 
 pub record Drawing (t : Task) (n : ℕ) (rows : List ℕ) (i : ℕ) : Type 0 where
   pub within : i ≤ n

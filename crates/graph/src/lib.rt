@@ -12,7 +12,7 @@ ghost use Rattle.task.specs.Task.{factsIn, taskIn, Loaded};
 ghost use Rattle.state.specs.Sets.{inSet, setsOf, modeOf, Facts};
 ghost use Rattle.graph.specs.Graph.{Rows, foundOf, withAction, through, via, StartBelow, Filled, Ordered};
 
-// An effect f of action i changes a black variable: action i does not need f.
+// Effect f of action i is of a black variable and not among its preconditions.
 pub fn changes(task: &[u16], i: usize, f: usize, paint: u64) -> bool
     requires { ⌜ Loaded (now task) × (i < actions (taskIn (now task))) × (f < 4096) ⌝ }
     ensures { λ r. ⌜ r ≡ (inSet paint (f / 64) && not (has (act (taskIn (now (task .entry))) i .pre) (f / 64) (f % 64))) ⌝ }
@@ -41,28 +41,28 @@ fn changed(task: &[u16], i: usize, paint: u64) -> u64
     set
 }
 
-// Row u with arcs to the variables of `changed`, if u is black; none to u itself.
-fn joined(row: u64, changed: u64, u: usize, paint: u64) -> u64
+// Row u with arcs to the variables of `targets`, if u is black; none to u itself.
+fn joined(row: u64, targets: u64, u: usize, paint: u64) -> u64
     requires { ⌜ u < 64 ⌝ }
-    ensures { λ r. ⌜ modeOf r ≡ (λ v. inSet row v || ((inSet paint u && not (eqb u v)) && inSet changed v)) ⌝ }
+    ensures { λ r. ⌜ modeOf r ≡ (λ v. inSet row v || ((inSet paint u && not (eqb u v)) && inSet targets v)) ⌝ }
 {
     if state::member(paint, u) {
         let own = state::single(u);
-        row | ((changed | own) ^ own)
+        row | ((targets | own) ^ own)
     } else {
         row
     }
 }
 
 // Arcs from each black variable of the facts from place `from` up to `to`.
-fn add_arcs(rows: &mut [u64; 64], task: &[u16], from: usize, to: usize, changed: u64, paint: u64)
+fn add_arcs(rows: &mut [u64; 64], task: &[u16], from: usize, to: usize, targets: u64, paint: u64)
     requires { ⌜ Facts (now task) from to × (length (now rows) ≡ 64) ⌝ }
-    ensures { λ _. ⌜ Rows (now (rows .exit)) (λ u v. setsOf (now (rows .entry)) u v || (touches (factsIn (now (task .entry)) from to) u && ((inSet paint u && not (eqb u v)) && inSet changed v))) ⌝ }
+    ensures { λ _. ⌜ Rows (now (rows .exit)) (λ u v. setsOf (now (rows .entry)) u v || (touches (factsIn (now (task .entry)) from to) u && ((inSet paint u && not (eqb u v)) && inSet targets v))) ⌝ }
 {
     let mut k = from;
     while k < to {
         let u = lists::wide(task[k]) / 64;
-        rows[u] = joined(rows[u], changed, u, paint);
+        rows[u] = joined(rows[u], targets, u, paint);
         k += 1;
     }
 }
@@ -72,8 +72,8 @@ fn add_action(rows: &mut [u64; 64], task: &[u16], i: usize, paint: u64)
     requires { ⌜ Loaded (now task) × (i < actions (taskIn (now task))) × (length (now rows) ≡ 64) ⌝ }
     ensures { λ _. ⌜ Rows (now (rows .exit)) (withAction (modeOf paint) (act (taskIn (now (task .entry))) i) (setsOf (now (rows .entry)))) ⌝ }
 {
-    let set = changed(task, i, paint);
-    if set == 0 {
+    let targets = changed(task, i, paint);
+    if targets == 0 {
         return;
     }
     add_arcs(
@@ -81,7 +81,7 @@ fn add_action(rows: &mut [u64; 64], task: &[u16], i: usize, paint: u64)
         task,
         task::pre_start(task, i),
         task::eff_end(task, i),
-        set,
+        targets,
         paint,
     );
 }

@@ -97,10 +97,10 @@ module _ (t : Task) (F : Formed t) where
   pub facts-small : (i : ℕ) → Small (act t i .pre ++ act t i .eff)
   facts-small i = small-++ (act t i .pre) (act t i .eff) (needs-small i) (sorted-small (variables t) (count t) (F .variables-max) (F .count-max) 0 (act t i .eff) (F .eff-sorted i))
 
-  module _ (i v e : ℕ) (m : State) (sets : T (has (reducedEffects (act t i)) v e)) (A : Allows v e (act t i .pre ++ act t i .eff) m) where
+  module _ (i v e : ℕ) (m : State) (moves : T (has (reducedEffects (act t i)) v e)) (A : Allows v e (act t i .pre ++ act t i .eff) m) where
     aim : target (act t) v i ≡ e
     unfolding target orZero
-    aim = rw (look-is (reducedEffects (act t i)) v e (reduced-func (act t i) (eff-func i)) sets (look (reducedEffects (act t i)) v) refl) refl
+    aim = rw (look-is (reducedEffects (act t i)) v e (reduced-func (act t i) (eff-func i)) moves (look (reducedEffects (act t i)) v) refl) refl
 
     union : List Fact
     union = outside v (act t i .pre) ++ outside v (act t i .eff)
@@ -119,7 +119,7 @@ module _ (t : Task) (F : Formed t) where
       | inr k ↦ has-right (act t i .pre) (act t i .eff) u x (outside-has v (act t i .eff) u x k)
     ]
 
-    -- what returns is what sets v = d and needs marked facts alone
+    -- what returns is what changes v to d and needs marked facts alone
     return-is : (d : ℕ) → d ≢ e → (j : ℕ) → returnBy t v d i j ≡ (has (reducedEffects (act t j)) v d && holds m (act t j .pre))
     unfolding returnBy union
     return-is d n j = both (returnBy t v d i j) (has (reducedEffects (act t j)) v d && holds m (act t j .pre)) there back
@@ -131,7 +131,8 @@ module _ (t : Task) (F : Formed t) where
             let q : target (act t) v j ≡ d = eqb→eq (target (act t) v j) d (search (and-l, and-r)) in
             let o : T (holds (has (outside v (act t i .pre) ++ outside v (act t i .eff))) (outside v (act t j .pre))) = search (and-l, and-r) in
             let x = arcFrom-elim (act t) v (target (act t) v i) j (pre-func j) a in
-            and-i (has (reducedEffects (act t j)) v d) (holds m (act t j .pre)) (subst (λ (y : ℕ). T (has (reducedEffects (act t j)) v y)) q (arc-reduced (act t) v (target (act t) v i) (target (act t) v j) j x))
+            let c = subst (λ (y : ℕ). T (has (reducedEffects (act t j)) v y)) q (arc-reduced (act t) v (target (act t) v i) (target (act t) v j) j x) in
+            and-i (has (reducedEffects (act t j)) v d) (holds m (act t j .pre)) c
             (sub→holds m (act t j .pre) (λ u y g. need u y g (ℕ-discrete u v) x o))
           where
             need : (u y : ℕ) → T (has (act t j .pre) u y) → Dec (u ≡ v) → Arc (act t) v j (target (act t) v i) (target (act t) v j)
@@ -183,7 +184,7 @@ module _ (t : Task) (F : Formed t) where
       lack-intro : (d : ℕ) → d ≢ e → ((x : ℕ) → T (has (act t i .pre) v x) → x ≡ d) → T (not (returned t m v d)) → T (lacksReturn t i v d)
       unfolding lacksReturn
       lack-intro d n f r =
-          let a = arcFrom-intro (act t) v d e i (eff-func i) (record { from = f; into = reduced-elim (act t i) v e sets .0; leaves′ = n }) in
+          let a = arcFrom-intro (act t) v d e i (eff-func i) (record { from = f; into = reduced-elim (act t i) v e moves .0; leaves′ = n }) in
           let b : T (arcFrom (act t) v d i) = a .0 in
           let q : T (not (someBelow (actions t) (returnBy t v d i))) = subst (λ (b : Bool). T (not b)) (sym (returned-is d n)) r in
           and-i (black t v && arcFrom (act t) v d i) (not (someBelow (actions t) (returnBy t v d i))) (and-i (black t v) (arcFrom (act t) v d i) bv b) q
@@ -195,7 +196,8 @@ module _ (t : Task) (F : Formed t) where
           let a : T (arcFrom (act t) w d i) = search (and-l, and-r) in
           let o : T (black t w) = search (and-l, and-r) in
           let x = arcFrom-elim (act t) w d i (pre-func i) a in
-          one-black t F Y i w v ib (has→touches (reducedEffects (act t i)) w (target (act t) w i) (arc-reduced (act t) w d (target (act t) w i) i x)) (has→touches (reducedEffects (act t i)) v e sets) o bv
+          let c = has→touches (reducedEffects (act t i)) w (target (act t) w i) (arc-reduced (act t) w d (target (act t) w i) i x) in
+          one-black t F Y i w v ib c (has→touches (reducedEffects (act t i)) v e moves) o bv
 
       pub lacks-is : lacksBy t m i v e ≡ lacks t i
       unfolding lacksBy lacks
@@ -241,7 +243,8 @@ module _ (t : Task) (F : Formed t) where
       let j : ℕ = r .0 in
       let p : T (holds m (act t j .pre)) = and-r (has (reducedEffects (act t j)) v d) (holds m (act t j .pre)) (r .2) in
       let q = sub→holds m′ (act t j .pre) (λ u x g. more u x (pre-small j u x g .0) (pre-small j u x g .1) (holds→sub m (act t j .pre) p u x g)) in
-      some-intro (actions t) (returnsBy t m′ v d) j (r .1) (and-i (has (reducedEffects (act t j)) v d) (holds m′ (act t j .pre)) (and-l (has (reducedEffects (act t j)) v d) (holds m (act t j .pre)) (r .2)) q)
+      let c = and-l (has (reducedEffects (act t j)) v d) (holds m (act t j .pre)) (r .2) in
+      some-intro (actions t) (returnsBy t m′ v d) j (r .1) (and-i (has (reducedEffects (act t j)) v d) (holds m′ (act t j .pre)) c q)
 
   -- an action whose marks allow a return to every value is complete
   pub complete-of : (m : State) (v e j n : ℕ) → j < actions t → ((u x : ℕ) → u < 64 → x < 64 → T (m u x) → T (has (act t j .pre) u x))

@@ -1,6 +1,6 @@
 -- Loops over the facts of an action: what is computed of all facts is what is computed of those still to come. One law for the
 -- move and the test of marks.
-use mathlib.Core.Path.{_≡_, refl, sym, ap, _∙_, subst}
+use mathlib.Core.Path.{_≡_, refl, sym, ap, _∙_}
 use mathlib.Core.Bool.{Bool, true, false, not, _&&_}
 use mathlib.Core.List.{List, [], _∷_, _++_}
 use Prim.Native.Nat.{ℕ, zero, suc, _+_, _-_, _*_, _/_, _%_, _<_, _≤_}
@@ -9,10 +9,10 @@ use borrow.Author.Tests.{eq-eqb, ne-eqb}
 use lib.Dec.{eqb}
 use lib.ListN.{getD}
 use Rattle.planning.specs.Record.{Fact, Action}
-use Rattle.planning.specs.Runs.{State, has, holds, look, act}
+use Rattle.planning.specs.Runs.{State, has, holds, act}
 use Rattle.planning.specs.Painting.{without}
 use Rattle.task.specs.Task.{factOf, factsIn, preAt, effAt, endAt, actionIn, taskIn}
-use Rattle.state.specs.Sets.{inSet, modeOf, Asked, Facts}
+use Rattle.state.specs.Sets.{inSet, modeOf, Facts}
 use Rattle.state.proofs.Listed.{Listed}
 use Rattle.state.proofs.Effects.{factsIn-cons, factsIn-none}
 use Rattle.graph.proofs.Rows.{factsIn-split}
@@ -28,14 +28,6 @@ module _ (task : List ℕ) (i : ℕ) (L : Listed task i) (a b : ℕ) where
   pub eff-facts : a ≡ effAt task i → b ≡ endAt task i → factsIn task a b ≡ act (taskIn task) i .eff
   unfolding actionIn
   eff-facts ea eb = rw (ea, eb) (ap (λ (x : Action). x .eff) (L .states))
-
--- what they ask of a variable
-module _ (task : List ℕ) (i : ℕ) (L : Listed task i) (a b v x : ℕ) (q : Asked (look (factsIn task a b) v) x) where
-  pub asked-pre : a ≡ preAt task i → b ≡ effAt task i → Asked (look (act (taskIn task) i .pre) v) x
-  asked-pre ea eb = subst (λ (fs : List Fact). Asked (look fs v) x) (pre-facts task i L a b ea eb) q
-
-  pub asked-eff : a ≡ effAt task i → b ≡ endAt task i → Asked (look (act (taskIn task) i .eff) v) x
-  asked-eff ea eb = subst (λ (fs : List Fact). Asked (look fs v) x) (eff-facts task i L a b ea eb) q
 
 pub all-facts : (task : List ℕ) (i : ℕ) → Listed task i → (a b : ℕ) → a ≡ preAt task i → b ≡ endAt task i → factsIn task a b ≡ act (taskIn task) i .pre ++ act (taskIn task) i .eff
 all-facts task i L a b ea eb =

@@ -19,7 +19,7 @@ abbrev pub pickPlace : Bool → ℕ → ℕ → ℕ
 pickPlace true g f = f
 pickPlace false g f = g
 
--- where an action that sets f marks its fact g: a fact of the same variable stands for f
+-- where an action with the move f marks its fact g: a fact of the same variable stands for f
 unfoldable pub place : ℕ → ℕ → ℕ
 place f g = pickPlace (eqb (g / 64) (f / 64)) g f
 
@@ -57,7 +57,7 @@ unreturnedFrom t m v e a n = someBelow n (λ k. not (eqb (a + k) e) && not (retu
 unfoldable pub lacks : Task → ℕ → Bool
 lacks t i = someBelow (variables t) (λ v. someBelow (count t v) (lacksReturn t i v))
 
--- of action i, which sets v = e, the arc from the value needed, or the arcs from every value
+-- of action i, which changes v to e, the arc from the value needed, or the arcs from every value
 abbrev pub arcsBy : Option ℕ → Task → State → ℕ → ℕ → Bool
 arcsBy none t m v e = unreturnedFrom t m v e 0 (count t v)
 arcsBy (some d) t m v e = unreturnedFrom t m v e d 1
@@ -65,7 +65,7 @@ arcsBy (some d) t m v e = unreturnedFrom t m v e d 1
 unfoldable pub lacksBy : Task → State → ℕ → ℕ → ℕ → Bool
 lacksBy t m i v e = arcsBy (look (act t i .pre) v) t m v e
 
--- of an action that sets f, the arcs from every value
+-- of an action with the move f, the arcs from every value
 abbrev pub lacksAny : Task → State → ℕ → Bool
 lacksAny t m f = unreturnedFrom t m (f / 64) (f % 64) 0 (count t (f / 64))
 

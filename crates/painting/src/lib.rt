@@ -1,6 +1,6 @@
-// The check of a painting, 7 then 8, and what it leaves in the loaded task: the chains of actions by the black fact that they set,
-// and the clients-first order. Once the black causal graph has no cycle, an action changes one black variable at most: its move. The return
-// of an arc is looked for in the chain of the fact that it has to set, with what the first action allows marked. For arcs from every
+// The check of a painting, 7 then 8, and what it leaves in the loaded task: the chains of actions by their moves,
+// and the clients-first order. Once the black causal graph has no cycle, an action changes one black variable at most; its move is the fact to
+// which it does. The return of an arc is looked for in the chain of the move that it has to be, with what the first action allows marked. For arcs from every
 // value an action is kept whose preconditions allow all the returns, so that the search is not repeated for each action that allows them.
 use answers::Checked;
 use answers::Refusal;
@@ -75,14 +75,14 @@ const TRIES: usize = 1024;
 // Complete actions that are kept, as 1,024 × variable + action; 65,536 where there is none.
 const KEPT: usize = 32;
 
-// Where an action that sets f marks its fact g.
+// Where an action with the move f marks its fact g.
 fn place_of(f: usize, g: usize) -> usize
     ensures { λ r. ⌜ r ≡ place f g ⌝ }
 {
     if g / 64 == f / 64 { f } else { g }
 }
 
-// The marks `own` of the facts from place `from` up to `to`, for an action that sets f.
+// The marks `own` of the facts from place `from` up to `to`, for an action with the move f.
 fn mark(task: &[u16], from: usize, to: usize, f: usize, own: u16, marks: &mut [u16; 4096])
     requires { ⌜ Facts (now task) from to ⌝ }
     ensures { λ _. ⌜ now (marks .exit) ≡ markAll own f (factsIn (now (task .entry)) from to) (now (marks .entry)) ⌝ }
@@ -170,13 +170,7 @@ fn later_return(
     if task::actions(task) <= h {
         return 65535;
     }
-    let d = state::asked(
-        task,
-        task::eff_start(task, h),
-        task::eff_end(task, h),
-        f / 64,
-    );
-    if d != f % 64 {
+    if state::target(task, h, f / 64) != f % 64 {
         return 65535;
     }
     if state::needs_fact(task, h, f) {
@@ -200,7 +194,7 @@ fn is_returned(task: &[u16], marks: &[u16; 4096], i: u16, f: usize, last: &mut [
     j != 65535
 }
 
-// An action that sets f from d, where that is an arc, has its return.
+// The arc from d of an action with the move f, if it is one, has its return.
 fn arc_returned(
     task: &[u16],
     marks: &[u16; 4096],
@@ -241,7 +235,7 @@ fn lacks_between(
     false
 }
 
-// Action j is complete: each value of the variable of f is set by an action that needs nothing but what j needs. 4,096 is no fact, so that
+// Action j is complete: the variable of f is changed to each of its values by an action that needs nothing but what j needs. 4,096 is no fact, so that
 // each fact of j is marked where it stands.
 fn is_complete(
     task: &[u16],
@@ -321,7 +315,7 @@ fn is_covered(
     false
 }
 
-// Some arc of an action that sets f, from any value, lacks its return. Where the variable has 16 values or more, a kept action may answer
+// Some arc of an action with the move f, from any value, lacks its return. Where the variable has 16 values or more, a kept action may answer
 // for all of them, and where none does one is looked for.
 fn lacks_anywhere(
     task: &[u16],
@@ -349,7 +343,7 @@ fn lacks_anywhere(
     false
 }
 
-// Some arc of action i, which sets f, lacks its return: the arc from the value that it needs, or from every value.
+// Some arc of action i, whose move is f, lacks its return: the arc from the value that it needs, or from every value.
 fn lacks_marked(
     task: &[u16],
     marks: &mut [u16; 4096],
@@ -363,12 +357,7 @@ fn lacks_marked(
     ensures ready { λ _. ⌜ Ready (taskIn (now (task .entry))) (2 * i + 2) (now (marks .exit)) (now (kept .exit)) ⌝ }
 {
     let own = (2 * i) as u16;
-    let d = state::asked(
-        task,
-        task::pre_start(task, i),
-        task::eff_start(task, i),
-        f / 64,
-    );
+    let d = state::need(task, i, f / 64);
     if d < 64 {
         return lacks_between(task, marks, own, f, d, d + 1, last);
     }

@@ -132,7 +132,7 @@ fn pass(
     let mut j = at;
     while j < plan.len() {
         let i = plan[j];
-        let d = paths::need(task, lists::wide(i), v);
+        let d = state::need(task, lists::wide(i), v);
         let w = lead_to(task, ever, memo, v, c, d, &mut plan[..j], e);
         let Written::Upto(x) = w else {
             return Written::Long;
@@ -153,7 +153,7 @@ fn idle(task: &[u16], v: usize, list: &[u16], e: usize) -> bool
 {
     let mut k: usize = 0;
     while k < e {
-        if paths::need(task, lists::wide(list[k]), v) < 64 {
+        if state::need(task, lists::wide(list[k]), v) < 64 {
             return false;
         }
         k += 1;

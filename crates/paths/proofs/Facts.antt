@@ -74,10 +74,3 @@ module _ (task : List ℕ) (L : Loaded task) (i : ℕ) (b : i < actions (taskIn 
 
   pub eff-inside : (k : ℕ) → effAt task i ≤ k → k < endAt task i → getD task k 0 / 64 < variables (taskIn task)
   eff-inside k l h = between-inside _ (count (taskIn task)) task (endAt task i) (L .rows i b .end-below) (effAt task i) k l h (rw eff-facts (L .formed .eff-sorted i))
-
-  module _ (v from to d : ℕ) (q : Asked (look (factsIn task from to) v) d) where
-    pub asked-pre : from ≡ preAt task i → to ≡ effAt task i → Asked (look (act (taskIn task) i .pre) v) d
-    asked-pre e f = rw (← pre-facts, ← e, ← f) q
-
-    pub asked-eff : from ≡ effAt task i → to ≡ endAt task i → Asked (look (act (taskIn task) i .eff) v) d
-    asked-eff e f = rw (← eff-facts, ← e, ← f) q

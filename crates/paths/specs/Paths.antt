@@ -56,7 +56,7 @@ leadOf t K v c d = numberOf (lead (act t) (actions t) K v (count t v) c d)
 abbrev pub Leads : Task → State → ℕ → ℕ → List ℕ → Type 0
 Leads t K v d row = (c : ℕ) → c < count t v → getD row c 0 ≡ leadOf t K v c d
 
--- action j sets v to a member of the set front that is below e
+-- action j changes v to a member of the set front that is below e
 abbrev pub Found : Task → ℕ → ℕ → ℕ → ℕ → Type 0
 Found t v front e j = (x : ℕ) × (x < e) × T (inSet front x) × Changes t v x j
 

@@ -41,28 +41,12 @@ pub fn next_member(set: u64, a: usize) -> usize
     if r < 64 { r } else { 64 }
 }
 
-// The value that action i needs of v, 64 for none.
-pub fn need(task: &[u16], i: usize, v: usize) -> usize
-    requires { ⌜ Loaded (now task) × (i < actions (taskIn (now task))) ⌝ }
-    ensures { λ r. ⌜ Asked (look (act (taskIn (now (task .entry))) i .pre) v) r ⌝ }
-{
-    state::asked(task, task::pre_start(task, i), task::eff_start(task, i), v)
-}
-
-// The value to which action i sets v, 64 for none.
-fn target(task: &[u16], i: usize, v: usize) -> usize
-    requires { ⌜ Loaded (now task) × (i < actions (taskIn (now task))) ⌝ }
-    ensures { λ r. ⌜ Asked (look (act (taskIn (now (task .entry))) i .eff) v) r ⌝ }
-{
-    state::asked(task, task::eff_start(task, i), task::eff_end(task, i), v)
-}
-
 // The values of the set from which action i, were it usable, gives an arc of v.
 fn sources(task: &[u16], i: usize, v: usize, rest: u64) -> u64
     requires { ⌜ Loaded (now task) × (i < actions (taskIn (now task))) ⌝ }
     ensures { λ r. ⌜ ((c : ℕ) → inSet r c ≡ (inSet rest c && fits (look (act (taskIn (now (task .entry))) i .pre) v) c)) ⌝ }
 {
-    let d = need(task, i, v);
+    let d = state::need(task, i, v);
     if d < 64 {
         rest & state::single(d)
     } else {
@@ -191,7 +175,7 @@ fn walk(
         }
         list[e] = i;
         e += 1;
-        x = target(task, lists::wide(i), v);
+        x = state::target(task, lists::wide(i), v);
         i = row[x];
     }
     Written::Upto(e)

@@ -58,6 +58,10 @@ unfoldable pub bothBlack : List ℕ
 bothBlack =
     16 ∷ 64 ∷ 4 ∷ 24 ∷ 0 ∷ 1 ∷ 128 ∷ 0 ∷ 0 ∷ 4 ∷ 8 ∷ 0 ∷ 65 ∷ 4 ∷ []
 
+-- the same with the effects 0=0, 1=1: clause 12.8, end
+unfoldable pub initialSet : List ℕ
+initialSet = 16 ∷ 64 ∷ 4 ∷ 24 ∷ 0 ∷ 1 ∷ 128 ∷ 0 ∷ 0 ∷ 4 ∷ 8 ∷ 0 ∷ 1 ∷ 4 ∷ []
+
 -- goal-met, 12.10
 unfoldable pub goalMet : List ℕ
 goalMet =
@@ -260,6 +264,8 @@ pub starred :
     × (called lampTwo 1 ≡ refusal 8 0 (65535 ∷ []))
     × (taskOf bothBlack ≡ task (blackOne 2 0 none ∷ blackOne 2 0 none ∷ []) (action 1 [] (fact 0 1 ∷ fact 1 1 ∷ []) ∷ []))
     × (called bothBlack 1 ≡ refusal 7 0 (65535 ∷ []))
+    × (taskOf initialSet ≡ task (blackOne 2 0 none ∷ blackOne 2 0 none ∷ []) (action 1 [] (fact 0 0 ∷ fact 1 1 ∷ []) ∷ []))
+    × (called initialSet 1 ≡ refusal 7 0 (65535 ∷ []))
     × (called [] 2 ≡ refusal 1 0 (65535 ∷ 65535 ∷ []))
     × (taskOf goalMet ≡ shelves 1 (driveOut ∷ driveBack ∷ pickUp ∷ putDown ∷ []))
     × (called goalMet 2 ≡ plan 0 (65535 ∷ 65535 ∷ []) 0 true 0)
@@ -307,9 +313,11 @@ unfolding times share blackProduct check andThen inOrder answer bitAt bitsAt hol
     cyclic fits leaves orZero target arcFrom outside returnBy lacksReturn unreturned acyclicCheck returnCheck known union everAfter usableArc adjacent
     pathIn shortest toward after pass fill ready clientsFirst order value blackMet moves stageSteps allSteps stagesFrom stages repaired lent
     capacity capacityOf roomCheck goalsCheck planned planOf planCall planList called outcome redPairs variables64 variables65 twoShelves withoutOne withoutTwo lampOne lampTwo
-    bothBlack goalMet tray door litReturn repeatedVariable withFour gate initialValues newer tracked track redBlackSteps stopsIn tabulate newestValues progress
+    bothBlack initialSet goalMet tray door litReturn repeatedVariable withFour gate initialValues newer tracked track redBlackSteps stopsIn tabulate newestValues progress
     newestCall newestList lengthCheck notBelow entriesCheck deskOf desk newest
 starred = (
+  refl,
+  refl,
   refl,
   refl,
   refl,

@@ -8,7 +8,7 @@ use Rattle.planning.specs.Basics.{Check, refuseAt, someBelow, first, rea
 use Rattle.planning.specs.Record.{Fact, Action, Task}
 use Rattle.planning.specs.Runs.{has, touches, look, holds, variables, actions, count, act, black}
 
--- 5.1: the facts of a list that are not among those of pre; the reduced effects of an action, those that it does not need
+-- 2.7 and 5.1: the facts of a list that are not among those of pre; the reduced effects of an action, those that it does not need
 unfoldable pub without : List Fact → List Fact → List Fact
 without pre [] = []
 without pre (f ∷ fs) = elim (has pre (f .var) (f .val)) [ true ↦ without pre fs | false ↦ f ∷ without pre fs ]
@@ -48,7 +48,7 @@ unfoldable pub orZero : Option ℕ → ℕ
 orZero none = 0
 orZero (some e) = e
 
--- 5.4: the value e to which action i sets v
+-- 5.4: the value e to which action i changes v, 0 if it does not
 unfoldable pub target : (ℕ → Action) → ℕ → ℕ → ℕ
 target act v i = orZero (look (reducedEffects (act i)) v)
 

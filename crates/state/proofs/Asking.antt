@@ -1,6 +1,6 @@
--- A list with at most one value for each variable has v = d exactly if d is the value that it asks of v.
-use mathlib.Core.Path.{_≡_, refl, _∙_}
-use mathlib.Core.Bool.{Bool}
+-- What the facts of an action ask of a variable. A list with at most one value for each variable has v = d exactly if d is the value that
+-- it asks of v.
+use mathlib.Core.Path.{_≡_, refl, _∙_, subst}
 use mathlib.Core.List.{List}
 use mathlib.Core.Option.{Option, none, some}
 use Prim.Native.Nat.{ℕ, _<_}
@@ -8,12 +8,14 @@ use native.Mathlib.Omega.{arith}
 use native.Mathlib.Decide.{ℕ-discrete}
 use borrow.Author.Tests.{eq-eqb, ne-eqb}
 use lib.Dec.{T, eqb}
-use Rattle.planning.specs.Record.{Fact, Task}
+use Rattle.planning.specs.Record.{Fact, Action, Task}
 use Rattle.planning.specs.Runs.{has, look, act, variables, count}
 use Rattle.planning.proofs.Tests.{T→true, F→false}
 use Rattle.planning.proofs.Facts.{Func, look-some, look-none}
 use Rattle.planning.proofs.Formed.{Formed, sorted-func}
+use Rattle.task.specs.Task.{factsIn, preAt, effAt, endAt, actionIn, taskIn}
 use Rattle.state.specs.Sets.{Asked}
+use Rattle.state.proofs.Listed.{Listed}
 
 pub asked-has : (fs : List Fact) → Func fs → (v d r : ℕ) → d < 64 → Asked (look fs v) r → eqb r d ≡ has fs v d
 asked-has fs F v d r b q = go (look fs v) refl q (ℕ-discrete r d)
@@ -25,6 +27,16 @@ asked-has fs F v d r b q = go (look fs v) refl q (ℕ-discrete r d)
         let y : x ≡ d = omega (arith, q .0) in
         rw (eq-eqb r d z, T→true (has fs v d) (look-some fs v d (e ∙ rw y refl))) refl
     go (some x) e q (no z) = rw (ne-eqb r d z, F→false (has fs v d) (λ h. z (q .0 ∙ F v x d (look-some fs v x e) h))) refl
+
+-- the facts of action i, by where they stand
+module _ (task : List ℕ) (i : ℕ) (L : Listed task i) (a b v x : ℕ) (q : Asked (look (factsIn task a b) v) x) where
+  pub asked-pre : a ≡ preAt task i → b ≡ effAt task i → Asked (look (act (taskIn task) i .pre) v) x
+  unfolding actionIn
+  asked-pre ea eb = subst (λ (y : Action). Asked (look (y .pre) v) x) (L .states) (rw (ea, eb) at q)
+
+  pub asked-eff : a ≡ effAt task i → b ≡ endAt task i → Asked (look (act (taskIn task) i .eff) v) x
+  unfolding actionIn
+  asked-eff ea eb = subst (λ (y : Action). Asked (look (y .eff) v) x) (L .states) (rw (ea, eb) at q)
 
 pub pre-func : (t : Task) → Formed t → (i : ℕ) → Func (act t i .pre)
 pre-func t F i = sorted-func (variables t) (count t) 0 (act t i .pre) (F .pre-sorted i)

@@ -182,18 +182,28 @@ pub fn asked(facts: &[u16], from: usize, to: usize, v: usize) -> usize
     64
 }
 
+// The value that action i needs of v, 64 for none.
+pub fn need(task: &[u16], i: usize, v: usize) -> usize
+    requires { ⌜ Loaded (now task) × (i < actions (taskIn (now task))) ⌝ }
+    ensures { λ r. ⌜ Asked (look (act (taskIn (now (task .entry))) i .pre) v) r ⌝ }
+{
+    asked(task, task::pre_start(task, i), task::eff_start(task, i), v)
+}
+
+// The value to which action i sets v, 64 for none.
+pub fn target(task: &[u16], i: usize, v: usize) -> usize
+    requires { ⌜ Loaded (now task) × (i < actions (taskIn (now task))) ⌝ }
+    ensures { λ r. ⌜ Asked (look (act (taskIn (now (task .entry))) i .eff) v) r ⌝ }
+{
+    asked(task, task::eff_start(task, i), task::eff_end(task, i), v)
+}
+
 // Fact f is among the preconditions of action i.
 pub fn needs_fact(task: &[u16], i: usize, f: usize) -> bool
     requires { ⌜ Loaded (now task) × (i < actions (taskIn (now task))) ⌝ }
     ensures { λ r. ⌜ r ≡ has (act (taskIn (now (task .entry))) i .pre) (f / 64) (f % 64) ⌝ }
 {
-    let d = asked(
-        task,
-        task::pre_start(task, i),
-        task::eff_start(task, i),
-        f / 64,
-    );
-    d == f % 64
+    need(task, i, f / 64) == f % 64
 }
 
 // The black variables, as a set of variables.

@@ -2,8 +2,8 @@
 --   row 0          the number of variables, the number of actions, the number of black variables in the order, 0
 --   row 1 + v      variable v: its count of values, 1 if it is black, its initial value, its goal (64 + value, or 0 for none)
 --   from 260 on    the clients-first order of the black variables                              64 places
---   from 324 on    for each fact 64 × variable + value the first action that sets it           4,096 places
---   from 4,420 on  for each action the next one that sets the same black fact                  1,024 places
+--   from 324 on    for each fact 64 × variable + value the first action that changes to it     4,096 places
+--   from 4,420 on  for each action the next one that changes to the same black fact            1,024 places
 --   row 1361 + i   action i: its cost, where its preconditions start, where its effects start, where they end
 --   behind         facts, each 64 × variable + value
 -- The loader writes all but the three parts from 260 on, which are written once the painting is looked at (Links.antt).
@@ -16,7 +16,7 @@ use Rattle.planning.specs.Record.{Fact, Action, Variable, Task, goalOf}
 use Rattle.planning.specs.Runs.{actions}
 use Rattle.planning.proofs.Formed.{Formed}
 
--- where the parts start: the order, the first actions and the next ones by the fact they set; the row of action 0; the end of those three
+-- where the parts start: the order, the first actions and the next ones by the fact to which they change; the row of action 0; the end of those three
 abbrev pub orderFrom : ℕ
 orderFrom = 260
 

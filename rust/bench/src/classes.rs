@@ -48,7 +48,7 @@ fn paintings() -> Vec<Class> {
     vec![
         // 256n moves of 16 black variables, each with one return among those of its variable.
         Class::new("painting, 16 black", |r, n| plan(&[extremes::returns(r, 256 * n)], 16)),
-        // The same where each move needs 13 black gates as they are and sets them so again.
+        // The same where each move needs 13 black gates at some value and sets them to it again.
         Class::new("painting, gates set again", |r, n| plan(&[extremes::gates(r, 256 * n)], 16)),
         // 256n moves of one black variable from anywhere: one return for all, then each its own, which
         // is another one than that of the action before.

@@ -14,7 +14,7 @@ const MOST_BYTES: usize = 60_000;
 const MAX_STEPS: usize = entry::MAX_STEPS;
 const SEARCHED_STATES: usize = 500;
 /// One record in so many must pass 7 only since facts set again make no arcs.
-const LEAST_GAINED: usize = 50;
+const LEAST_GAINED: usize = 16;
 
 pub fn run(options: &Options) -> Result<String, String> {
     let mut plans = Plans {
@@ -49,8 +49,8 @@ struct Plans {
     calls: usize,
     planned: usize,
     searched: usize,
-    /// Records in which an action sets again a black fact that it needs, and those of them that would
-    /// be refused with 7 if that made arcs.
+    /// Records in which an action that changes a black variable sets again a fact of another that it
+    /// needs, and those that would be refused with 7 if that made arcs.
     gated: usize,
     gained: usize,
 }

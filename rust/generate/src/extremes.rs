@@ -209,8 +209,8 @@ pub fn returns(random: &mut Random, actions: usize) -> Task {
     task
 }
 
-/// The same with black gates in place of what the moves share: each move needs all gates where they are
-/// and sets them so again.
+/// The same with black gates in place of what the moves share: each move needs every gate at the value of
+/// its own number, and sets it so again.
 pub fn gates(random: &mut Random, actions: usize) -> Task {
     const GATES: std::ops::Range<usize> = MOVERS..MOVERS + FACTS - 2;
     let variables = (0..VARIABLES).map(|v| variable(v < GATES.end, Some(0)));

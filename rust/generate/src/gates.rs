@@ -69,11 +69,14 @@ fn miss(random: &mut Random, task: &Task, action: Action) -> Option<Fact> {
     Some(Fact::new(v, value))
 }
 
-/// Whether an action sets again a black fact that it needs.
+/// Whether an action changes a black variable and sets again a fact of another that it needs.
 pub fn has_gate(task: &Task) -> bool {
-    let black = |fact: &Fact| task.variables[fact.variable()].black;
+    let black = |fact: &&Fact| task.variables[fact.variable()].black;
     task.actions().any(|action| {
-        action.effects.iter().any(|fact| black(fact) && action.preconditions.contains(fact))
+        let set = action.effects.iter().filter(black);
+        let (again, changed): (Vec<&Fact>, Vec<_>) =
+            set.partition(|fact| action.preconditions.contains(fact));
+        !again.is_empty() && !changed.is_empty()
     })
 }
 

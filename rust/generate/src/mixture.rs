@@ -13,14 +13,14 @@ pub fn record(random: &mut Random) -> Vec<u8> {
     bytes
 }
 
-/// One in three is changed so that its forward run has more to choose from, and one in three so that
-/// facts are set again.
+/// One in three is changed so that its forward run has more to choose from, and every second one so that
+/// facts are set again; of those with two black variables a third then has a gate that is.
 pub fn task(random: &mut Random) -> Task {
     let mut task = any_task(random);
     if random.chance(1, 3) {
         task = choices::with_choices(random, &task);
     }
-    if random.chance(1, 3) {
+    if random.chance(1, 2) {
         task = gates::with_gates(random, &task);
     }
     task

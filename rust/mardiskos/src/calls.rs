@@ -165,7 +165,6 @@ pub fn relax(record: &[u8]) -> Result<Vec<u16>, Refusal> {
 }
 
 /// The planner: the repair of the record's relaxed plan, with room for [`MAX_STEPS`]. Refuses with 7, 8, 10 and 11 too.
-/// For 7 and 8 an action does not change what it needs and sets to the same value again.
 ///
 /// ```
 /// # fn main() -> Result<(), Box<dyn std::error::Error>> {

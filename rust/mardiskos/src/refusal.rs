@@ -19,7 +19,8 @@ pub enum Reason {
     WrongVariable = 5,
     /// Padding that is not 0, or bytes behind it; the bit where the last field ends.
     WrongEnd = 6,
-    /// Black variables that depend on one another in a circle; the lowest of them.
+    /// Black variables that depend on one another in a circle, where setting again a fact that the action needs counts for
+    /// nothing; the lowest of them.
     BlackCycle = 7,
     /// An arc without its return; the lowest action with such an arc.
     NoReturn = 8,

@@ -239,8 +239,9 @@ fn returns() {
 fn a_gate_set_again_is_not_what_moves() {
     let mut store = example("gate");
     store.actions.retain(|action| action.name != "drive-back");
-    let words = "drive-out moves carriage from home to shelf, and no action moves it back; what is lacking is an action that sets carriage = home and needs nothing but carriage = shelf and gate = shut";
-    assert_eq!(of_store(&store), (8, 2, words.into()));
+    let begin = "drive-out moves carriage from home to shelf, and no action moves it back;";
+    let lacking = "what is lacking is an action that sets carriage = home and needs nothing but carriage = shelf and gate = shut";
+    assert_eq!(of_store(&store), (8, 2, format!("{begin} {lacking}")));
     store.actions[2].sets[0] = Fact::new(0, 0);
     let (number, place, words) = of_store(&store);
     assert_eq!((number, place), (7, 0));

@@ -8,10 +8,10 @@ use Rattle.graph.proofs.add_arcs.Tie as tie
 
 -- The rows so far with the arcs from the facts still to come are the rows at the end.
 abbrev Inv-loop : tie.InvT-loop
-Inv-loop rows₀ table from to changed paint k₀ rows k = Adding table from to changed paint rows₀ rows k
+Inv-loop rows₀ table from to targets paint k₀ rows k = Adding table from to targets paint rows₀ rows k
 
 abbrev μ-loop : tie.MeasureT-loop
-μ-loop rows₀ table from to changed paint k₀ rows k = to - k
+μ-loop rows₀ table from to targets paint k₀ rows k = to - k
 
 loop-holds : tie.Need-loop-holds Inv-loop μ-loop
 loop-holds c = adding-start _ _ _ _ _ _ (c .before .pre .0) (c .before .pre .1)

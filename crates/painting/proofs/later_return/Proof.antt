@@ -4,9 +4,6 @@ use Prim.Native.Nat.{_<_}
 use native.Mathlib.Omega.{arith}
 use Rattle.planning.specs.Runs.{actions}
 use Rattle.task.specs.Task.{taskIn}
-use Rattle.state.proofs.Listing.{loaded-listed}
-use Rattle.graph.proofs.Rows.{listed-effects}
-use Rattle.painting.proofs.Walks.{asked-eff}
 use Rattle.painting.proofs.Returns.{asked-chain, next-serves}
 use borrow.Author.Needs.{needs}
 use Rattle.painting.proofs.later_return.Statement.{statement}
@@ -21,26 +18,14 @@ returns c = inl refl
 below : (c : tie.Else1) → c .before .before .before .args .h < actions (taskIn (c .before .before .before .args .task .now))
 below c = omega (arith, c .before .actions .ensures)
 
-eff-start-requires : tie.Need-eff-start-requires
-eff-start-requires c κs = search needs
-
-eff-end-requires : tie.Need-eff-end-requires
-eff-end-requires c κs = search needs
-
-asked-requires : tie.Need-asked-requires
-asked-requires c κs =
-    let s = c .before in
-    let n = s .before in
-    let p = n .before .before .before .pre in
-    let L = loaded-listed _ (p .loaded) _ (below n) in
-    let F = listed-effects _ _ L _ _ (s .eff-start .ensures) (c .eff-end .ensures) in
-    (F .rises, F .within)
+target-requires : tie.Need-target-requires
+target-requires c κs = (c .before .before .before .pre .loaded, below c)
 
 returns-2 : tie.Need-returns-2
 returns-2 c = inl refl
 
 needs-fact-requires : tie.Need-needs-fact-requires
-needs-fact-requires c κs = let n = c .before .before .before .before in (n .before .before .before .pre .loaded, below n)
+needs-fact-requires c κs = let n = c .before .before in (n .before .before .before .pre .loaded, below n)
 
 returns-3 : tie.Need-returns-3
 returns-3 c = inl refl
@@ -49,13 +34,8 @@ first-return-requires : tie.Need-first-return-requires
 first-return-requires c κs =
     let d = c .before .before in
     let k = d .before .before in
-    let e = k .before in
-    let s = e .before in
-    let n = s .before in
-    let p = n .before .before .before .pre in
-    let L = loaded-listed _ (p .loaded) _ (below n) in
-    let q = asked-eff _ _ L _ _ _ _ (k .asked .ensures) (s .eff-start .ensures) (e .eff-end .ensures) in
-    (p, asked-chain _ _ _ _ _ q (omega arith) (d .before .if2 .left) (sym (d .needs-fact .ensures) ∙ c .before .if3 .left) (below n))
+    let n = k .before in
+    (n .before .before .before .pre, asked-chain _ _ _ _ _ (k .target .ensures) (omega arith) (d .before .if2 .left) (sym (d .needs-fact .ensures) ∙ c .before .if3 .left) (below n))
 
 returns-4 : tie.Need-returns-4
 returns-4 c = next-serves _ _ _ _ _ _ (c .first-return .ensures)
@@ -66,9 +46,7 @@ later-return-spec =
     (tie.spec
     actions-requires
     returns
-    eff-start-requires
-    eff-end-requires
-    asked-requires
+    target-requires
     returns-2
     needs-fact-requires
     returns-3

@@ -4,7 +4,7 @@ use borrow.Author.Needs.{needs}
 use Rattle.painting.proofs.link_all.Statement.{statement}
 use Rattle.painting.proofs.link_all.Tie as tie
 
--- The heads have the first action from i on that sets each black fact, and each such action has the next one behind it.
+-- The heads have the first action from i on with the move to each black fact, and each such action has the next one behind it.
 abbrev Inv-loop : tie.InvT-loop
 Inv-loop task₀ paint i₀ n task i = Linking task₀ task i
 

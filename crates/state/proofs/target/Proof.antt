@@ -1,9 +1,9 @@
 use borrow.Author.Needs.{needs}
 use native.Mathlib.Omega.{arith}
 use Rattle.state.proofs.Listing.{loaded-listed}
-use Rattle.paths.proofs.Facts.{asked-eff}
-use Rattle.paths.proofs.target.Statement.{statement}
-use Rattle.paths.proofs.target.Tie as tie
+use Rattle.state.proofs.Asking.{asked-eff}
+use Rattle.state.proofs.target.Statement.{statement}
+use Rattle.state.proofs.target.Tie as tie
 
 eff-start-requires : tie.Need-eff-start-requires
 eff-start-requires c κs = search needs
@@ -22,7 +22,7 @@ asked-requires c κs =
 returns : tie.Need-returns
 returns c =
     let s = c .before .before .before .before in
-    asked-eff _ (s .pre .0) _ (s .pre .1) (s .args .v) _ _ _ (c .asked .ensures) (c .before .before .eff-start .ensures) (c .before .eff-end .ensures)
+    asked-eff _ _ (loaded-listed _ (s .pre .0) _ (s .pre .1)) _ _ (s .args .v) _ (c .asked .ensures) (c .before .before .eff-start .ensures) (c .before .eff-end .ensures)
 
 pub target-spec : {M : Type 1} → statement M
 target-spec = tie.close (tie.spec eff-start-requires eff-end-requires asked-requires returns)

@@ -1,9 +1,9 @@
 use borrow.Author.Needs.{needs}
 use native.Mathlib.Omega.{arith}
 use Rattle.state.proofs.Listing.{loaded-listed}
-use Rattle.paths.proofs.Facts.{asked-pre}
-use Rattle.paths.proofs.need.Statement.{statement}
-use Rattle.paths.proofs.need.Tie as tie
+use Rattle.state.proofs.Asking.{asked-pre}
+use Rattle.state.proofs.need.Statement.{statement}
+use Rattle.state.proofs.need.Tie as tie
 
 pre-start-requires : tie.Need-pre-start-requires
 pre-start-requires c κs = search needs
@@ -22,7 +22,7 @@ asked-requires c κs =
 returns : tie.Need-returns
 returns c =
     let s = c .before .before .before .before in
-    asked-pre _ (s .pre .0) _ (s .pre .1) (s .args .v) _ _ _ (c .asked .ensures) (c .before .before .pre-start .ensures) (c .before .eff-start .ensures)
+    asked-pre _ _ (loaded-listed _ (s .pre .0) _ (s .pre .1)) _ _ (s .args .v) _ (c .asked .ensures) (c .before .before .pre-start .ensures) (c .before .eff-start .ensures)
 
 pub need-spec : {M : Type 1} → statement M
 need-spec = tie.close (tie.spec pre-start-requires eff-start-requires asked-requires returns)
