@@ -89,22 +89,35 @@ module _ (t : Task) (m : ℕ) (b : Bool) (eb : b ≡ reachesGoals t) (f : ℕ) (
     unfolding forwardOf forwardIn
     forward-list = rw el (called-list t (forwardRun t) m x solved)
 
--- and before
-module _ (s : List ℕ) (m : ℕ) where
-  abbrev y : Forward
-  y = record { steps = length (forwardRun (taskOf s)); reached = factsReached (taskOf s) }
+-- and before: any answer x with any list l, of a record's task, behind the record's own check
+module _ {A : Type 0} (s : List ℕ) (m : ℕ) (x : Task → A) (l : Task → List ℕ) where
+  abbrev whole : Answer A
+  whole = answer (inOrder (recordCheck s ∷ goalsCheck (taskOf s) ∷ roomCheck (length (l (taskOf s))) (capacity m) ∷ [])) (x (taskOf s))
 
   abbrev rest : List Check
-  rest = goalsCheck (taskOf s) ∷ roomCheck (length (forwardRun (taskOf s))) (capacity m) ∷ []
+  rest = goalsCheck (taskOf s) ∷ roomCheck (length (l (taskOf s))) (capacity m) ∷ []
+
+  pub called-refused : (p q : ℕ) → refuse p q ≡ recordCheck s → (refused p q ≡ whole) × (replicate m 65535 ≡ lent whole m (l (taskOf s)))
+  called-refused p q e =
+      let z = hit (recordCheck s) rest p q (x (taskOf s)) (sym e) in
+      (z, lent-refused whole p q m (l (taskOf s)) (sym z))
+
+  pub called-accepts : recordCheck s ≡ none → (t : Task) → t ≡ taskOf s
+      → (called t (l t) m (x t) ≡ whole) × (lent (called t (l t) m (x t)) m (l t) ≡ lent whole m (l (taskOf s)))
+  unfolding called
+  called-accepts e t et =
+      let z : called (taskOf s) (l (taskOf s)) m (x (taskOf s)) ≡ whole = skip (recordCheck s) rest (called (taskOf s) (l (taskOf s)) m (x (taskOf s))) (x (taskOf s)) e refl in
+      rw et (z, ap (λ a. lent a m (l (taskOf s))) z)
+
+-- the forward run's
+module _ (s : List ℕ) (m : ℕ) where
+  abbrev told : Task → Forward
+  told t = record { steps = length (forwardRun t); reached = factsReached t }
 
   pub forward-refused : (p q : ℕ) → refuse p q ≡ recordCheck s → (refused p q ≡ forwardCall s m) × (replicate m 65535 ≡ forwardList s m)
   unfolding forwardCall forwardList
-  forward-refused p q e =
-      let z = hit (recordCheck s) rest p q y (sym e) in
-      (z, lent-refused (forwardCall s m) p q m (forwardRun (taskOf s)) (sym z))
+  forward-refused = called-refused s m told forwardRun
 
   pub forward-accepts : recordCheck s ≡ none → (t : Task) → t ≡ taskOf s → (forwardOf t m ≡ forwardCall s m) × (forwardIn t m ≡ forwardList s m)
-  unfolding forwardCall forwardList forwardOf forwardIn called
-  forward-accepts e t et =
-      let z : forwardOf (taskOf s) m ≡ forwardCall s m = skip (recordCheck s) rest (forwardOf (taskOf s) m) y e refl in
-      rw et (z, ap (λ a. lent a m (forwardRun (taskOf s))) z)
+  unfolding forwardCall forwardList forwardOf forwardIn
+  forward-accepts = called-accepts s m told forwardRun

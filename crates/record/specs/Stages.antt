@@ -7,7 +7,8 @@ use Prim.Native.Nat.{ℕ, _+_, _*_, _/_, _%_, _≤_, _<_}
 use lib.Dec.{leb, ltb}
 use lib.ListN.{length, getD}
 use Rattle.planning.specs.Basics.{Check, check, inOrder, bitsAt}
-use Rattle.planning.specs.Record.{variableBit, variablesIn, actionsIn, countIn, preconditionsIn, effectsIn, effectsFrom, fieldCheck, goalFits, variablesChecks, factsChecks, actionsChecks, endsAt, recordEnd}
+use Rattle.planning.specs.Record.{variableBit, variablesIn, actionsIn, countIn, preconditionsIn, effectsIn, effectsFrom}
+use Rattle.planning.specs.Record.{fieldCheck, goalFits, variablesChecks, factsChecks, actionsChecks, endsAt, recordEnd}
 use Rattle.bits.specs.Windows.{Leading}
 
 -- the list holds the count of values of each of the first n variables, and 0 behind them

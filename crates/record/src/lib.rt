@@ -11,9 +11,11 @@ ghost use mathlib.Core.Option.{none};
 ghost use Prim.Native.Nat.{_+_, _*_, _<_, _≤_};
 ghost use lib.ListN.{length};
 ghost use Rattle.planning.specs.Basics.{answer, done, inOrder, bitsAt};
-ghost use Rattle.planning.specs.Record.{variablesIn, actionsIn, preconditionsIn, effectsIn, actionEnd, actionsEnd, recordEnd, fieldCheck, variableChecks, variablesChecks, factChecks, factsChecks, actionChecks, actionsChecks, recordCheck};
+ghost use Rattle.planning.specs.Record.{variablesIn, actionsIn, preconditionsIn, effectsIn, actionEnd, actionsEnd, recordEnd};
+ghost use Rattle.planning.specs.Record.{fieldCheck, variableChecks, variablesChecks, factChecks, factsChecks, actionChecks, actionsChecks, recordCheck};
 ghost use Rattle.answers.specs.Answers.{checkOf, valueOf};
-ghost use Rattle.record.specs.Stages.{actionFactsChecks, Counts, Known, Few, SoundVariable, Sound, fromEnd, fromActions, fromVariables, fromActionCount, fromVariableCount, goalChecks, initialChecks};
+ghost use Rattle.record.specs.Stages.{actionFactsChecks, Counts, Known, Few, SoundVariable, Sound};
+ghost use Rattle.record.specs.Stages.{fromEnd, fromActions, fromVariables, fromActionCount, fromVariableCount, goalChecks, initialChecks};
 
 // A field, or refusal 1 at its first bit.
 fn take(bytes: &[u8], at: u32, width: usize) -> Number

@@ -7,18 +7,17 @@ use Prim.Native.Nat.{ℕ, _-_, _≤_}
 use native.Mathlib.Omega.{arith}
 use lib.ListN.{length, drop, replicate, length-drop, length-append}
 use lib.Seq.{take-at}
-use Rattle.planning.specs.Basics.{Check, refuse, refused, done}
+use Rattle.planning.specs.Basics.{refuse, refused, done}
 use Rattle.planning.specs.Record.{Task, taskOf, recordCheck}
 use Rattle.planning.specs.Runs.{State}
 use Rattle.planning.specs.Relaxed.{factsReached, relaxedPlan}
-use Rattle.planning.specs.Calls.{lent, capacity, roomCheck, goalsCheck, relaxCall, relaxList}
-use Rattle.answers.proofs.Stages.{skip, hit}
+use Rattle.planning.specs.Calls.{capacity, roomCheck, relaxCall, relaxList}
 use Rattle.lists.specs.Lent.{laid}
 use Rattle.state.specs.Sets.{setsOf}
 use Rattle.state.proofs.Members.{inSet-empty}
 use Rattle.forward.specs.Answers.{called}
 use Rattle.forward.proofs.Chains.{zeros}
-use Rattle.forward.proofs.Answers.{called-unsolved, called-whole, called-short, called-list, lent-refused}
+use Rattle.forward.proofs.Answers.{called-unsolved, called-whole, called-short, called-list, called-refused, called-accepts, lent-refused}
 use Rattle.relax.specs.Keeping.{Joined, Front, Found, Unfound}
 use Rattle.relax.specs.Answers.{relaxOf, relaxIn}
 
@@ -45,20 +44,13 @@ module _ (t : Task) (m : ℕ) where
 
 -- and before
 module _ (s : List ℕ) (m : ℕ) where
-  abbrev rest : List Check
-  rest = goalsCheck (taskOf s) ∷ roomCheck (length (relaxedPlan (taskOf s))) (capacity m) ∷ []
-
   pub relax-refused : (p q : ℕ) → refuse p q ≡ recordCheck s → (refused p q ≡ relaxCall s m) × (replicate m 65535 ≡ relaxList s m)
   unfolding relaxCall relaxList
-  relax-refused p q e =
-      let z = hit (recordCheck s) rest p q (length (relaxedPlan (taskOf s))) (sym e) in
-      (z, lent-refused (relaxCall s m) p q m (relaxedPlan (taskOf s)) (sym z))
+  relax-refused = called-refused s m (λ t. length (relaxedPlan t)) relaxedPlan
 
   pub relax-accepts : recordCheck s ≡ none → (t : Task) → t ≡ taskOf s → (relaxOf t m ≡ relaxCall s m) × (relaxIn t m ≡ relaxList s m)
-  unfolding relaxCall relaxList relaxOf relaxIn called
-  relax-accepts e t et =
-      let z : relaxOf (taskOf s) m ≡ relaxCall s m = skip (recordCheck s) rest (relaxOf (taskOf s) m) (length (relaxedPlan (taskOf s))) e refl in
-      rw et (z, ap (λ a. lent a m (relaxedPlan (taskOf s))) z)
+  unfolding relaxCall relaxList relaxOf relaxIn
+  relax-accepts = called-accepts s m (λ t. length (relaxedPlan t)) relaxedPlan
 
 -- the facts of a list alone: those that join sets that hold nothing
 pub joined-alone : (f : State) (before after : List ℕ) → before ≡ replicate 64 0 → Joined f before after → setsOf after ≡ f
