@@ -1,5 +1,5 @@
-/* Calls every function of the header on two shelves (and a tray, two shelves with a fifth action, and a gate) and on
- * records and lists with faults, and prints what comes back, the lists lent with all their entries. */
+/* Calls every function of the header on two shelves (and a tray, two shelves with a fifth action, a gate, and a detour) and
+ * on records and lists with faults, and prints what comes back, the lists lent with all their entries. */
 #include "mardiskos.h"
 #include "output.h"
 
@@ -25,6 +25,14 @@ static const uint8_t gate[50] = {
     0x00, 0x00, 0x40, 0x00, 0x44, 0x40, 0x04, 0x00, 0x00, 0x01, 0x08, 0x80, 0x04, 0x10,
     0x00, 0x04, 0x10, 0x40, 0x01, 0x08, 0x80, 0x04, 0x10, 0x40, 0x04, 0x10, 0x00, 0x00,
     0x8c, 0x40, 0x00, 0x10, 0x42, 0x00, 0x20, 0x40,
+};
+
+/* A carriage with a dear move from where it fetches a box and two cheap ones the same way: 410 bits. */
+static const uint8_t detour[52] = {
+    0x10, 0x40, 0x1c, 0x28, 0x10, 0x01, 0x01, 0x04, 0x00, 0x14, 0x44, 0x00, 0x80,
+    0x00, 0x00, 0x04, 0x44, 0x00, 0x00, 0x04, 0x00, 0x04, 0x44, 0x00, 0x40, 0x08,
+    0x00, 0x04, 0x44, 0x00, 0x80, 0x04, 0x00, 0x04, 0x44, 0x00, 0x40, 0x00, 0x00,
+    0x14, 0x44, 0x00, 0x00, 0x08, 0x00, 0x04, 0x84, 0x00, 0x81, 0x00, 0x10, 0x40,
 };
 
 /* A tray and two boxes, all red, and two actions, each of which loads a box on the tray. */
@@ -161,7 +169,8 @@ static void plan(const char *what, const uint8_t *record, size_t record_len, siz
     print_plan(p, list, len, work, work_len);
 }
 
-/* Each way from the record to a plan, with room and without; then with action 4, with room; then the gate's plan. */
+/* Each way from the record to a plan, with room and without; then with action 4, with room; then the plans of gate and
+ * detour. */
 static void plans(void)
 {
     forward("", two_shelves, sizeof two_shelves, 4);
@@ -175,6 +184,7 @@ static void plans(void)
     relax(", with action 4", two_shelves_with_4, sizeof two_shelves_with_4, 4);
     plan(", with action 4", two_shelves_with_4, sizeof two_shelves_with_4, ENTRIES, 4);
     plan(", gate", gate, sizeof gate, GATE_ENTRIES, 7);
+    plan(", detour", detour, sizeof detour, ENTRIES, 5);
 }
 
 static void repair(const char *what, const uint16_t *actions, size_t count, size_t len)

@@ -77,8 +77,8 @@ extern "C" {
 #endif
 
 /* The version, as text and as 10,000 * major + 100 * minor + patch. */
-#define MARDISKOS_VERSION "0.4.0"
-#define MARDISKOS_VERSION_NUMBER 400
+#define MARDISKOS_VERSION "0.5.0"
+#define MARDISKOS_VERSION_NUMBER 500
 
 #define MARDISKOS_NUMBER(code) ((unsigned)((code) % 32))
 #define MARDISKOS_PLACE(code) ((code) / 32)
@@ -205,6 +205,9 @@ typedef struct {
 /* The planner: the repair of the record's relaxed plan. The plan fills the front of the plan list and
  * 65,535 the rest. The length of the work list bounds the plan's as that of the plan list does; it holds
  * 65,535 throughout afterwards, always. Refuses with 1 to 8, 10, 11.
+ *
+ * The way on which inserted moves bring a black variable to a value is one of least cost; of several one of
+ * fewest moves; of those the one with the lower action at the first place where they differ.
  *
  * With F the sum over all variables of the count of values less one, and P the product of the black
  * variables' counts of values (1 if none is black), for every record that passes 1 to 8:

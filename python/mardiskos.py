@@ -19,7 +19,7 @@ from array import array
 from ctypes import c_bool, c_char_p, c_size_t, c_uint32, c_uint64, c_void_p
 from typing import Iterable, List, NamedTuple
 
-__version__ = "0.4.0"
+__version__ = "0.5.0"
 
 MAX_STEPS = 32768
 MAX_VARIABLES = 64
@@ -220,7 +220,9 @@ def relax(record: bytes) -> List[int]:
 
 
 def plan(record: bytes, room: int = MAX_STEPS) -> Plan:
-    """The planner: the repair of the record's relaxed plan. `room` is the most steps wanted. Refuses with 7, 8, 10, 11 too."""
+    """The planner: the repair of the record's relaxed plan. `room` is the most steps wanted. Inserted moves take a
+    cheapest way; of several one with the fewest moves, then the one with the lower action where they first differ. Refuses
+    with 7, 8, 10, 11 too."""
     steps, work = _room(room), _room(room)
     return _plan(_library.mardiskos_plan(*_bytes(record), *_lend(steps), *_lend(work)), steps)
 

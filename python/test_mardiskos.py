@@ -71,6 +71,11 @@ class Calls(unittest.TestCase):
         self.assertEqual(mardiskos.plan(record), Plan([0, 2, 1, 4, 0, 3, 1], 14, 7, True))
         self.assertEqual(mardiskos.newest(record, [0, 2]), ([1, 1, 0], 2, 2))
 
+    def test_cheapest_way_back(self):
+        self.assertEqual(mardiskos.plan(example("detour")), Plan([1, 2, 6, 3, 4], 5, 5, True))
+        self.assertEqual(mardiskos.plan(example("ring")), Plan([0, 1, 2, 8, 6], 1, 5, True))
+        self.assertEqual(mardiskos.plan(example("diamond")), Plan([0, 1, 2, 10, 3, 6], 7, 6, True))
+
     def test_plan(self):
         self.assertEqual(mardiskos.plan(TWO_SHELVES), Plan([0, 2, 1, 3], 10, 4, True))
         self.assertEqual(mardiskos.plan(example("goal-met")), Plan([], 0, 0, True))

@@ -16,7 +16,7 @@ use Rattle.planning.specs.Runs.{State, Mode, has, holds, step, variables, actio
 use Rattle.planning.specs.Newest.{Values, initialValues, newer, tracked, alone, redBlackSteps, stopsIn}
 use Rattle.planning.proofs.Tests.{T→true, true→T}
 use Rattle.planning.proofs.Facts.{holds→sub, sub→holds}
-use Rattle.planning.proofs.Formed.{Formed, sorted-has, sorted-func, goals-sorted}
+use Rattle.planning.proofs.Formed.{Formed, sorted-has, eff-func, goals-sorted}
 use Rattle.planning.proofs.Steps.{run-mono}
 use Rattle.planning.proofs.Prefixes.{runBy-behind, stepsBy-on, stepsBy-fails, stepsBy-stopped, stepsBy-le}
 use Rattle.planning.proofs.Newest.{newestAfter, track-sets, track-newest, real-applies, real-holds}
@@ -162,7 +162,7 @@ module _ (t : Task) (l : List ℕ) where
         → s′ ≡ step relaxed (act t i) s → f′ ≡ newer (act t i) f → Following s′ f′ (k + 1) r
     following-turn r s′ f′ er ha es ef = record {
       traced = tracing-turn t l F (shown s f) f k runs (p .traced) h i ei r (shown s′ f′) f′ er ha
-          (rw (es, ef) (redBlack-step (black t) (act t i) (sorted-func (variables t) (count t) 0 (act t i .eff) (F .eff-sorted i)) s f)) ef;
+          (rw (es, ef) (redBlack-step (black t) (act t i) (eff-func t F i) s f)) ef;
       held = rw (one-more t l F (shown s f) f k runs (p .traced) h i ei, runBy-behind (λ i. step relaxed (act t i)) (take k l) i (initial t), ← p .held) es;
     }
 

@@ -15,7 +15,7 @@ use Rattle.planning.specs.Runs.{Mode, has, variables, actions, act, black, coun
 use Rattle.planning.specs.Painting.{reducedEffects}
 use Rattle.planning.proofs.Facts.{has-here, has-there, has-cases, has→touches}
 use Rattle.planning.proofs.Arcs.{reduced-elim, reduced-func}
-use Rattle.planning.proofs.Formed.{Formed, sorted-has, sorted-func}
+use Rattle.planning.proofs.Formed.{Formed, sorted-has, eff-func}
 use Rattle.planning.proofs.Painting.{black-inside, one-black}
 use Rattle.task.specs.Task.{taskIn, Loaded}
 use Rattle.task.specs.Links.{headAt, nextAt, linked, Next, Changes, Chained, Link, Relinked, Unlinked}
@@ -126,7 +126,7 @@ module _ (task₀ : List ℕ) (paint : ℕ) (A : Acyclic task₀ paint) where
   one-move i v e w x b ov ow h g =
       let q : v ≡ w = one-black (taskIn task₀) F (A .acyclic) i v w b (has→touches (reducedEffects (act (taskIn task₀) i)) v e h) (has→touches (reducedEffects (act (taskIn task₀) i)) w x g) ov ow in
       let k : T (has (reducedEffects (act (taskIn task₀) i)) w e) = subst (λ (y : ℕ). T (has (reducedEffects (act (taskIn task₀) i)) y e)) q h in
-      (q, reduced-func (act (taskIn task₀) i) (sorted-func (variables (taskIn task₀)) (count (taskIn task₀)) 0 (act (taskIn task₀) i .eff) (F .eff-sorted i)) w e x k g)
+      (q, reduced-func (act (taskIn task₀) i) (eff-func (taskIn task₀) F i) w e x k g)
 
   module _ (task : List ℕ) (i : ℕ) (L : Linking task₀ task (i + 1)) where
     below : i < actions (taskIn task₀)

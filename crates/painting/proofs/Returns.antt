@@ -16,9 +16,9 @@ use Rattle.planning.specs.Runs.{State, has, look, holds, variables, actions, ac
 use Rattle.planning.specs.Painting.{reducedEffects, arcFrom, target, orZero, outside, returnBy, lacksReturn, cyclic}
 use Rattle.planning.proofs.Tests.{T→true, true→T, F→false, T-cases, and-l, and-r, and-i}
 use Rattle.planning.proofs.Below.{some-intro, some-elim}
-use Rattle.planning.proofs.Facts.{has-cases, has-here, has-there, has-nil, has-++, holds→sub, sub→holds, has→touches, Func, look-some, look-none, look-is}
+use Rattle.planning.proofs.Facts.{has-cases, has-here, has-there, has-nil, has-++, holds→sub, sub→holds, has→touches, look-some, look-none, look-is}
 use Rattle.planning.proofs.Arcs.{Arc, reduced-intro, reduced-elim, reduced-func, arc-reduced, arcFrom-elim, arcFrom-intro}
-use Rattle.planning.proofs.Formed.{Formed, Sorted, sorted-func, sorted-has}
+use Rattle.planning.proofs.Formed.{Formed, Sorted, sorted-has, pre-func, eff-func}
 use Rattle.planning.proofs.Painting.{black-inside, has-outside, outside-has, one-black}
 use Rattle.task.specs.Task.{taskIn}
 use Rattle.task.specs.Links.{headAt, nextAt, Next, Changes}
@@ -80,12 +80,6 @@ module _ (t : Task) (m : State) (v e : ℕ) where
       (k, r .1, λ z. T-not (eqb (a + k) e) (search and-l) (rw z (eqb-refl e)), search and-r)
 
 module _ (t : Task) (F : Formed t) where
-  pre-func : (i : ℕ) → Func (act t i .pre)
-  pre-func i = sorted-func (variables t) (count t) 0 (act t i .pre) (F .pre-sorted i)
-
-  eff-func : (i : ℕ) → Func (act t i .eff)
-  eff-func i = sorted-func (variables t) (count t) 0 (act t i .eff) (F .eff-sorted i)
-
   pre-small : (i u x : ℕ) → T (has (act t i .pre) u x) → (u < 64) × (x < 64)
   pre-small i u x h =
       let I = sorted-has (variables t) (count t) 0 (act t i .pre) (F .pre-sorted i) u x h in
@@ -100,7 +94,7 @@ module _ (t : Task) (F : Formed t) where
   module _ (i v e : ℕ) (m : State) (moves : T (has (reducedEffects (act t i)) v e)) (A : Allows v e (act t i .pre ++ act t i .eff) m) where
     aim : target (act t) v i ≡ e
     unfolding target orZero
-    aim = rw (look-is (reducedEffects (act t i)) v e (reduced-func (act t i) (eff-func i)) moves (look (reducedEffects (act t i)) v) refl) refl
+    aim = rw (look-is (reducedEffects (act t i)) v e (reduced-func (act t i) (eff-func t F i)) moves (look (reducedEffects (act t i)) v) refl) refl
 
     union : List Fact
     union = outside v (act t i .pre) ++ outside v (act t i .eff)
@@ -130,7 +124,7 @@ module _ (t : Task) (F : Formed t) where
             let a : T (arcFrom (act t) v (target (act t) v i) j) = search (and-l, and-r) in
             let q : target (act t) v j ≡ d = eqb→eq (target (act t) v j) d (search (and-l, and-r)) in
             let o : T (holds (has (outside v (act t i .pre) ++ outside v (act t i .eff))) (outside v (act t j .pre))) = search (and-l, and-r) in
-            let x = arcFrom-elim (act t) v (target (act t) v i) j (pre-func j) a in
+            let x = arcFrom-elim (act t) v (target (act t) v i) j (pre-func t F j) a in
             let c = subst (λ (y : ℕ). T (has (reducedEffects (act t j)) v y)) q (arc-reduced (act t) v (target (act t) v i) (target (act t) v j) j x) in
             and-i (has (reducedEffects (act t j)) v d) (holds m (act t j .pre)) c
             (sub→holds m (act t j .pre) (λ u y g. need u y g (ℕ-discrete u v) x o))
@@ -148,7 +142,7 @@ module _ (t : Task) (F : Formed t) where
         back h =
             let s : T (has (reducedEffects (act t j)) v d) = search (and-l, and-r) in
             let p : T (holds m (act t j .pre)) = search (and-l, and-r) in
-            let r = arcFrom-intro (act t) v (target (act t) v i) d j (eff-func j) (record {
+            let r = arcFrom-intro (act t) v (target (act t) v i) d j (eff-func t F j) (record {
               from = λ x g. A .only x (pre-small j v x g .1) (holds→sub m (act t j .pre) p v x g) ∙ sym aim;
               into = reduced-elim (act t j) v d s .0;
               leaves′ = λ z. n (sym z ∙ aim);
@@ -176,7 +170,7 @@ module _ (t : Task) (F : Formed t) where
       unfolding lacksReturn
       lack-of d h =
           let a : T (arcFrom (act t) v d i) = search (and-l, and-r) in
-          let x = arcFrom-elim (act t) v d i (pre-func i) a in
+          let x = arcFrom-elim (act t) v d i (pre-func t F i) a in
           let n : d ≢ e = λ z. x .leaves′ (z ∙ sym aim) in
           let r : T (not (someBelow (actions t) (returnBy t v d i))) = search (and-l, and-r) in
           (n, x .from, subst (λ (b : Bool). T (not b)) (returned-is d n) r)
@@ -184,7 +178,7 @@ module _ (t : Task) (F : Formed t) where
       lack-intro : (d : ℕ) → d ≢ e → ((x : ℕ) → T (has (act t i .pre) v x) → x ≡ d) → T (not (returned t m v d)) → T (lacksReturn t i v d)
       unfolding lacksReturn
       lack-intro d n f r =
-          let a = arcFrom-intro (act t) v d e i (eff-func i) (record { from = f; into = reduced-elim (act t i) v e moves .0; leaves′ = n }) in
+          let a = arcFrom-intro (act t) v d e i (eff-func t F i) (record { from = f; into = reduced-elim (act t i) v e moves .0; leaves′ = n }) in
           let b : T (arcFrom (act t) v d i) = a .0 in
           let q : T (not (someBelow (actions t) (returnBy t v d i))) = subst (λ (b : Bool). T (not b)) (sym (returned-is d n)) r in
           and-i (black t v && arcFrom (act t) v d i) (not (someBelow (actions t) (returnBy t v d i))) (and-i (black t v) (arcFrom (act t) v d i) bv b) q
@@ -195,7 +189,7 @@ module _ (t : Task) (F : Formed t) where
       only-move w d h =
           let a : T (arcFrom (act t) w d i) = search (and-l, and-r) in
           let o : T (black t w) = search (and-l, and-r) in
-          let x = arcFrom-elim (act t) w d i (pre-func i) a in
+          let x = arcFrom-elim (act t) w d i (pre-func t F i) a in
           let c = has→touches (reducedEffects (act t i)) w (target (act t) w i) (arc-reduced (act t) w d (target (act t) w i) i x) in
           one-black t F Y i w v ib c (has→touches (reducedEffects (act t i)) v e moves) o bv
 
@@ -215,7 +209,7 @@ module _ (t : Task) (F : Formed t) where
               let z : d + r .0 ≡ d = omega (arith, r .1) in
               let g : T (has (act t i .pre) v d) = look-some (act t i .pre) v d q in
               at-v d (sorted-has (variables t) (count t) 0 (act t i .pre) (F .pre-sorted i) v d g .val-below)
-              (lack-intro d (λ y. r .2 (z ∙ y)) (λ x k. pre-func i v x d k g) (subst (λ (y : ℕ). T (not (returned t m v y))) z (r .3)))
+              (lack-intro d (λ y. r .2 (z ∙ y)) (λ x k. pre-func t F i v x d k g) (subst (λ (y : ℕ). T (not (returned t m v y))) z (r .3)))
 
           look-here : (o : Option ℕ) → look (act t i .pre) v ≡ o → (d : ℕ) → d < count t v → T (lacksReturn t i v d) → T (arcsBy o t m v e)
           look-here none q d b h =
@@ -269,7 +263,7 @@ module _ (t : Task) (F : Formed t) where
   lacks-none i absent = some-lacks (variables t) (λ v. someBelow (count t v) (lacksReturn t i v)) (λ v _. some-lacks (count t v) (lacksReturn t i v) (λ d _. F→false (lacksReturn t i v d) (λ h.
       let a : T (arcFrom (act t) v d i) = search (and-l, and-r) in
       let o : T (black t v) = search (and-l, and-r) in
-      absent v (target (act t) v i) o (arc-reduced (act t) v d (target (act t) v i) i (arcFrom-elim (act t) v d i (pre-func i) a)))))
+      absent v (target (act t) v i) o (arc-reduced (act t) v d (target (act t) v i) i (arcFrom-elim (act t) v d i (pre-func t F i) a)))))
 
 -- an action is in the chain of v = d where the value that its effects ask of v is d, and it does not need v = d
 pub asked-chain : (t : Task) (j v d x : ℕ) → Asked (look (act t j .eff) v) x → d < 64 → x ≡ d → has (act t j .pre) v d ≡ false → j < actions t → InChain t v d j

@@ -1,4 +1,4 @@
-// One pass for one black variable: the list built so far, with a shortest path inserted before each entry that needs a value of
+// One pass for one black variable: the list built so far, with the best path inserted before each entry that needs a value of
 // the variable, and at the end if a value is wanted.
 use paths::Written;
 ghost use mathlib.Core.Path.{_≡_};

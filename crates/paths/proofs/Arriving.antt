@@ -1,234 +1,192 @@
--- The walk along one chain, the values of one layer, and the search as a whole.
-use mathlib.Core.Path.{_≡_, refl, sym, ap, _∙_, subst}
+-- The walk along one chain: what the actions of it before the present one give is noted. At the start these are none, and each turn adds
+-- one, since the chain leaves no action out that changes v to x.
+use mathlib.Core.Path.{_≡_, refl, sym, _∙_, subst}
 use mathlib.Core.Logic.{_⊎_, inl, inr}
-use mathlib.Core.Bool.{Bool, true, false, not, _&&_}
+use mathlib.Core.Bool.{Bool, true, false, _&&_}
 use mathlib.Core.List.{List}
-use Prim.Native.Nat.{ℕ, zero, suc, _+_, _-_, _*_, _/_, _%_, _^_, _<_, _≤_}
-use native.Mathlib.Numerals.{add-one}
+use Prim.Native.Nat.{ℕ, _+_, _*_, _<_, _≤_, min}
 use native.Mathlib.Omega.{arith}
+use native.Mathlib.Nat.{min-eq-left, min-eq-right}
 use native.Mathlib.Decide.{ℕ-discrete, decLt}
-use lib.Bits.{bitOr, bitXor}
-use lib.Dec.{T, eqb, ltb, lt→ltb, eqb→eq}
-use lib.ListN.{length, getD, replicate}
-use lib.Pow.{high, ones-split, ones-lt}
+use lib.Bits.{bitOr}
+use lib.Dec.{T}
+use lib.ListN.{length, getD}
 use Rattle.planning.specs.Record.{Task}
-use Rattle.planning.specs.Runs.{State, actions, count, act, black}
+use Rattle.planning.specs.Runs.{State, actions, act, black}
+use Rattle.planning.specs.Painting.{target}
 use Rattle.planning.specs.Repair.{usableArc}
-use Rattle.planning.proofs.Tests.{and-l, and-r, and-i}
+use Rattle.planning.proofs.Tests.{or-l, or-r, or-cases, and-l, and-r, and-i}
 use Rattle.planning.proofs.Formed.{Formed}
 use Rattle.planning.proofs.Painting.{black-inside}
 use Rattle.task.specs.Task.{taskIn}
 use Rattle.task.specs.Links.{Next, Changes, Prepared, headAt, nextAt}
 use Rattle.state.specs.Sets.{inSet}
-use Rattle.state.proofs.Members.{inSet-single}
-use Rattle.paths.specs.Paths.{Member, lower, sourceOf, Enters, Marks, Marked, Kept, Apart, Leads}
-use Rattle.paths.proofs.Sets.{inSet-either, either, inSet-all}
-use Rattle.paths.proofs.Leads.{marks-turn, marks-map, usableArc-is, usableArc-fits, Layered, layered-start, layered-turn, layered-stop}
+use Rattle.state.proofs.Members.{inSet-or}
+use Rattle.paths.specs.Paths.{sourceOf}
+use Rattle.paths.specs.Labels.{through, lower, Into, Lowered}
+use Rattle.paths.proofs.Arcs.{arc-changes, arc-target, arc-is, arc-fits}
 
--- the actions of a chain before i, besides those that were marked before
+-- one label more is noted
+module _ (rest : ℕ) (D D′ : ℕ → ℕ → Type 0) (old new new′ : List ℕ) (front grow set l : ℕ) (M : Lowered D rest old new front grow) (long : length new′ ≡ 64)
+    (law : (c : ℕ) → c < 64 → getD new′ c 0 ≡ lower (inSet set c) l (getD new c 0))
+    (add : (c : ℕ) → T (inSet set c) → T (inSet rest c) × D′ c l)
+    (fresh : (c m : ℕ) → T (inSet rest c) → D′ c m → D c m ⊎ ((m ≡ l) × T (inSet set c)))
+    (stays : (c m : ℕ) → D c m → D′ c m) where
+  lower-le : (b : Bool) (x : ℕ) → lower b l x ≤ x
+  unfolding lower
+  lower-le true x = omega arith
+  lower-le false x = omega arith
+
+  lower-set : (b : Bool) (x : ℕ) → T b → lower b l x ≤ l
+  unfolding lower
+  lower-set true x h = omega arith
+  lower-set false x h = absurd h
+
+  lower-is : (b : Bool) (x : ℕ) → (lower b l x ≡ x) ⊎ (T b × (lower b l x ≡ l))
+  unfolding lower
+  lower-is false x = inl refl
+  lower-is true x = go (decLt l x)
+    where
+      go : Dec (l < x) → (min l x ≡ x) ⊎ (T true × (min l x ≡ l))
+      go (yes h) = inr (tt, min-eq-left {n = l} {m = x} (omega arith))
+      go (no h) = inl (min-eq-right {n = x} {m = l} (omega arith))
+
+  pub lowered-turn : Lowered D′ rest old new′ front (bitOr grow set)
+  lowered-turn = record {
+    long = long;
+    below = λ c b. omega (arith, law c b, lower-le (inSet set c) (getD new c 0), M .below c b);
+    least = λ c m b r d. elim (fresh c m r d) [
+      | inl e ↦ omega (arith, law c b, lower-le (inSet set c) (getD new c 0), M .least c m b r e)
+      | inr e ↦ omega (arith, law c b, lower-set (inSet set c) (getD new c 0) (e .1), e .0)
+    ];
+    found = λ c b. elim (lower-is (inSet set c) (getD new c 0)) [
+      | inl e ↦ let q : getD new′ c 0 ≡ getD new c 0 = law c b ∙ e in elim (M .found c b) [ inl z ↦ inl (q ∙ z) | inr z ↦ inr (z .0, rw q (stays c (getD new c 0) (z .1))) ]
+      | inr e ↦ let q : getD new′ c 0 ≡ l = law c b ∙ e .1 in let a = add c (e .0) in inr (a .0, rw q (a .1))
+    ];
+    kept = λ c h. rw inSet-or (or-l (inSet grow c) (inSet set c) (M .kept c h));
+    grows = λ c m b r d. rw inSet-or (elim (fresh c m r d) [
+      | inl e ↦ or-l (inSet grow c) (inSet set c) (M .grows c m b r e)
+      | inr e ↦ or-r (inSet grow c) (inSet set c) (e .1)
+    ]);
+    grown = λ c b h. elim (or-cases (inSet grow c) (inSet set c) (rw inSet-or at h)) [
+      | inl g ↦ elim (M .grown c b g) [ inl z ↦ inl z | inr z ↦ inr (z .0, (z .1 .0, stays c (z .1 .0) (z .1 .1))) ]
+      | inr s ↦ let a = add c s in inr (a .0, (l, a .1))
+    ];
+  }
+
+lowered-map : (rest : ℕ) (D D′ : ℕ → ℕ → Type 0) (old new : List ℕ) (front grow : ℕ) → ((c m : ℕ) → D c m → D′ c m) → ((c m : ℕ) → D′ c m → D c m)
+    → Lowered D rest old new front grow → Lowered D′ rest old new front grow
+lowered-map rest D D′ old new front grow f g M = record {
+  long = M .long;
+  below = M .below;
+  least = λ c m b r d. M .least c m b r (g c m d);
+  found = λ c b. elim (M .found c b) [ inl z ↦ inl z | inr z ↦ inr (z .0, f c (getD new c 0) (z .1)) ];
+  kept = M .kept;
+  grows = λ c m b r d. M .grows c m b r (g c m d);
+  grown = λ c b h. elim (M .grown c b h) [ inl z ↦ inl z | inr z ↦ inr (z .0, (z .1 .0, f c (z .1 .0) (z .1 .1))) ];
+}
+
+-- labels by the actions before i
 abbrev pub Before : Task → State → ℕ → ℕ → ℕ → ℕ → ℕ → ℕ → Type 0
-Before t K v front e i c j = Enters t K v front e c j ⊎ (T (usableArc (act t) K v c j) × Changes t v e j × (j < i))
+Before t K v x key i c m = (j : ℕ) × (j < i) × (j < actions t) × T (usableArc (act t) K v c j) × (target (act t) v j ≡ x) × (m ≡ through key (act t j .cost) j x)
 
-pub record Arriving (t : Task) (K : State) (v front e rest : ℕ) (row₀ row : List ℕ) (grow i : ℕ) : Type 0 where
-  pub here : (i ≡ 65535) ⊎ ((i < actions t) × Changes t v e i)
-  pub long : length row ≡ 64
-  pub marks : Marks (actions t) rest (Before t K v front e i) row grow
-  pub kept : Kept rest row₀ row
+pub record Arriving (t : Task) (K : State) (v x key rest front : ℕ) (old new : List ℕ) (grow i : ℕ) : Type 0 where
+  pub here : (i ≡ 65535) ⊎ ((i < actions t) × Changes t v x i)
+  pub noted : Lowered (Before t K v x key i) rest old new front grow
 
--- the chain that is walked: actions that set v to e, a member of the set front
-pub record Chain (task : List ℕ) (v front e rest : ℕ) : Type 0 where
+-- the chain that is walked: actions that change v to x, a value outside the set rest
+pub record Chain (task : List ℕ) (v x rest : ℕ) : Type 0 where
   pub prepared : Prepared task
   pub painted : T (black (taskIn task) v)
-  pub near : e < 64
-  pub member : T (inSet front e)
-  pub apart : Apart front rest
+  pub near : x < 64
+  pub outside : T (inSet rest x) → ⊥
 
-module _ (task : List ℕ) (v front e rest : ℕ) (H : Chain task v front e rest) where
+module _ (task : List ℕ) (v x rest : ℕ) (H : Chain task v x rest) where
   abbrev t : Task
   t = taskIn task
 
   F : Formed t
   F = H .prepared .loaded .formed
 
-  next-here : (a x : ℕ) → Next (actions t) (Changes t v e) a x → (x ≡ 65535) ⊎ ((x < actions t) × Changes t v e x)
-  next-here a x N = elim (N .found) [ inl q ↦ inl q | inr q ↦ inr (q .1, q .2) ]
+  next-here : (a y : ℕ) → Next (actions t) (Changes t v x) a y → (y ≡ 65535) ⊎ ((y < actions t) × Changes t v x y)
+  next-here a y N = elim (N .found) [ inl q ↦ inl q | inr q ↦ inr (q .1, q .2) ]
 
-  pub chain-place : 64 * v + e < 4096
+  pub chain-place : 64 * v + x < 4096
   chain-place = omega (arith, H .near, black-inside t v (H .painted), F .variables-max)
 
-  chain-head : Next (actions t) (Changes t v e) 0 (headAt task (64 * v + e))
-  chain-head = H .prepared .chained .heads v e (omega (arith, black-inside t v (H .painted), F .variables-max)) (H .near) (H .painted)
+  chain-head : Next (actions t) (Changes t v x) 0 (headAt task (64 * v + x))
+  chain-head = H .prepared .chained .heads v x (omega (arith, black-inside t v (H .painted), F .variables-max)) (H .near) (H .painted)
 
-  pub arriving-start : (K : State) (row : List ℕ) (grow i : ℕ) → length row ≡ 64 → Marked t K v front rest e row grow → i ≡ headAt task (64 * v + e)
-      → Arriving t K v front e rest row row grow i
-  arriving-start K row grow i long M q = record {
+  -- an arc into x is by an action of the chain
+  arc-in : (K : State) (c j : ℕ) → j < actions t → T (usableArc (act t) K v c j) → target (act t) v j ≡ x → Changes t v x j
+  arc-in K c j b u e = subst (λ y. Changes t v y j) e (arc-changes t F K v c j b u)
+
+  pub arriving-start : (K : State) (labels : List ℕ) (key front i : ℕ) → length labels ≡ 64 → i ≡ headAt task (64 * v + x) → Arriving t K v x key rest front labels labels front i
+  arriving-start K labels key front i long q = record {
     here = next-here 0 i N;
-    long = long;
-    marks = record {
-      least = λ c cb r. let N′ = M .least c cb r in record {
-        least = λ j a jb l D. elim D [ inl d ↦ N′ .least j a jb l d | inr d ↦ N .least j (omega arith) jb (d .2) (d .1) ];
-        found = elim (N′ .found) [ inl q ↦ inl q | inr q ↦ inr (q .0, q .1, inl (q .2)) ];
-      };
-      inside = M .inside;
-      grown = M .grown;
-      grows = M .grows;
+    noted = record {
+      long = long;
+      below = λ c b. omega arith;
+      least = λ c m b r d. absurd (no c m d);
+      found = λ c b. inl refl;
+      kept = λ c h. h;
+      grows = λ c m b r d. absurd (no c m d);
+      grown = λ c b h. inl h;
     };
-    kept = λ c b h. refl;
   }
     where
-      N : Next (actions t) (Changes t v e) 0 i
+      N : Next (actions t) (Changes t v x) 0 i
       N = rw q chain-head
 
-  module _ (K : State) (row₀ row : List ℕ) (grow i : ℕ) (G : Arriving t K v front e rest row₀ row grow i) where
-    pub arriving-here : i < 1024 → (i < actions t) × Changes t v e i
+      no : (c m : ℕ) → Before t K v x key i c m → ⊥
+      no c m (j, l, b, u, e, _) = N .least j (omega arith) b l (arc-in K c j b u e)
+
+  module _ (K : State) (key front : ℕ) (old new : List ℕ) (grow i : ℕ) (G : Arriving t K v x key rest front old new grow i) where
+    pub arriving-here : i < 1024 → (i < actions t) × Changes t v x i
     arriving-here h = elim (G .here) [ inl q ↦ absurd (omega arith) | inr q ↦ q ]
 
-    chain-next : i < 1024 → Next (actions t) (Changes t v e) (i + 1) (nextAt task i)
-    chain-next h = let q = arriving-here h in H .prepared .chained .links v e i (H .painted) (q .0) (q .1)
+    chain-next : i < 1024 → Next (actions t) (Changes t v x) (i + 1) (nextAt task i)
+    chain-next h = let q = arriving-here h in H .prepared .chained .links v x i (H .painted) (q .0) (q .1)
 
-    pub arriving-above : i < 1024 → (x : ℕ) → x ≡ nextAt task i → i < x
-    arriving-above h x q = rw q (elim (chain-next h .found) [ inl z ↦ omega arith | inr z ↦ let a = z .0 in omega arith ])
+    pub arriving-above : i < 1024 → (y : ℕ) → y ≡ nextAt task i → i < y
+    arriving-above h y q = rw q (elim (chain-next h .found) [ inl z ↦ omega arith | inr z ↦ let a = z .0 in omega arith ])
 
-    pub arriving-turn : i < 1024 → (set x : ℕ) (row′ : List ℕ) → length row′ ≡ 64
-        → ((c : ℕ) → inSet set c ≡ (inSet rest c && sourceOf t K v i c))
-        → ((c : ℕ) → c < 64 → getD row′ c 0 ≡ lower (inSet set c) i (getD row c 0))
-        → x ≡ nextAt task i
-        → Arriving t K v front e rest row₀ row′ (bitOr grow set) x
-    unfolding lower sourceOf
-    arriving-turn h set x row′ long′ law low ex =
+    pub arriving-turn : i < 1024 → (set l y : ℕ) (new′ : List ℕ) → length new′ ≡ 64
+        → ((c : ℕ) → inSet set c ≡ (inSet rest c && sourceOf t K v i c)) → l ≡ through key (act t i .cost) i x
+        → ((c : ℕ) → c < 64 → getD new′ c 0 ≡ lower (inSet set c) l (getD new c 0)) → y ≡ nextAt task i
+        → Arriving t K v x key rest front old new′ (bitOr grow set) y
+    unfolding sourceOf
+    arriving-turn h set l y new′ long law el low ey =
         let q = arriving-here h in
         record {
-          here = next-here (i + 1) x N;
-          long = long′;
-          marks = marks-turn (actions t) rest (Before t K v front e i) (Before t K v front e x) row row′ grow set i (G .marks) (F .actions-max) (q .0) low
-              (λ c s. (in-rest c s, inr (usableArc-is t F K v c e i (q .0) (q .1) (λ z. H .apart e (H .member) (subst (λ y. T (inSet rest y)) z (in-rest c s))) (in-set c s), q .1, next-above)))
-              (λ c j cb r jb D. elim D [
-                | inl d ↦ inl (inl d)
-                | inr d ↦ split c j r jb (d .0) (d .1) (d .2) (ℕ-discrete j i)
-              ])
-              (λ c j D. elim D [ inl d ↦ inl d | inr d ↦ let b = d .2 in inr (d .0, d .1, omega (arith, next-above)) ]);
-          kept = λ c cb r. low c cb ∙ lower-not c (λ s. r (in-rest c s)) ∙ G .kept c cb r;
+          here = next-here (i + 1) y N;
+          noted = lowered-turn rest (Before t K v x key i) (Before t K v x key y) old new new′ front grow set l (G .noted) long low
+              (λ c s.
+              let r = and-l (inSet rest c) (sourceOf t K v i c) (rw (law c) at s) in
+              let u = arc-is t F K v c x i (q .1) (λ z. H .outside (subst (λ y. T (inSet rest y)) z r)) (and-r (inSet rest c) (sourceOf t K v i c) (rw (law c) at s)) in
+              (r, (i, above, q .0, u, arc-target t F K v c i x (q .0) u (q .1), el)))
+              (λ c m r d. split c m r d (ℕ-discrete (d .0) i) (decLt (d .0) i))
+              (λ c m d. (d .0, omega (arith, d .1, above), d .2, d .3, d .4, d .5));
         }
       where
-        N : Next (actions t) (Changes t v e) (i + 1) x
-        N = rw ex (chain-next h)
+        N : Next (actions t) (Changes t v x) (i + 1) y
+        N = rw ey (chain-next h)
 
-        in-rest : (c : ℕ) → T (inSet set c) → T (inSet rest c)
-        in-rest c s = and-l (inSet rest c) (sourceOf t K v i c) (rw (law c) at s)
+        above : i < y
+        above = arriving-above h y ey
 
-        in-set : (c : ℕ) → T (inSet set c) → T (sourceOf t K v i c)
-        in-set c s = and-r (inSet rest c) (sourceOf t K v i c) (rw (law c) at s)
+        split : (c m : ℕ) → T (inSet rest c) → (d : Before t K v x key y c m) → Dec (d .0 ≡ i) → Dec (d .0 < i) → Before t K v x key i c m ⊎ ((m ≡ l) × T (inSet set c))
+        split c m r (j, b, jb, u, e, w) (yes z) _ =
+            let uz : T (usableArc (act t) K v c i) = subst (λ y. T (usableArc (act t) K v c y)) z u in
+            inr (w ∙ subst (λ y. through key (act t y .cost) y x ≡ l) (sym z) (sym el), rw (law c) (and-i (inSet rest c) (sourceOf t K v i c) r (arc-fits t F K v c i uz)))
+        split c m r (j, b, jb, u, e, w) (no z) (yes a) = inl (j, a, jb, u, e, w)
+        split c m r (j, b, jb, u, e, w) (no z) (no a) = absurd (N .least j (omega arith) jb b (arc-in K c j jb u e))
 
-        next-above : i < x
-        next-above = arriving-above h x ex
-
-        lower-not : (c : ℕ) → (T (inSet set c) → ⊥) → lower (inSet set c) i (getD row c 0) ≡ getD row c 0
-        lower-not c s = go (inSet set c) s
-          where
-            go : (b : Bool) → (T b → ⊥) → lower b i (getD row c 0) ≡ getD row c 0
-            go true h = absurd (h tt)
-            go false h = refl
-
-        split : (c j : ℕ) → T (inSet rest c) → j < actions t → T (usableArc (act t) K v c j) → Changes t v e j → j < x → Dec (j ≡ i) → Before t K v front e i c j ⊎ ((j ≡ i) × T (inSet set c))
-        split c j r jb p s l (yes z) = inr (z, rw (law c) (and-i (inSet rest c) (sourceOf t K v i c) r (usableArc-fits t F K v c i (subst (λ y. T (usableArc (act t) K v c y)) z p))))
-        split c j r jb p s l (no z) = below (decLt j i)
-          where
-            below : Dec (j < i) → Before t K v front e i c j ⊎ ((j ≡ i) × T (inSet set c))
-            below (yes b) = inl (inr (p, s, b))
-            below (no b) = absurd (N .least j (omega arith) jb l s)
-
-    pub arriving-end : 1024 ≤ i → Marked t K v front rest (e + 1) row grow
-    arriving-end h =
-        marks-map (actions t) rest (Before t K v front e i) (Enters t K v front (e + 1)) row grow
-        (λ c j jb D. elim D [
-          | inl d ↦ (d .0, (d .1 .0, omega (arith, d .1 .1), d .1 .2, d .1 .3))
-          | inr d ↦ (d .0, (e, omega arith, H .member, d .1))
-        ])
-        (λ c j jb D. old c j jb D (ℕ-discrete (D .1 .0) e)) (G .marks)
+    pub arriving-end : 1024 ≤ i → Lowered (Into t K v x key) rest old new front grow
+    arriving-end h = lowered-map rest (Before t K v x key i) (Into t K v x key) old new front grow
+        (λ c m d. (d .0, d .2, d .3, d .4, d .5))
+        (λ c m d. (d .0, omega (arith, d .1, last, F .actions-max), d .1, d .2, d .3, d .4))
+        (G .noted)
       where
         last : i ≡ 65535
         last = elim (G .here) [ inl q ↦ q | inr q ↦ absurd (omega (arith, q .0, F .actions-max)) ]
-
-        old : (c j : ℕ) → j < actions t → (D : Enters t K v front (e + 1) c j) → Dec (D .1 .0 ≡ e) → Before t K v front e i c j
-        old c j jb D (yes z) = inr (D .0, subst (λ y. Changes t v y j) z (D .1 .3), omega (arith, last, F .actions-max))
-        old c j jb D (no z) = inl (D .0, (D .1 .0, omega (arith, D .1 .1), D .1 .2, D .1 .3))
-
--- the values of one layer: members of front before e are done
-pub record Laying (t : Task) (K : State) (v front rest : ℕ) (row₀ row : List ℕ) (grow e : ℕ) : Type 0 where
-  pub within : e ≤ 64
-  pub member : e < 64 → T (inSet front e)
-  pub long : length row ≡ 64
-  pub marks : Marked t K v front rest e row grow
-  pub kept : Kept rest row₀ row
-
-module _ (t : Task) (K : State) (v front rest : ℕ) where
-  -- a place further, with no member between
-  enters-skip : (row : List ℕ) (grow a e : ℕ) → Member front a e → Marks (actions t) rest (Enters t K v front a) row grow → Marks (actions t) rest (Enters t K v front e) row grow
-  enters-skip row grow a e m M = marks-map (actions t) rest (Enters t K v front a) (Enters t K v front e) row grow
-      (λ c j jb D. (D .0, (D .1 .0, omega (arith, D .1 .1, m .from), D .1 .2, D .1 .3)))
-      (λ c j jb D. (D .0, (D .1 .0, low (D .1 .0) (D .1 .1) (D .1 .2) (decLt (D .1 .0) a), D .1 .2, D .1 .3))) M
-    where
-      low : (x : ℕ) → x < e → T (inSet front x) → Dec (x < a) → x < a
-      low x l f (yes b) = b
-      low x l f (no b) = absurd (m .skipped x (omega arith) l f)
-
-  pub laying-start : (row : List ℕ) (e : ℕ) → length row ≡ 64 → Marks (actions t) rest (Enters t K v front 0) row 0 → Member front 0 e → Laying t K v front rest row row 0 e
-  laying-start row e long M m = record { within = m .within; member = m .member; long = long; marks = enters-skip row 0 0 e m M; kept = λ c b h. refl }
-
-  pub laying-turn : (row₀ row : List ℕ) (grow e : ℕ) → Laying t K v front rest row₀ row grow e → (row′ : List ℕ) (grow′ x : ℕ) → length row′ ≡ 64
-      → Marks (actions t) rest (Enters t K v front (e + 1)) row′ grow′ × Kept rest row row′ → Member front (e + 1) x → Laying t K v front rest row₀ row′ grow′ x
-  laying-turn row₀ row grow e L row′ grow′ x long M m = record {
-    within = m .within;
-    member = m .member;
-    long = long;
-    marks = enters-skip row′ grow′ (e + 1) x m (M .0);
-    kept = λ c b h. M .1 c b h ∙ L .kept c b h;
-  }
-
-  pub laying-end : (row₀ row : List ℕ) (grow e : ℕ) → Laying t K v front rest row₀ row grow e → 64 ≤ e → Marks (actions t) rest (Enters t K v front 64) row grow × Kept rest row₀ row
-  laying-end row₀ row grow e L h =
-      let q : e ≡ 64 = omega (arith, L .within) in
-      (subst (λ x. Marks (actions t) rest (Enters t K v front x) row grow) q (L .marks), L .kept)
-
--- the search as a whole
-all-ones : (n : ℕ) → n ≤ 64 → 18446744073709551615 / 2 ^ (64 - n) ≡ 2 ^ n - 1
-all-ones n h =
-    let e : n + (64 - n) ≡ 64 = omega arith in
-    let o : 2 ^ (n + (64 - n)) - 1 ≡ 18446744073709551615 = rw e refl in
-    rw (← o, ones-split n (64 - n)) (high (2 ^ n - 1) (64 - n) (ones-lt (64 - n)))
-
-rest-bit : (a b : Bool) → (T b → T a) → either a b ≡ (a && not b)
-unfolding either
-rest-bit true true h = refl
-rest-bit true false h = refl
-rest-bit false true h = absurd (h tt)
-rest-bit false false h = refl
-
-getD-replicate : (k x c : ℕ) → c < k → getD (replicate k x) c 0 ≡ x
-getD-replicate zero x c h = absurd (omega arith)
-getD-replicate (suc k) x zero h = refl
-getD-replicate (suc k) x (suc c) h = getD-replicate k x c (omega arith)
-
-pub searching-start : (t : Task) (F : Formed t) (K : State) (v d n front rest : ℕ) (row₀ row : List ℕ) → n ≡ count t v → n ≤ 64 → d < n → length row₀ ≡ 64 → row ≡ replicate (length row₀) 65535
-    → front ≡ 2 ^ d → rest ≡ bitXor (18446744073709551615 / 2 ^ (64 - n)) front → Layered t K v d 0 front rest row
-searching-start t F K v d n front rest row₀ row en n64 db long er ef ers =
-    layered-start t F K v d front rest row (omega arith) (rw (er, long) (replicate-length 64))
-    (λ c b. rw (er, long) (getD-replicate 64 65535 c b))
-    fr
-    (λ c. rw (ers, inSet-either, fr c, all-ones n n64, inSet-all n c, ← en) (rest-bit (ltb c n) (eqb c d) (λ q. lt→ltb c n (omega (arith, eqb→eq c d q)))))
-  where
-    fr : (c : ℕ) → inSet front c ≡ eqb c d
-    fr c = rw ef (inSet-single d c)
-
-    replicate-length : (k : ℕ) → length {A = ℕ} (replicate k 65535) ≡ k
-    replicate-length zero = refl
-    replicate-length (suc k) = ap suc (replicate-length k)
-
--- one layer more, from what the code says of it
-module _ (t : Task) (F : Formed t) (K : State) (v d k front rest : ℕ) (row row′ : List ℕ) (grow : ℕ) (L : Layered t K v d k front rest row) (long : length row′ ≡ length row)
-    (M : Marks (actions t) rest (Enters t K v front 64) row′ grow × Kept rest row row′) where
-  pub searching-turn : k + 1 < count t v → Layered t K v d (k + 1) grow (bitXor rest grow) row′
-  searching-turn h = subst (λ x. Layered t K v d x grow (bitXor rest grow) row′) (sym (add-one k)) (layered-turn t F K v d k front rest row L row′ grow (long ∙ L .long) (M .0) (M .1) (omega arith))
-
-  pub searching-stop : d < count t v → grow ≡ 0 → Leads t K v d row′
-  searching-stop db e = layered-stop t F K v d k front rest row L row′ grow (long ∙ L .long) (M .0) (M .1) db e

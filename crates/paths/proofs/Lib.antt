@@ -1,8 +1,10 @@
 pub mod Sets
 pub mod Facts
 pub mod Marking
-pub mod Leads
+pub mod Arcs
+pub mod Labels
 pub mod Arriving
+pub mod Settling
 pub mod Walking
 pub mod Memos
 pub mod Needing

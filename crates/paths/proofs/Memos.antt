@@ -9,7 +9,7 @@ use lib.ListN.{length, getD, set, take, drop, length-set, length-append, length-
 use lib.Seq.{length-take-le, getD-append-add, getD-take, getD-drop, getD-set-same, getD-set-other}
 use Rattle.planning.specs.Record.{Task}
 use Rattle.planning.specs.Runs.{State, count, black}
-use Rattle.paths.specs.Paths.{Leads, Memo, leadOf}
+use Rattle.paths.specs.Paths.{Leads, Memo, leadTo}
 
 pub part-long : (xs : List ℕ) (a k : ℕ) → k ≡ 64 → a + 64 ≤ length xs → length (take k (drop a xs)) ≡ 64
 part-long xs a k e h = rw e (length-take-le 64 (drop a xs) (omega (arith, length-drop a xs)))
@@ -37,10 +37,6 @@ module _ (xs ys : List ℕ) (a : ℕ) (long : length ys ≡ 64) (fits : a + 64 �
       ∙ getD-drop 64 (drop a xs) (p - (a + 64)) 0 ∙ getD-drop a xs (64 + (p - (a + 64))) 0 ∙ ap (λ (x : ℕ). getD xs x 0) (sym e)
 
 module _ (t : Task) (K : State) (v d : ℕ) (bl : T (black t v)) (b : d < 64) (few : count t v ≤ 64) where
-  -- the row of d
-  pub memo-part : (memo : List ℕ) (k : ℕ) → k ≡ 64 → Memo t K memo → getD memo (4096 + d) 0 ≡ v + 1 → Leads t K v d (take k (drop (64 * d) memo))
-  memo-part memo k q M e c cb = rw q (getD-take 64 (drop (64 * d) memo) c 0 (omega arith) ∙ getD-drop (64 * d) memo c 0 ∙ M .rows v d c bl b cb e)
-
   module _ (memo row : List ℕ) (M : Memo t K memo) (long : length row ≡ 64) (L : Leads t K v d row) where
     abbrev written : List ℕ
     written = take (64 * d) memo ++ (row ++ drop 64 (drop (64 * d) memo))
@@ -62,7 +58,7 @@ module _ (t : Task) (K : State) (v d : ℕ) (bl : T (black t v)) (b : d < 64) (f
     memo-mark = getD-set-same written (4096 + d) (v + 1) 0 (omega (arith, written-long))
 
     -- a row of another value stands as it was
-    other-row : (u e c : ℕ) → T (black t u) → e < 64 → c < 64 → c < count t u → (e ≡ d → ⊥) → getD marked (4096 + e) 0 ≡ u + 1 → getD marked (64 * e + c) 0 ≡ leadOf t K u c e
+    other-row : (u e c : ℕ) → T (black t u) → e < 64 → c < 64 → c < count t u → (e ≡ d → ⊥) → getD marked (4096 + e) 0 ≡ u + 1 → getD marked (64 * e + c) 0 ≡ leadTo t K u e c
     other-row u e c ub eb cs cb ne h =
         let same : getD marked (4096 + e) 0 ≡ getD written (4096 + e) 0 = getD-set-other written (4096 + d) (4096 + e) (v + 1) 0 (omega arith) in
         let m : getD memo (4096 + e) 0 ≡ u + 1 = sym (same ∙ splice-behind memo row (64 * d) long fits (4096 + e) (omega arith)) ∙ h in
@@ -78,7 +74,7 @@ module _ (t : Task) (K : State) (v d : ℕ) (bl : T (black t v)) (b : d < 64) (f
       rows = λ u e c ub eb cb h. go u e c ub eb cb h (ℕ-discrete e d);
     }
       where
-        go : (u e c : ℕ) → T (black t u) → e < 64 → c < count t u → getD marked (4096 + e) 0 ≡ u + 1 → Dec (e ≡ d) → getD marked (64 * e + c) 0 ≡ leadOf t K u c e
+        go : (u e c : ℕ) → T (black t u) → e < 64 → c < count t u → getD marked (4096 + e) 0 ≡ u + 1 → Dec (e ≡ d) → getD marked (64 * e + c) 0 ≡ leadTo t K u e c
         go u e c ub eb cb h (no q) = other-row u e c ub eb (omega (arith, small u)) cb q h
         go u e c ub eb cb h (yes q) =
             let m : getD marked (4096 + d) 0 ≡ u + 1 = rw q at h in

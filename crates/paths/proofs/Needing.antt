@@ -1,30 +1,29 @@
--- Which variables moves need, and why rows of leads stay right while nothing new of these is held: a lead depends on the facts
+-- Which variables moves need, and why rows of leads stay right while nothing new of these is held: a path depends on the facts
 -- known by the usable arcs alone, and an arc of a black variable is given by an action that sets it.
 use mathlib.Core.Path.{_≡_, refl, sym, ap, _∙_, subst, fun-ext}
 use mathlib.Core.Logic.{_⊎_, inl, inr}
-use mathlib.Core.Bool.{Bool, true, false, not, _&&_, _||_, or-false, or-assoc, and-false}
+use mathlib.Core.Bool.{Bool, true, false, _&&_, _||_, or-false, or-assoc, and-false}
 use mathlib.Core.List.{List, [], _∷_}
 use mathlib.Core.Option.{Option, none, some}
-use Prim.Native.Nat.{ℕ, zero, suc, _+_, _/_, _^_, _<_, _≤_}
+use Prim.Native.Nat.{ℕ, zero, suc, _+_, _/_, _^_, _<_, _≤_, pred}
 use native.Mathlib.Omega.{arith}
 use native.Mathlib.Decide.{decLt}
 use lib.Bits.{bitOr}
 use lib.Dec.{T, eqb, eqb→eq}
 use lib.ListN.{length, getD}
-use Rattle.planning.specs.Basics.{first, someBelow, reach}
 use Rattle.planning.specs.Record.{Fact, Action, Task}
-use Rattle.planning.specs.Runs.{State, has, touches, look, holds, actions, count, act, black, noAction}
+use Rattle.planning.specs.Runs.{State, has, touches, look, holds, actions, count, act, black}
 use Rattle.planning.specs.Painting.{reducedEffects, target, fits, leaves, arcFrom}
-use Rattle.planning.specs.Repair.{usableArc, adjacent}
+use Rattle.planning.specs.Repair.{usableArc, bestBelow, behind, bestIn, bestPath}
 use Rattle.planning.proofs.Facts.{_⊆_, has-nil, has→touches, look-some, holds→sub, sub→holds}
 use Rattle.planning.proofs.Arcs.{reduced-elim}
 use Rattle.planning.proofs.Fields.{act-past}
-use Rattle.planning.proofs.Tests.{T→true, F→false, true→T, bool-same, or-l, or-r, or-cases, and-l, and-r, and-i}
+use Rattle.planning.proofs.Tests.{bool-same, or-l, or-r, or-cases, and-l, and-r, and-i}
 use Rattle.task.specs.Task.{factOf, factsIn}
 use Rattle.state.specs.Sets.{inSet}
 use Rattle.state.proofs.Effects.{factsIn-cons, factsIn-none}
 use Rattle.state.proofs.Members.{inSet-or, inSet-single}
-use Rattle.paths.specs.Paths.{leadIn, lead, numberOf, Memo, anyBlack, Covers}
+use Rattle.paths.specs.Paths.{leadOf, Memo, anyBlack, Covers}
 
 -- one turn of a loop over facts, and its end
 module _ (l : List ℕ) (k to : ℕ) (h : k < to) (b : to ≤ length l) (f : ℕ) (ef : f ≡ getD l k 0) where
@@ -77,31 +76,25 @@ module _ (t : Task) (i m r : ℕ) (C : Covers t i m) where
     | inr l ↦ absurd (subst T e (and-l (anyBlack t (act t i .eff)) (touches (act t i .pre) v) (subst (λ (x : ℕ). T (asks x v)) l q)))
   ]
 
--- leads with the same arcs
+-- paths with the same arcs
 module _ (act : ℕ → Action) (A : ℕ) (K L : State) (v n : ℕ) (same : (c i : ℕ) → usableArc act K v c i ≡ usableArc act L v c i) where
   arcs : usableArc act K v ≡ usableArc act L v
   arcs = fun-ext (λ c. fun-ext (λ i. same c i))
 
-  adjacent-same : adjacent act A K v ≡ adjacent act A L v
-  unfolding adjacent
-  adjacent-same = ap (λ (u : ℕ → ℕ → Bool). λ (c e : ℕ). someBelow A (λ i. u c i && eqb (target act v i) e)) arcs
+  -- the definition over any arcs and any paths behind them
+  by : (ℕ → ℕ → Bool) → (ℕ → Option (List ℕ)) → ℕ → ℕ → Option (List ℕ)
+  by arc best d c = elim (eqb c d) [ true ↦ some [] | false ↦ bestBelow act A (λ i. elim (arc c i) [ true ↦ behind i (best (target act v i)) | false ↦ none ]) ]
 
-  leadIn-same : (k c d : ℕ) → leadIn act A K v n k c d ≡ leadIn act A L v n k c d
-  unfolding leadIn
-  leadIn-same zero c d = refl
-  leadIn-same (suc k) c d =
-      ap (λ (u : ℕ → ℕ → Bool). first A (λ i. u c i && reach n (adjacent act A K v) k (target act v i) d)) arcs
-      ∙ ap (λ (a : ℕ → ℕ → Bool). first A (λ i. usableArc act L v c i && reach n a k (target act v i) d)) adjacent-same
+  bestIn-same : (d k c : ℕ) → bestIn act A K v k c d ≡ bestIn act A L v k c d
+  unfolding bestIn by
+  bestIn-same d zero c = refl
+  bestIn-same d (suc k) c =
+      ap (λ (u : ℕ → ℕ → Bool). by u (λ x. bestIn act A K v k x d) d c) arcs
+      ∙ ap (λ (b : ℕ → Option (List ℕ)). by (usableArc act L v) b d c) (fun-ext (λ x. bestIn-same d k x))
 
-  lead-same : (c d : ℕ) → lead act A K v n c d ≡ lead act A L v n c d
-  unfolding lead
-  lead-same c d =
-      ap (λ (a : ℕ → ℕ → Bool). elim (first n (λ k. reach n a k c d)) [ none ↦ none | some k ↦ leadIn act A K v n k c d ]) adjacent-same
-      ∙ go (first n (λ k. reach n (adjacent act A L v) k c d))
-    where
-      go : (o : Option ℕ) → _≡_ {A = Option ℕ} (elim o [ none ↦ none | some k ↦ leadIn act A K v n k c d ]) (elim o [ none ↦ none | some k ↦ leadIn act A L v n k c d ])
-      go none = refl
-      go (some k) = leadIn-same k c d
+  path-same : (c d : ℕ) → bestPath act A K v n c d ≡ bestPath act A L v n c d
+  unfolding bestPath
+  path-same c d = ap (λ (o : Option (List ℕ)). elim o as (λ _. List ℕ) [ none ↦ [] | some p ↦ p ]) (bestIn-same d (pred n) c)
 
 -- facts on a black variable
 touches-any : (t : Task) (fs : List Fact) (v : ℕ) → T (black t v) → T (touches fs v) → T (anyBlack t fs)
@@ -148,5 +141,5 @@ module _ (t : Task) (m : ℕ) (C : Covers t (actions t) m) (K L : State) (sub : 
   pub memo-same : (memo : List ℕ) → Memo t K memo → Memo t L memo
   memo-same memo M = record {
     long = M .long;
-    rows = λ v d c bl b cb e. M .rows v d c bl b cb e ∙ ap numberOf (lead-same (act t) (actions t) K L v (count t v) (usable-same v bl) c d);
+    rows = λ v d c bl b cb e. M .rows v d c bl b cb e ∙ ap (λ (p : List ℕ). leadOf (act t) v c p) (path-same (act t) (actions t) K L v (count t v) (usable-same v bl) c d);
   }

@@ -1,21 +1,29 @@
-// Shortest paths of one black variable along usable arcs. Breadth first backwards from the wanted value, one layer of equal
-// distance after another; the row of leads that it leaves gives, for each value, the smallest action that comes one move closer.
+// Best paths of one black variable along usable arcs: the cheapest, of these the shortest, of these the first by its actions. Backwards
+// from the wanted value, the nearest first (Dijkstra); each value has a label, which is the key of the best path from there, cost × 64 +
+// moves, and behind it the smallest action that such a path starts with and its target. These, the leads, are kept in rows.
 ghost use mathlib.Core.Path.{_≡_};
 ghost use mathlib.Core.Bool.{_&&_, _||_};
-ghost use Prim.Native.Nat.{ℕ, _+_, _-_, _*_, _^_, _<_, _≤_, min};
+ghost use Prim.Native.Nat.{ℕ, _+_, _/_, _<_, _≤_, min};
 ghost use lib.Dec.{T};
 ghost use lib.ListN.{length, getD};
 ghost use Rattle.planning.specs.Runs.{touches, look, actions, count, act, black};
 ghost use Rattle.planning.specs.Painting.{fits};
 ghost use Rattle.task.specs.Task.{taskIn, Loaded};
 ghost use Rattle.task.specs.Links.{Prepared};
-ghost use Rattle.state.specs.Sets.{inSet, setsOf, Asked};
-ghost use Rattle.paths.specs.Paths.{Member, lower, sourceOf, pathsOf, Leads, Marked, Kept, Apart, Memo, marksFrom, anyBlack, Covers, Put};
+ghost use Rattle.state.specs.Sets.{inSet, setsOf};
+ghost use Rattle.paths.specs.Paths.{Member, sourceOf, pathsOf, Leads, Memo, marksFrom, anyBlack, Covers, Put};
+ghost use Rattle.paths.specs.Labels.{lower, through, highest, leadBy, Nearest, Into, Lowered, Settled};
 
 // The memo has 64 rows of 64 leads, and behind them 64 marks.
 pub const MARKS: usize = 4096;
 
 pub const MEMO: usize = 4160;
+
+// The label of a value that no path was found from.
+const UNREACHED: u64 = 18446744073709551615;
+
+// The set of all 64 values.
+const ALL: u64 = 18446744073709551615;
 
 // Where a list ends after more was written, or that it does not fit.
 pub enum Written {
@@ -70,65 +78,110 @@ fn usable_sources(ever: &[u64; 64], task: &[u16], i: usize, v: usize, rest: u64)
     }
 }
 
-fn lesser(a: u16, b: u16) -> u16
+fn lesser(a: u64, b: u64) -> u64
     ensures { λ r. ⌜ r ≡ min a b ⌝ }
 {
     if a < b { a } else { b }
 }
 
-// Action i is noted for each value of the set, where no smaller one is.
-fn mark(row: &mut [u16], set: u64, i: u16)
-    requires { ⌜ length (now row) ≡ 64 ⌝ }
-    ensures { λ _. ⌜ ((c : ℕ) → c < 64 → getD (now (row .exit)) c 0 ≡ lower (inSet set c) i (getD (now (row .entry)) c 0)) ⌝ }
+// The label l is noted for each value of the set, where no lesser one is.
+fn mark(labels: &mut [u64; 64], set: u64, l: u64)
+    requires { ⌜ length (now labels) ≡ 64 ⌝ }
+    ensures { λ _. ⌜ length (now (labels .exit)) ≡ 64 ⌝ }
+    ensures { λ _. ⌜ ((c : ℕ) → c < 64 → getD (now (labels .exit)) c 0 ≡ lower (inSet set c) l (getD (now (labels .entry)) c 0)) ⌝ }
 {
     let mut c = next_member(set, 0);
     while c < 64 {
-        row[c] = lesser(i, row[c]);
+        labels[c] = lesser(l, labels[c]);
         c = next_member(set, c + 1);
     }
 }
 
-// The values of the set rest with a usable arc into e are added to the set grow, and the least actions are noted in the row.
+// The label of a value from which action i leads to x, whose key is given.
+fn label(task: &[u16], key: u64, i: usize, x: usize) -> u64
+    requires { ⌜ Loaded (now task) × (i < actions (taskIn (now task))) × (key ≤ highest) × (x < 64) ⌝ }
+    ensures { λ r. ⌜ r ≡ through key (act (taskIn (now (task .entry))) i .cost) i x ⌝ }
+{
+    let cost = task::cost(task, i) as u64;
+    (key + 64 * cost + 1) * 65536 + ((64 * i + x) as u64)
+}
+
+// Values of the set rest with a usable arc into x get its label where they have no lesser one, and are added to the set front.
 fn arrive(
     task: &[u16],
     ever: &[u64; 64],
-    row: &mut [u16],
+    labels: &mut [u64; 64],
     v: usize,
-    front: u64,
-    e: usize,
+    x: usize,
     rest: u64,
-    grow: u64,
+    front: u64,
 ) -> u64
-    requires { ⌜ Prepared (now task) × T (black (taskIn (now task)) v) × (length (now row) ≡ 64) × (e < 64) ⌝ }
-    requires { ⌜ T (inSet front e) × Apart front rest × Marked (taskIn (now task)) (setsOf (now ever)) v front rest e (now row) grow ⌝ }
-    ensures { λ r. ⌜ Marked (taskIn (now (task .entry))) (setsOf (now (ever .entry))) v front rest (e + 1) (now (row .exit)) r ⌝ }
-    ensures { λ _. ⌜ Kept rest (now (row .entry)) (now (row .exit)) ⌝ }
+    requires { ⌜ Prepared (now task) × T (black (taskIn (now task)) v) × (length (now labels) ≡ 64) ⌝ }
+    requires { ⌜ (x < 64) × (getD (now labels) x 0 / 65536 ≤ highest) × (T (inSet rest x) → ⊥) ⌝ }
+    ensures { λ r. ⌜ Lowered (Into (taskIn (now (task .entry))) (setsOf (now (ever .entry))) v x (getD (now (labels .entry)) x 0 / 65536)) rest (now (labels .entry)) (now (labels .exit)) front r ⌝ }
 {
-    let mut i = task::first_mover(task, 64 * v + e);
-    let mut g = grow;
+    let key = labels[x] / 65536;
+    let mut i = task::first_mover(task, 64 * v + x);
+    let mut g = front;
     while i < 1024 {
         let set = usable_sources(ever, task, i, v, rest);
-        mark(row, set, i as u16);
+        mark(labels, set, label(task, key, i, x));
         g = g | set;
         i = task::next_mover(task, i);
     }
     g
 }
 
-// The layer behind the layer front: values of the set rest with a usable arc into front, the least action noted for each.
-fn layer(task: &[u16], ever: &[u64; 64], row: &mut [u16], v: usize, front: u64, rest: u64) -> u64
-    requires { ⌜ Prepared (now task) × T (black (taskIn (now task)) v) × (length (now row) ≡ 64) ⌝ }
-    requires { ⌜ Apart front rest × Marked (taskIn (now task)) (setsOf (now ever)) v front rest 0 (now row) 0 ⌝ }
-    ensures { λ r. ⌜ Marked (taskIn (now (task .entry))) (setsOf (now (ever .entry))) v front rest 64 (now (row .exit)) r ⌝ }
-    ensures { λ _. ⌜ Kept rest (now (row .entry)) (now (row .exit)) ⌝ }
+// A member of the set with the least label, 64 for none.
+fn nearest(labels: &[u64; 64], front: u64) -> usize
+    ensures { λ r. ⌜ Nearest (now (labels .entry)) front r ⌝ }
 {
-    let mut g: u64 = 0;
-    let mut e = next_member(front, 0);
-    while e < 64 {
-        g = arrive(task, ever, row, v, front, e, rest, g);
-        e = next_member(front, e + 1);
+    let mut r = next_member(front, 0);
+    if r == 64 {
+        return 64;
     }
-    g
+    let mut least = labels[r];
+    let mut c = next_member(front, r + 1);
+    while c < 64 {
+        let l = labels[c];
+        if l < least {
+            least = l;
+            r = c;
+        }
+        c = next_member(front, c + 1);
+    }
+    r
+}
+
+// The labels of all values towards d: of those that have one yet, the nearest is settled next.
+fn settle(task: &[u16], ever: &[u64; 64], v: usize, d: usize) -> [u64; 64]
+    requires { ⌜ Prepared (now task) × T (black (taskIn (now task)) v) × (d < count (taskIn (now task)) v) ⌝ }
+    ensures { λ r. ⌜ Settled (taskIn (now (task .entry))) (setsOf (now (ever .entry))) v d r ⌝ }
+{
+    let mut labels = [UNREACHED; 64];
+    labels[d] = d as u64;
+    let mut rest = ALL >> (64 - task::count(task, v));
+    let mut front = state::single(d);
+    let mut x = d;
+    while x < 64 {
+        let one = state::single(x);
+        rest = rest ^ one;
+        front = arrive(task, ever, &mut labels, v, x, rest, front ^ one);
+        x = nearest(&labels, front);
+    }
+    labels
+}
+
+// The lead of c by its label.
+fn lead(l: u64, c: usize) -> u16
+    requires { ⌜ c < 64 ⌝ }
+    ensures { λ r. ⌜ r ≡ leadBy l c ⌝ }
+{
+    if l == UNREACHED {
+        c as u16
+    } else {
+        (l % 65536) as u16
+    }
 }
 
 // The row of leads to d.
@@ -136,49 +189,13 @@ fn towards(task: &[u16], ever: &[u64; 64], row: &mut [u16], v: usize, d: usize)
     requires { ⌜ Prepared (now task) × T (black (taskIn (now task)) v) × (length (now row) ≡ 64) × (d < count (taskIn (now task)) v) ⌝ }
     ensures { λ _. ⌜ Leads (taskIn (now (task .entry))) (setsOf (now (ever .entry))) v d (now (row .exit)) ⌝ }
 {
-    lists::blank(row);
+    let labels = settle(task, ever, v, d);
     let n = task::count(task, v);
-    let mut front = state::single(d);
-    let mut rest = (18446744073709551615 >> (64 - n)) ^ front;
-    let mut k: usize = 0;
-    while k + 1 < n {
-        front = layer(task, ever, row, v, front, rest);
-        if front == 0 {
-            return;
-        }
-        rest = rest ^ front;
-        k += 1;
+    let mut c: usize = 0;
+    while c < n {
+        row[c] = lead(labels[c], c);
+        c += 1;
     }
-}
-
-// The path from c to d by the row of leads to d, written into the list from place `at` on.
-fn walk(
-    task: &[u16],
-    ever: &[u64; 64],
-    row: &[u16],
-    v: usize,
-    c: usize,
-    d: usize,
-    list: &mut [u16],
-    at: usize,
-) -> Written
-    requires { ⌜ Loaded (now task) × (length (now row) ≡ 64) × Leads (taskIn (now task)) (setsOf (now ever)) v d (now row) ⌝ }
-    requires { ⌜ (c < count (taskIn (now task)) v) × (at ≤ length (now list)) ⌝ }
-    ensures { λ r. ⌜ Put (now (list .entry)) (now (list .exit)) at (pathsOf (taskIn (now (task .entry))) (setsOf (now (ever .entry))) v c d) r ⌝ }
-{
-    let mut x = c;
-    let mut e = at;
-    let mut i = row[x];
-    while i != 65535 {
-        if e >= list.len() {
-            return Written::Long;
-        }
-        list[e] = i;
-        e += 1;
-        x = state::target(task, lists::wide(i), v);
-        i = row[x];
-    }
-    Written::Upto(e)
 }
 
 // The row of leads to d stands in the memo: it is searched for if it does not yet.
@@ -214,8 +231,19 @@ pub fn path(
 {
     prepare(task, ever, memo, v, d);
     let from = 64 * d;
-    let to = from + 64;
-    walk(task, ever, &memo[from..to], v, c, d, list, at)
+    let mut x = c;
+    let mut e = at;
+    let mut l = lists::wide(memo[from + x]);
+    while l % 64 != x {
+        if e >= list.len() {
+            return Written::Long;
+        }
+        list[e] = (l / 64) as u16;
+        e += 1;
+        x = l % 64;
+        l = lists::wide(memo[from + x]);
+    }
+    Written::Upto(e)
 }
 
 // Action i sets a black variable.

@@ -14,11 +14,11 @@ use Rattle.planning.specs.Record.{effectsIn, effectsFrom, actionEnd, act
 use Rattle.planning.specs.Record.{variableChecks, variablesChecks, countIn, factChecks, factsChecks, actionChecks, actionsChecks, endsAt}
 use Rattle.planning.specs.Record.{recordEnd, recordChecks, recordCheck}
 use Rattle.planning.specs.Runs.{has, touches, look, holds, step, variable, act, count, black, initial, goalsFrom, goals, runBy, runsBy, stepsBy}
-use Rattle.planning.specs.Runs.{allBelow, isPlan, size, factsIn, costOf}
+use Rattle.planning.specs.Runs.{actions, allBelow, isPlan, size, factsIn, costBy}
 use Rattle.planning.specs.Relaxed.{adds, cheapest, forward, addable, forwardRun, forwardEnd, reachesGoals, factsReached, firstAchiever, is, reachedNeeded, keep, relaxedPlan}
 use Rattle.planning.specs.Painting.{without, reducedEffects, causalArc, blackArc, onCycle, cyclic, fits, leaves, orZero, target, arcFrom, outside, returnBy, lacksReturn}
 use Rattle.planning.specs.Painting.{unreturned, acyclicCheck, returnCheck}
-use Rattle.planning.specs.Repair.{known, union, everAfter, usableArc, adjacent, pathIn, shortest, toward, after, pass, fill, ready, clientsFirst}
+use Rattle.planning.specs.Repair.{known, union, everAfter, usableArc, smaller, better, choose, bestBelow, behind, bestIn, bestPath, toward, after, pass, fill, ready, clientsFirst}
 use Rattle.planning.specs.Repair.{order, value, blackMet, moves, stageSteps, allSteps, stagesFrom, stages, repaired}
 use Rattle.planning.specs.Newest.{initialValues, newer, tracked, track, redBlackSteps, stopsIn, tabulate, newestValues, Progress, progress}
 use Rattle.planning.specs.Existence.{share, blackProduct}
@@ -120,6 +120,26 @@ gate =
     16 ∷ 96 ∷ 20 ∷ 24 ∷ 16 ∷ 1 ∷ 129 ∷ 0 ∷ 16 ∷ 16 ∷ 64 ∷ 0 ∷ 68 ∷ 64 ∷ 0 ∷ 0 ∷ 64 ∷ 0 ∷ 68 ∷ 64 ∷ 4 ∷ 0 ∷ 0 ∷ 1 ∷ 8 ∷ 128 ∷
     4 ∷ 16 ∷ 0 ∷ 4 ∷ 16 ∷ 64 ∷ 1 ∷ 8 ∷ 128 ∷ 4 ∷ 16 ∷ 64 ∷ 4 ∷ 16 ∷ 0 ∷ 0 ∷ 140 ∷ 64 ∷ 0 ∷ 16 ∷ 66 ∷ 0 ∷ 32 ∷ 64 ∷ []
 
+-- detour, 12.20
+unfoldable pub detour : List ℕ
+detour =
+    16 ∷ 64 ∷ 28 ∷ 40 ∷ 16 ∷ 1 ∷ 1 ∷ 4 ∷ 0 ∷ 20 ∷ 68 ∷ 0 ∷ 128 ∷ 0 ∷ 0 ∷ 4 ∷ 68 ∷ 0 ∷ 0 ∷ 4 ∷ 0 ∷ 4 ∷ 68 ∷ 0 ∷ 64 ∷ 8 ∷
+    0 ∷ 4 ∷ 68 ∷ 0 ∷ 128 ∷ 4 ∷ 0 ∷ 4 ∷ 68 ∷ 0 ∷ 64 ∷ 0 ∷ 0 ∷ 20 ∷ 68 ∷ 0 ∷ 0 ∷ 8 ∷ 0 ∷ 4 ∷ 132 ∷ 0 ∷ 129 ∷ 0 ∷ 16 ∷ 64 ∷ []
+
+-- ring, 12.21
+unfoldable pub ring : List ℕ
+ring =
+    16 ∷ 64 ∷ 36 ∷ 56 ∷ 16 ∷ 1 ∷ 1 ∷ 4 ∷ 0 ∷ 0 ∷ 68 ∷ 0 ∷ 0 ∷ 4 ∷ 0 ∷ 0 ∷ 68 ∷ 0 ∷ 64 ∷ 8 ∷ 0 ∷ 0 ∷ 68 ∷ 0 ∷ 128 ∷ 12 ∷
+    0 ∷ 0 ∷ 68 ∷ 0 ∷ 192 ∷ 8 ∷ 0 ∷ 0 ∷ 68 ∷ 0 ∷ 128 ∷ 4 ∷ 0 ∷ 0 ∷ 68 ∷ 0 ∷ 64 ∷ 0 ∷ 0 ∷ 0 ∷ 68 ∷ 0 ∷ 192 ∷ 0 ∷ 0 ∷ 0 ∷
+    68 ∷ 0 ∷ 0 ∷ 12 ∷ 0 ∷ 4 ∷ 132 ∷ 0 ∷ 193 ∷ 0 ∷ 16 ∷ 64 ∷ []
+
+-- diamond, 12.22
+unfoldable pub diamond : List ℕ
+diamond =
+    16 ∷ 64 ∷ 44 ∷ 56 ∷ 16 ∷ 1 ∷ 1 ∷ 4 ∷ 0 ∷ 4 ∷ 68 ∷ 0 ∷ 0 ∷ 4 ∷ 0 ∷ 4 ∷ 68 ∷ 0 ∷ 64 ∷ 8 ∷ 0 ∷ 4 ∷ 68 ∷ 0 ∷ 128 ∷ 12 ∷
+    0 ∷ 4 ∷ 68 ∷ 0 ∷ 192 ∷ 4 ∷ 0 ∷ 8 ∷ 68 ∷ 0 ∷ 192 ∷ 8 ∷ 0 ∷ 4 ∷ 68 ∷ 0 ∷ 128 ∷ 0 ∷ 0 ∷ 8 ∷ 68 ∷ 0 ∷ 64 ∷ 0 ∷ 0 ∷ 16 ∷
+    68 ∷ 0 ∷ 0 ∷ 8 ∷ 0 ∷ 16 ∷ 68 ∷ 0 ∷ 64 ∷ 12 ∷ 0 ∷ 16 ∷ 68 ∷ 0 ∷ 128 ∷ 4 ∷ 0 ∷ 4 ∷ 132 ∷ 0 ∷ 193 ∷ 0 ∷ 16 ∷ 64 ∷ []
+
 -- how a clause writes facts, actions and variables
 abbrev pub fact : ℕ → ℕ → Fact
 fact v d = record { var = v; val = d }
@@ -179,6 +199,32 @@ gateTask =
     (action 1 (fact 0 0 ∷ []) (fact 0 1 ∷ []) ∷ action 1 (fact 0 1 ∷ []) (fact 0 0 ∷ [])
     ∷ action 4 (fact 0 1 ∷ fact 1 0 ∷ []) (fact 0 1 ∷ fact 1 1 ∷ []) ∷ action 4 (fact 0 1 ∷ fact 1 1 ∷ []) (fact 0 1 ∷ fact 1 0 ∷ [])
     ∷ action 2 (fact 0 0 ∷ fact 1 1 ∷ fact 2 0 ∷ []) (fact 2 1 ∷ []) ∷ [])
+
+-- a move of the carriage, variable 0; the box, variable 1, taken at d
+abbrev pub moveOf : ℕ → ℕ → ℕ → Action
+moveOf c d e = action c (fact 0 d ∷ []) (fact 0 e ∷ [])
+
+abbrev pub takeAt : ℕ → Action
+takeAt d = action 1 (fact 0 d ∷ fact 1 0 ∷ []) (fact 1 1 ∷ [])
+
+abbrev pub wayBack : ℕ → List Action → Task
+wayBack n acts = task (blackOne n 0 (some 0) ∷ redOne 2 0 (some 1) ∷ []) acts
+
+abbrev pub detourTask : Task
+detourTask = wayBack 3 (moveOf 5 2 0 ∷ moveOf 1 0 1 ∷ moveOf 1 1 2 ∷ moveOf 1 2 1 ∷ moveOf 1 1 0 ∷ moveOf 5 0 2 ∷ takeAt 2 ∷ [])
+
+abbrev pub ringTask : Task
+ringTask =
+    wayBack 4 (moveOf 0 0 1 ∷ moveOf 0 1 2 ∷ moveOf 0 2 3 ∷ moveOf 0 3 2 ∷ moveOf 0 2 1 ∷ moveOf 0 1 0 ∷ moveOf 0 3 0 ∷ moveOf 0 0 3 ∷ takeAt 3 ∷ [])
+
+abbrev pub diamondTask : Task
+diamondTask = wayBack 4
+    (moveOf 1 0 1 ∷ moveOf 1 1 2 ∷ moveOf 1 2 3 ∷ moveOf 1 3 1 ∷ moveOf 2 3 2 ∷ moveOf 1 2 0 ∷ moveOf 2 1 0
+    ∷ moveOf 4 0 2 ∷ moveOf 4 1 3 ∷ moveOf 4 2 1 ∷ takeAt 3 ∷ [])
+
+-- the path of the carriage where every arc is usable
+abbrev pub anyway : Task → ℕ → ℕ → List ℕ
+anyway t c d = bestPath (act t) (actions t) (λ _ _. true) 0 (count t 0) c d
 
 abbrev pub litTask : Task
 litTask =
@@ -294,6 +340,20 @@ pub starred :
     × (recordEnd gate ≡ 394)
     × (relaxedPlan (taskOf gate) ≡ 0 ∷ 2 ∷ 4 ∷ [])
     × (called gate 8 ≡ plan 7 (0 ∷ 2 ∷ 1 ∷ 4 ∷ 0 ∷ 3 ∷ 1 ∷ 65535 ∷ []) 14 true 7)
+    × (taskOf detour ≡ detourTask)
+    × (recordEnd detour ≡ 410)
+    × (relaxedPlan (taskOf detour) ≡ 1 ∷ 2 ∷ 6 ∷ [])
+    × (called detour 6 ≡ plan 5 (1 ∷ 2 ∷ 6 ∷ 3 ∷ 4 ∷ 65535 ∷ []) 5 true 5)
+    × (taskOf ring ≡ ringTask)
+    × (recordEnd ring ≡ 506)
+    × (relaxedPlan (taskOf ring) ≡ 0 ∷ 1 ∷ 2 ∷ 8 ∷ [])
+    × (called ring 8 ≡ plan 5 (0 ∷ 1 ∷ 2 ∷ 8 ∷ 6 ∷ 65535 ∷ 65535 ∷ 65535 ∷ []) 1 true 5)
+    × (anyway ringTask 2 0 ≡ 2 ∷ 6 ∷ [])
+    × (taskOf diamond ≡ diamondTask)
+    × (recordEnd diamond ≡ 602)
+    × (relaxedPlan (taskOf diamond) ≡ 0 ∷ 1 ∷ 2 ∷ 10 ∷ [])
+    × (called diamond 7 ≡ plan 6 (0 ∷ 1 ∷ 2 ∷ 10 ∷ 3 ∷ 6 ∷ 65535 ∷ []) 7 true 6)
+    × (anyway diamondTask 0 3 ≡ 0 ∷ 1 ∷ 2 ∷ [])
     × (desk newest [] 3 ≡ shown 0 0 (0 ∷ 0 ∷ 0 ∷ []))
     × (desk newest (0 ∷ 2 ∷ 1 ∷ []) 3 ≡ shown 3 3 (0 ∷ 1 ∷ 1 ∷ []))
     × (desk newest (0 ∷ 2 ∷ 3 ∷ []) 3 ≡ shown 3 3 (1 ∷ 0 ∷ 1 ∷ []))
@@ -308,14 +368,28 @@ pub starred :
 unfolding times share blackProduct check andThen inOrder answer bitAt bitsAt holdsField someBelow oneIf tally first total refuseAt reach variablesIn
     actionsIn goalOf variableAt variablesAt factsAt preconditionsIn effectsIn effectsFrom actionEnd actionAt actionsAt actionsEnd taskOf fieldCheck
     headerChecks goalFits variableChecks variablesChecks countIn factChecks factsChecks actionChecks actionsChecks endsAt recordEnd recordChecks
-    recordCheck has touches look holds step variable act count black initial goalsFrom goals runBy runsBy stepsBy allBelow isPlan size factsIn costOf
+    recordCheck has touches look holds step variable act count black initial goalsFrom goals runBy runsBy stepsBy allBelow isPlan size factsIn costBy
     adds cheapest forward addable forwardRun forwardEnd reachesGoals factsReached firstAchiever is reachedNeeded keep relaxedPlan without reducedEffects causalArc blackArc onCycle
-    cyclic fits leaves orZero target arcFrom outside returnBy lacksReturn unreturned acyclicCheck returnCheck known union everAfter usableArc adjacent
-    pathIn shortest toward after pass fill ready clientsFirst order value blackMet moves stageSteps allSteps stagesFrom stages repaired lent
+    cyclic fits leaves orZero target arcFrom outside returnBy lacksReturn unreturned acyclicCheck returnCheck known union everAfter usableArc
+    smaller better choose bestBelow behind bestIn bestPath toward after pass fill ready clientsFirst order value blackMet moves stageSteps allSteps stagesFrom stages repaired lent
     capacity capacityOf roomCheck goalsCheck planned planOf planCall planList called outcome redPairs variables64 variables65 twoShelves withoutOne withoutTwo lampOne lampTwo
-    bothBlack initialSet goalMet tray door litReturn repeatedVariable withFour gate initialValues newer tracked track redBlackSteps stopsIn tabulate newestValues progress
+    bothBlack initialSet goalMet tray door litReturn repeatedVariable withFour gate detour ring diamond initialValues newer tracked track redBlackSteps stopsIn tabulate newestValues progress
     newestCall newestList lengthCheck notBelow entriesCheck deskOf desk newest
 starred = (
+  refl,
+  refl,
+  refl,
+  refl,
+  refl,
+  refl,
+  refl,
+  refl,
+  refl,
+  refl,
+  refl,
+  refl,
+  refl,
+  refl,
   refl,
   refl,
   refl,

@@ -7,16 +7,16 @@ use mathlib.Core.List.{List, [], _∷_}
 use mathlib.Core.Option.{none}
 use Rattle.planning.specs.Basics.{Answer, refused, done, times, refuse, check, shifted, andThen, inOrder, answer, code, bitAt, bitsAt, holdsField, someBelow, oneIf}
 use Rattle.planning.specs.Basics.{tally, first, total, refuseAt, reach}
-use Rattle.planning.specs.Record.{Task, variablesIn, actionsIn, goalOf, variableAt, variablesAt, factsAt, preconditionsIn}
+use Rattle.planning.specs.Record.{variablesIn, actionsIn, goalOf, variableAt, variablesAt, factsAt, preconditionsIn}
 use Rattle.planning.specs.Record.{effectsIn, effectsFrom, actionEnd, actionAt, actionsAt, actionsEnd, taskOf, fieldCheck, headerChecks, goalFits}
 use Rattle.planning.specs.Record.{variableChecks, variablesChecks, countIn, factChecks, factsChecks, actionChecks, actionsChecks, endsAt}
 use Rattle.planning.specs.Record.{recordEnd, recordChecks, recordCheck}
 use Rattle.planning.specs.Runs.{has, touches, look, holds, step, variable, act, count, black, initial, goalsFrom, goals, runBy, runsBy, stepsBy}
-use Rattle.planning.specs.Runs.{allBelow, isPlan, size, factsIn, costOf, Judged, Judgement, judged, judgement}
+use Rattle.planning.specs.Runs.{allBelow, isPlan, size, factsIn, costBy, Judged, Judgement, judged, judgement}
 use Rattle.planning.specs.Relaxed.{adds, cheapest, forward, addable, forwardRun, forwardEnd, reachesGoals, factsReached, firstAchiever, is, reachedNeeded, keep, relaxedPlan}
 use Rattle.planning.specs.Painting.{without, reducedEffects, causalArc, blackArc, onCycle, cyclic, fits, leaves, orZero, target, arcFrom, outside, returnBy, lacksReturn}
 use Rattle.planning.specs.Painting.{unreturned, acyclicCheck, returnCheck}
-use Rattle.planning.specs.Repair.{known, union, everAfter, usableArc, adjacent, pathIn, shortest, toward, after, pass, fill, ready, clientsFirst}
+use Rattle.planning.specs.Repair.{known, union, everAfter, usableArc, smaller, better, choose, bestBelow, behind, bestIn, bestPath, toward, after, pass, fill, ready, clientsFirst}
 use Rattle.planning.specs.Repair.{order, value, blackMet, moves, stageSteps, allSteps, stagesFrom, stages, repaired}
 use Rattle.planning.specs.Sheet.{Sheet, bitsOf, stepBits, sheetBits, numberIn, packed, sheetEnd, sheetSize, sheetBytes, stepsAt, stepsIn, sheetOf}
 use Rattle.planning.specs.Sheet.{sheetField, stepsChecks, sheetChecks, sheetCheck}
@@ -82,10 +82,10 @@ pub told :
 unfolding times check andThen inOrder answer bitAt bitsAt holdsField someBelow oneIf tally first total refuseAt reach variablesIn
     actionsIn goalOf variableAt variablesAt factsAt preconditionsIn effectsIn effectsFrom actionEnd actionAt actionsAt actionsEnd taskOf fieldCheck
     headerChecks goalFits variableChecks variablesChecks countIn factChecks factsChecks actionChecks actionsChecks endsAt recordEnd recordChecks
-    recordCheck has touches look holds step variable act count black initial goalsFrom goals runBy runsBy stepsBy allBelow isPlan size factsIn costOf
+    recordCheck has touches look holds step variable act count black initial goalsFrom goals runBy runsBy stepsBy allBelow isPlan size factsIn costBy
     judged judgement adds cheapest forward addable forwardRun forwardEnd reachesGoals factsReached firstAchiever is reachedNeeded keep relaxedPlan without reducedEffects causalArc
     blackArc onCycle cyclic fits leaves orZero target arcFrom outside returnBy lacksReturn unreturned acyclicCheck returnCheck known union everAfter
-    usableArc adjacent pathIn shortest toward after pass fill ready clientsFirst order value blackMet moves stageSteps allSteps stagesFrom stages
+    usableArc smaller better choose bestBelow behind bestIn bestPath toward after pass fill ready clientsFirst order value blackMet moves stageSteps allSteps stagesFrom stages
     repaired lent capacity capacityOf roomCheck goalsCheck lengthCheck notBelow entriesCheck judgeCall forwardCall forwardList relaxCall relaxList
     planned planOf planCall planList runnable twoShelves withoutTwo tray
 told = (refl, refl, refl, refl, refl, refl, refl, refl, refl, refl, refl)

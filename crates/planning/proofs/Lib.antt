@@ -20,7 +20,7 @@ pub mod Arcs
 pub mod Walks
 pub mod Pass
 pub mod Fill
-pub mod Short
+pub mod Best
 pub mod Known
 pub mod Conn
 pub mod Order

@@ -1,16 +1,16 @@
 -- Listings byte for byte: that of 10.4, of two shelves with action 4 and without action 2, and of the tray. antt computes them.
 use mathlib.Core.Path.{_≡_, refl}
-use mathlib.Core.List.{List, [], _∷_}
+use mathlib.Core.List.{[], _∷_}
 use Rattle.planning.specs.Basics.{times, check, andThen, inOrder, answer, bitAt, bitsAt, holdsField, someBelow, oneIf, tally, first, total, refuseAt, reach}
 use Rattle.planning.specs.Record.{variablesIn, actionsIn, goalOf, variableAt, variablesAt, factsAt, preconditionsIn, effectsIn, effectsFrom, actionEnd}
 use Rattle.planning.specs.Record.{actionAt, actionsAt, actionsEnd, taskOf, fieldCheck, headerChecks, goalFits, variableChecks, variablesChecks}
 use Rattle.planning.specs.Record.{countIn, factChecks, factsChecks, actionChecks, actionsChecks, endsAt, recordEnd, recordChecks, recordCheck}
 use Rattle.planning.specs.Runs.{has, touches, look, holds, step, variable, act, count, black, initial, goalsFrom, goals, runBy, runsBy, stepsBy, allBelow}
-use Rattle.planning.specs.Runs.{isPlan, size, factsIn, costOf}
+use Rattle.planning.specs.Runs.{isPlan, size, factsIn, costBy}
 use Rattle.planning.specs.Relaxed.{adds, cheapest, forward, addable, forwardRun, forwardEnd, reachesGoals, factsReached, firstAchiever, is, reachedNeeded, keep, relaxedPlan}
 use Rattle.planning.specs.Painting.{without, reducedEffects, causalArc, blackArc, onCycle, cyclic, fits, leaves, orZero, target, arcFrom, outside, returnBy, lacksReturn}
 use Rattle.planning.specs.Painting.{unreturned, acyclicCheck, returnCheck}
-use Rattle.planning.specs.Repair.{known, union, everAfter, usableArc, adjacent, pathIn, shortest, toward, after, pass, fill, ready, clientsFirst}
+use Rattle.planning.specs.Repair.{known, union, everAfter, usableArc, smaller, better, choose, bestBelow, behind, bestIn, bestPath, toward, after, pass, fill, ready, clientsFirst}
 use Rattle.planning.specs.Repair.{order, value, blackMet, moves, stageSteps, allSteps, stagesFrom, stages, repaired}
 use Rattle.planning.specs.Calls.{capacity, capacityOf, roomCheck, goalsCheck, planned, planOf, planCall, runnable}
 use Rattle.planning.specs.Listing.{digitsUpto, decimal, numbers, line, verdictWord, listing, listingOf}
@@ -38,9 +38,9 @@ unfolding listingOf listing digitsUpto decimal numbers line verdictWord times ch
     tally first total refuseAt reach variablesIn actionsIn goalOf variableAt variablesAt factsAt preconditionsIn effectsIn effectsFrom actionEnd
     actionAt actionsAt actionsEnd taskOf fieldCheck headerChecks goalFits variableChecks variablesChecks countIn factChecks factsChecks
     actionChecks actionsChecks endsAt recordEnd recordChecks recordCheck has touches look holds step variable act count black initial goalsFrom
-    goals runBy runsBy stepsBy allBelow isPlan size factsIn costOf adds cheapest forward addable forwardRun forwardEnd reachesGoals factsReached
+    goals runBy runsBy stepsBy allBelow isPlan size factsIn costBy adds cheapest forward addable forwardRun forwardEnd reachesGoals factsReached
     firstAchiever is reachedNeeded keep relaxedPlan without reducedEffects causalArc blackArc onCycle cyclic fits leaves orZero target arcFrom outside returnBy
-    lacksReturn unreturned acyclicCheck returnCheck known union everAfter usableArc adjacent pathIn shortest toward after pass fill ready
+    lacksReturn unreturned acyclicCheck returnCheck known union everAfter usableArc smaller better choose bestBelow behind bestIn bestPath toward after pass fill ready
     clientsFirst order value blackMet moves stageSteps allSteps stagesFrom stages repaired capacity capacityOf roomCheck goalsCheck planned planOf planCall runnable
     twoShelves withFour withoutTwo tray
 listed = (refl, refl, refl, refl)

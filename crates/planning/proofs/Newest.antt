@@ -17,7 +17,7 @@ use Rattle.planning.specs.Newest.{Values, initialValues, newer, Tracked,
 use Rattle.planning.proofs.Tests.{T→true, F→false, and-r, and-i}
 use Rattle.planning.proofs.Facts.{has-here, has-there, has→touches, touches→has, look-some, look-none, look-is, Func}
 use Rattle.planning.proofs.Steps.{step-eff, step-keep, step-cases}
-use Rattle.planning.proofs.Formed.{Formed, sorted-has, sorted-func}
+use Rattle.planning.proofs.Formed.{Formed, sorted-has, eff-func}
 use Rattle.planning.proofs.Prefixes.{runBy-behind, stepsBy-pass, stepsBy-stop}
 
 -- an effect sets the newest value; other variables keep theirs
@@ -104,7 +104,7 @@ module _ (t : Task) (F : Formed t) where
 
   -- the law, for every list and semantics from the initial state
   pub fresh : (m : Mode) (l : List ℕ) → Fresh (variables t) m (runBy (λ i. track m (act t i)) l (tracked t))
-  fresh m l = fresh-run (variables t) m (act t) (λ i. sorted-func (variables t) (count t) 0 (act t i .eff) (F .eff-sorted i)) l (tracked t) (fresh-initial m)
+  fresh m l = fresh-run (variables t) m (act t) (λ i. eff-func t F i) l (tracked t) (fresh-initial m)
 
   -- the real state: the newest values alone
   pub real-state : (l : List ℕ) (v d : ℕ) → v < variables t → run (act t) real l (initial t) v d ≡ alone (newestAfter t l) v d

@@ -20,9 +20,9 @@ use Rattle.planning.specs.Existence.{share, blackProduct}
 use Rattle.planning.proofs.Tests.{or-l, or-r, and-l, and-r, and-i, T-cases}
 use Rattle.planning.proofs.Below.{some-intro, some-elim, first-none, tally-le, times-same}
 use Rattle.planning.proofs.Graph.{reach-here, reach-move, onCycle-of}
-use Rattle.planning.proofs.Facts.{has-here, has-there, has-cases, has-++, holds→sub, has→touches, Func}
+use Rattle.planning.proofs.Facts.{has-here, has-there, has-cases, has-++, holds→sub, has→touches}
 use Rattle.planning.proofs.Fields.{variable-past}
-use Rattle.planning.proofs.Formed.{Formed, sorted-has, sorted-func, goals-sorted, initial-holds, initial-elim}
+use Rattle.planning.proofs.Formed.{Formed, sorted-func, pre-func, eff-func, eff-below, goals-sorted, initial-holds, initial-elim}
 use Rattle.planning.proofs.Plans.{isPlan-elim, isPlan-intro}
 use Rattle.planning.proofs.Arcs.{arcFrom-elim, arcFrom-intro}
 use Rattle.planning.proofs.Walks.{Walk, Usable, stop}
@@ -78,15 +78,6 @@ outside-has v (f ∷ fs) u x h = go (eqb (f .var) v) h (outside-has v fs u x)
     go false h k = elim (has-cases f (outside v fs) u x h) [ inl z ↦ rw (z .0, z .1) (has-here f fs) | inr z ↦ has-there f fs u x (k z) ]
 
 module _ (t : Task) (F : Formed t) where
-  pre-func : (i : ℕ) → Func (act t i .pre)
-  pre-func i = sorted-func (variables t) (count t) 0 (act t i .pre) (F .pre-sorted i)
-
-  eff-func : (i : ℕ) → Func (act t i .eff)
-  eff-func i = sorted-func (variables t) (count t) 0 (act t i .eff) (F .eff-sorted i)
-
-  eff-ranged : (i v e : ℕ) → T (has (act t i .eff) v e) → e < count t v
-  eff-ranged i v e h = sorted-has (variables t) (count t) 0 (act t i .eff) (F .eff-sorted i) v e h .val-below
-
   initial-one : (v c d : ℕ) → T (initial t v c) → T (initial t v d) → c ≡ d
   initial-one v c d h g = initial-elim t v c h .1 ∙ sym (initial-elim t v d g .1)
 
@@ -135,7 +126,7 @@ module _ (t : Task) (F : Formed t) where
     inverts v i d e bv b db a = go (T-cases (someBelow (actions t) (returnBy t v d i)))
       where
         own : T (arcFrom (act t) v d i) × (target (act t) v i ≡ e)
-        own = arcFrom-intro (act t) v d e i (eff-func i) a
+        own = arcFrom-intro (act t) v d e i (eff-func t F i) a
 
         go : T (someBelow (actions t) (returnBy t v d i)) ⊎ T (not (someBelow (actions t) (returnBy t v d i))) → Returns (act t) (actions t) (black t) (count t) v i d e
         go (inr n) =
@@ -146,7 +137,7 @@ module _ (t : Task) (F : Formed t) where
             let j : ℕ = r .0 in
             let o : List Fact = outside v (act t i .pre) ++ outside v (act t i .eff) in
             let h : T ((arcFrom (act t) v (target (act t) v i) j && eqb (target (act t) v j) d) && holds (has o) (outside v (act t j .pre))) = r .2 in
-            let x = arcFrom-elim (act t) v (target (act t) v i) j (pre-func j) (search and-l) in
+            let x = arcFrom-elim (act t) v (target (act t) v i) j (pre-func t F j) (search and-l) in
             let q : target (act t) v j ≡ d = eqb→eq (target (act t) v j) d (search (and-l, and-r)) in
             record {
               by = j;
@@ -170,8 +161,8 @@ module _ (t : Task) (F : Formed t) where
         (record { shut = λ u w z _ _. z; out = λ u q. inl q; in′ = λ u. elim [ inl q ↦ q | inr z ↦ absurd z ] })
         (tally-le (variables t) (untaken (black t) (λ _. false))) in
         record {
-          sound = record { pres = λ i _. pre-func i; effs = λ i _. eff-func i; one = one-black Y };
-          range = λ i v e _ h. eff-ranged i v e h;
+          sound = record { pres = λ i _. pre-func t F i; effs = λ i _. eff-func t F i; one = one-black Y };
+          range = λ i v e _ h. eff-below t F i v e h;
           pos = F .count-min;
           invertible = inverts;
           ordered = o .0;

@@ -18,14 +18,14 @@ use Rattle.planning.specs.Basics.{first}
 use Rattle.planning.specs.Record.{Fact, Action}
 use Rattle.planning.specs.Runs.{State, has, holds, Mode, step, relaxed, run, runs, runBy, runsBy}
 use Rattle.planning.specs.Painting.{orZero}
-use Rattle.planning.specs.Repair.{known, everAfter, shortest, fill, value, blackMet, moves, stageSteps, allSteps, stagesFrom}
+use Rattle.planning.specs.Repair.{known, everAfter, bestPath, fill, value, blackMet, moves, stageSteps, allSteps, stagesFrom}
 use Rattle.planning.proofs.Tests.{T→true, or-r, or-cases, and-l, and-r, and-i}
 use Rattle.planning.proofs.Below.{First?, first-is}
 use Rattle.planning.proofs.Facts.{_⊆_, holds→sub, sub→holds, Func}
 use Rattle.planning.proofs.Steps.{step-mono, run-append, runs-append, run-grows, All, all-append, all-map}
 use Rattle.planning.proofs.Walks.{Walk, Usable}
 use Rattle.planning.proofs.Fill.{withs, Ordered, Sound, fill-meets, meets→runs, product, fill-short}
-use Rattle.planning.proofs.Short.{shortest-short, shortest-walk}
+use Rattle.planning.proofs.Best.{best-walk, best-short}
 use Rattle.planning.proofs.Known.{everAfter-now, known-run}
 use Rattle.planning.proofs.Conn.{Invertible, Inv, Conn, inv-same, conn-same, inv-step, conn-step}
 
@@ -109,12 +109,12 @@ module _ (act : ℕ → Action) (A : ℕ) (m : Mode) (count : ℕ → ℕ) (orde
       W = known m s ever
 
       path : ℕ → ℕ → ℕ → List ℕ
-      path v = shortest act A W v (count v)
+      path v = bestPath act A W v (count v)
 
       paths : (v c d : ℕ) → T (m v) → T (W v c) → T (W v d) → Walk act (Usable act A W v) v c (path v c d) d
       paths v c d mv h g =
           let p = C v c d mv h g in
-          shortest-walk act A W v (count v) (K .sound .pres) (K .sound .effs) (λ i e. K .range i v e) c d (I .ranged v c h) (I .ranged v d g) (p .0) (p .1)
+          best-walk act A W v (count v) (K .sound .pres) (K .sound .effs) (λ i e. K .range i v e) c d (I .ranged v c h) (p .0) (p .1)
 
       go : (b : Bool) → blackMet m s w ≡ b → Leads s w (elim b [ true ↦ [] | false ↦ fill act path (value count s) order [] w ])
       go true e = record { below = tt; runs′ = tt; meets = blackMet→sub m s w (rw e tt) (λ v d h r. I .reds v d r (ww v d h)) }
@@ -170,11 +170,11 @@ module _ (act : ℕ → Action) (A : ℕ) (m : Mode) (count : ℕ → ℕ) (orde
       W = known m s ever
 
       path : ℕ → ℕ → ℕ → List ℕ
-      path v = shortest act A W v (count v)
+      path v = bestPath act A W v (count v)
 
       go : (b : Bool) → length {A = ℕ} (elim b [ true ↦ [] | false ↦ fill act path (value count s) order [] w ]) < product count order
       go true = product-pos order
-      go false = omega (arith, fill-short act path (value count s) count (λ v. shortest-short act A W v (count v) (K .sound .pres) (K .sound .effs) (λ i e. K .range i v e) (K .pos v)) order [] w)
+      go false = omega (arith, fill-short act path (value count s) count (λ v c d. best-short act A W v d (count v) (K .pos v) c) order [] w)
 
   repairFrom-long : (goal : List Fact) (l : List ℕ) (s ever : State) → length (repairFrom act A m count order goal l s ever) < (length l + 1) * product count order
   unfolding stageSteps allSteps stagesFrom
@@ -187,7 +187,7 @@ module _ (act : ℕ → Action) (A : ℕ) (m : Mode) (count : ℕ → ℕ) (orde
   moves-none : (s ever : State) (w : List Fact) → has w ⊆ s → moves act A m count order s ever w ≡ []
   unfolding moves
   moves-none s ever w h =
-      ap (λ (b : Bool). elim b as (λ _. List ℕ) [ true ↦ [] | false ↦ fill act (λ v. shortest act A (known m s ever) v (count v)) (value count s) order [] w ])
+      ap (λ (b : Bool). elim b as (λ _. List ℕ) [ true ↦ [] | false ↦ fill act (λ v. bestPath act A (known m s ever) v (count v)) (value count s) order [] w ])
       (T→true (blackMet m s w) (sub→blackMet m s w h))
 
   pub repairFrom-short : (goal : List Fact) (l : List ℕ) (s ever : State) → T (runs act relaxed l s) → has goal ⊆ run act relaxed l s

@@ -9,7 +9,7 @@ use lib.ListN.{length}
 use native.Mathlib.Omega.{arith}
 use Rattle.planning.specs.Basics.{bitsAt}
 use Rattle.planning.specs.Record.{Task, variablesIn, actionsIn, endsAt, recordEnd, recordCheck}
-use Rattle.planning.specs.Runs.{variables, count, factsIn, costOf}
+use Rattle.planning.specs.Runs.{variables, count, factsIn, costOf, costBy}
 use Rattle.planning.specs.Relaxed.{addable, forwardEnd, factsReached}
 use Rattle.planning.specs.Calls.{capacity, capacityOf}
 use Rattle.planning.proofs.Tests.{and-l}
@@ -30,7 +30,7 @@ unfolding factsReached factsIn
 factsReached-le t F = omega (arith, F .variables-max, size-le (variables t) (count t) (forwardEnd t), total-max (variables t) 64 (count t) (F .count-max))
 
 pub costOf-le : (t : Task) → Formed t → (l : List ℕ) → costOf t l ≤ 65535 * length l
-unfolding costOf
+unfolding costBy
 costOf-le t F [] = omega arith
 costOf-le t F (i ∷ l) = omega (arith, F .cost-below i, costOf-le t F l)
 

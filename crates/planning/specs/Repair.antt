@@ -1,12 +1,13 @@
 -- Repair (6).
-use Prim.Native.Nat.{ℕ, zero, suc}
+use Prim.Native.Nat.{ℕ, zero, suc, pred}
 use mathlib.Core.Bool.{Bool, true, false, not, _&&_, _||_}
 use mathlib.Core.List.{List, [], _∷_, _++_}
 use mathlib.Core.Option.{Option, none, some}
-use lib.Dec.{eqb}
-use Rattle.planning.specs.Basics.{first, someBelow, reach}
+use lib.Dec.{eqb, ltb}
+use lib.ListN.{length}
+use Rattle.planning.specs.Basics.{first, someBelow}
 use Rattle.planning.specs.Record.{Fact, Action, Task}
-use Rattle.planning.specs.Runs.{State, Mode, look, holds, step, run, variables, actions, count, black, act, initial, goals}
+use Rattle.planning.specs.Runs.{State, Mode, look, holds, step, run, costBy, variables, actions, count, black, act, initial, goals}
 use Rattle.planning.specs.Painting.{arcFrom, target, orZero, blackArc}
 
 -- 6.3: R and B together, from the present state and the facts held ever
@@ -22,23 +23,52 @@ unfoldable pub everAfter : (ℕ → Action) → Mode → List ℕ → State → 
 everAfter act m [] s ever = ever
 everAfter act m (i ∷ l) s ever = everAfter act m l (step m (act i) s) (union ever (step m (act i) s))
 
--- 6.3 and 6.7, K being R and B: action i gives a usable arc of v from c; some action gives one from c to e
+-- 6.3 and 6.7, K being R and B: action i gives a usable arc of v from c
 unfoldable pub usableArc : (ℕ → Action) → State → ℕ → ℕ → ℕ → Bool
 usableArc act K v c i = holds K (act i .pre) && arcFrom act v c i
 
-unfoldable pub adjacent : (ℕ → Action) → ℕ → State → ℕ → ℕ → ℕ → Bool
-adjacent act A K v c e = someBelow A (λ i. usableArc act K v c i && eqb (target act v i) e)
+-- 6.7: the list is a path of v from c to d
+unfoldable pub isPath : (ℕ → Action) → ℕ → State → ℕ → ℕ → ℕ → List ℕ → Bool
+isPath act A K v c d [] = eqb c d
+isPath act A K v c d (i ∷ p) = (ltb i A && usableArc act K v c i) && isPath act A K v (target act v i) d p
 
--- 6.7: the path from c to d, where k moves are the fewest: first the smallest action after which k − 1 are enough
-unfoldable pub pathIn : (ℕ → Action) → ℕ → State → ℕ → ℕ → ℕ → ℕ → ℕ → List ℕ
-pathIn act A K v n zero c d = []
-pathIn act A K v n (suc k) c d =
-    elim (first A (λ i. usableArc act K v c i && reach n (adjacent act A K v) k (target act v i) d)) [ none ↦ [] | some i ↦ i ∷ pathIn act A K v n k (target act v i) d ]
+-- 6.7: one list of numbers before another, compared first to last; a path better than another: by cost, then moves, then actions
+unfoldable pub smaller : List ℕ → List ℕ → Bool
+smaller [] [] = false
+smaller [] (y ∷ q) = true
+smaller (x ∷ p) [] = false
+smaller (x ∷ p) (y ∷ q) = ltb x y || (eqb x y && smaller p q)
 
--- 6.7: the path from c to d. v has n values, so the fewest moves are less than n. Where there is no path, the empty list; a repair
+unfoldable pub better : (ℕ → Action) → List ℕ → List ℕ → Bool
+better act p q = smaller (costBy act p ∷ length p ∷ p) (costBy act q ∷ length q ∷ q)
+
+-- 6.7: the better of two paths, of which each may be missing; the best of n
+unfoldable pub choose : (ℕ → Action) → Option (List ℕ) → Option (List ℕ) → Option (List ℕ)
+choose act none q = q
+choose act (some p) none = some p
+choose act (some p) (some q) = elim (better act q p) [ true ↦ some q | false ↦ some p ]
+
+unfoldable pub bestBelow : (ℕ → Action) → ℕ → (ℕ → Option (List ℕ)) → Option (List ℕ)
+bestBelow act zero f = none
+bestBelow act (suc n) f = choose act (bestBelow act n f) (f n)
+
+-- 6.7: a path behind action i; the best path from c to d of at most k moves: the empty one if they are the same, else the best of those
+-- by an action and the best from its target on
+unfoldable pub behind : ℕ → Option (List ℕ) → Option (List ℕ)
+behind i none = none
+behind i (some p) = some (i ∷ p)
+
+unfoldable pub bestIn : (ℕ → Action) → ℕ → State → ℕ → ℕ → ℕ → ℕ → Option (List ℕ)
+bestIn act A K v zero c d = elim (eqb c d) [ true ↦ some [] | false ↦ none ]
+bestIn act A K v (suc k) c d = elim (eqb c d) [
+  | true ↦ some []
+  | false ↦ bestBelow act A (λ i. elim (usableArc act K v c i) [ true ↦ behind i (bestIn act A K v k (target act v i) d) | false ↦ none ])
+]
+
+-- 6.7: the path from c to d. v has n values, and the best of all paths has fewer moves. Where there is no path, the empty list; a repair
 -- after 7, 8 and 9 never asks for one that does not exist.
-unfoldable pub shortest : (ℕ → Action) → ℕ → State → ℕ → ℕ → ℕ → ℕ → List ℕ
-shortest act A K v n c d = elim (first n (λ k. reach n (adjacent act A K v) k c d)) [ none ↦ [] | some k ↦ pathIn act A K v n k c d ]
+unfoldable pub bestPath : (ℕ → Action) → ℕ → State → ℕ → ℕ → ℕ → ℕ → List ℕ
+bestPath act A K v n c d = elim (bestIn act A K v (pred n) c d) [ none ↦ [] | some p ↦ p ]
 
 -- 6.6: the path from c to the value asked for, if one is; the value that v then has
 unfoldable pub toward : (ℕ → ℕ → List ℕ) → ℕ → Option ℕ → List ℕ
@@ -84,7 +114,7 @@ blackMet m s (f ∷ fs) = (not (m (f .var)) || s (f .var) (f .val)) && blackMet 
 -- variables only, so that red facts of w are not looked at.
 unfoldable pub moves : (ℕ → Action) → ℕ → Mode → (ℕ → ℕ) → List ℕ → State → State → List Fact → List ℕ
 moves act A m count order s ever w =
-    elim (blackMet m s w) [ true ↦ [] | false ↦ fill act (λ v. shortest act A (known m s ever) v (count v)) (value count s) order [] w ]
+    elim (blackMet m s w) [ true ↦ [] | false ↦ fill act (λ v. bestPath act A (known m s ever) v (count v)) (value count s) order [] w ]
 
 -- 6.2: a stage of the walk: the moves inserted, and behind them the action that they are for, none at the end; its steps, and those of a
 -- list of stages

@@ -1,19 +1,19 @@
 -- Entries of the lists that passes build are actions; parts of a list that was written.
-use mathlib.Core.Bool.{Bool, true, false, _&&_, _||_}
+use mathlib.Core.Bool.{Bool, true, false, _||_}
 use mathlib.Core.List.{List, [], _∷_, _++_}
 use mathlib.Core.Option.{Option, none, some}
-use Prim.Native.Nat.{ℕ, zero, suc, _+_, _-_, _<_}
+use Prim.Native.Nat.{ℕ, zero, suc, _+_, _<_}
 use native.Mathlib.Omega.{arith}
 use lib.Dec.{T, eqb}
 use lib.ListN.{length, getD}
-use Rattle.planning.specs.Basics.{first, reach}
+use Rattle.planning.specs.Basics.{first}
 use Rattle.planning.specs.Record.{Fact, Action, Task}
 use Rattle.planning.specs.Runs.{State, Mode, look, variables, actions, count, act, black, goals}
-use Rattle.planning.specs.Painting.{target}
-use Rattle.planning.specs.Repair.{usableArc, adjacent, pathIn, shortest, toward, after, pass, fill, ready, clientsFirst, order, value, blackMet}
+use Rattle.planning.specs.Repair.{toward, after, pass, fill, ready, clientsFirst, order, value, blackMet}
 use Rattle.planning.proofs.Tests.{and-l}
 use Rattle.planning.proofs.Below.{First?, first-is}
 use Rattle.planning.proofs.Steps.{All, all-append}
+use Rattle.planning.proofs.Best.{best-below}
 use Rattle.passes.specs.Passes.{passOf, Entries}
 use Rattle.paths.specs.Paths.{pathsOf}
 use Rattle.repair.specs.Repairs.{fillFrom, filled, moved, stageOf}
@@ -26,27 +26,6 @@ all-entries n (x ∷ l) a (suc k) h = all-entries n l (a .1) k (omega arith)
 pub entries-all : (n : ℕ) (l : List ℕ) → ((k : ℕ) → k < length l → getD l k 0 < n) → All (λ i. i < n) l
 entries-all n [] e = tt
 entries-all n (x ∷ l) e = (e 0 (omega arith), entries-all n l (λ k h. e (suc k) (omega arith)))
-
-module _ (act : ℕ → Action) (A : ℕ) (K : State) (v n : ℕ) where
-  pathIn-below : (k c d : ℕ) → All (λ i. i < A) (pathIn act A K v n k c d)
-  unfolding pathIn
-  pathIn-below zero c d = tt
-  pathIn-below (suc k) c d = go (first A goes) (first-is A goes) (pathIn-below k)
-    where
-      goes : ℕ → Bool
-      goes i = usableArc act K v c i && reach n (adjacent act A K v) k (target act v i) d
-
-      go : (o : Option ℕ) → First? A goes o → ((c d : ℕ) → All (λ i. i < A) (pathIn act A K v n k c d)) → All (λ i. i < A) (elim o [ none ↦ [] | some i ↦ i ∷ pathIn act A K v n k (target act v i) d ])
-      go none f g = tt
-      go (some i) f g = (f .below, g (target act v i) d)
-
-  shortest-below : (c d : ℕ) → All (λ i. i < A) (shortest act A K v n c d)
-  unfolding shortest
-  shortest-below c d = go (first n (λ k. reach n (adjacent act A K v) k c d))
-    where
-      go : (o : Option ℕ) → All (λ i. i < A) (elim o [ none ↦ [] | some k ↦ pathIn act A K v n k c d ])
-      go none = tt
-      go (some k) = pathIn-below k c d
 
 module _ (A : ℕ) (act : ℕ → Action) (path : ℕ → ℕ → List ℕ) (small : (c d : ℕ) → All (λ i. i < A) (path c d)) where
   toward-below : (c : ℕ) (o : Option ℕ) → All (λ i. i < A) (toward path c o)
@@ -62,7 +41,7 @@ module _ (A : ℕ) (act : ℕ → Action) (path : ℕ → ℕ → List ℕ) (sma
 
 pub pass-entries : (t : Task) (K : State) (v c : ℕ) (l : List ℕ) (w : List Fact) → Entries t l → Entries t (passOf t K v c l w)
 pass-entries t K v c l w e = all-entries (actions t) (passOf t K v c l w)
-    (pass-below (actions t) (act t) (pathsOf t K v) (shortest-below (act t) (actions t) K v (count t v)) v c l w (entries-all (actions t) l e))
+    (pass-below (actions t) (act t) (pathsOf t K v) (λ c d. best-below (act t) (actions t) K v d (count t v) c) v c l w (entries-all (actions t) l e))
 
 pub append-entries : (t : Task) (l k : List ℕ) → Entries t l → Entries t k → Entries t (l ++ k)
 append-entries t l k a b = all-entries (actions t) (l ++ k) (all-append (λ i. i < actions t) l k (entries-all (actions t) l a) (entries-all (actions t) k b))

@@ -3,13 +3,13 @@
 use mathlib.Core.Path.{_≡_, refl, sym, ap, _∙_}
 use mathlib.Core.Bool.{Bool, true, false}
 use mathlib.Core.List.{List, [], _∷_, _++_}
-use Prim.Native.Nat.{ℕ, _+_, _*_, _<_, _≤_}
+use Prim.Native.Nat.{ℕ, _+_, _<_, _≤_}
 use native.Mathlib.Omega.{arith}
 use lib.Dec.{eqb}
 use lib.ListN.{length, length-append}
 use Rattle.planning.specs.Basics.{done}
 use Rattle.planning.specs.Record.{Task}
-use Rattle.planning.specs.Runs.{holds, step, real, actions, act, initial, goals, runBy, stepsBy, run, runs, stepsRun, isPlan, costOf, allBelow}
+use Rattle.planning.specs.Runs.{holds, step, real, actions, act, initial, goals, runBy, stepsBy, run, runs, stepsRun, isPlan, costBy, costOf, allBelow}
 use Rattle.planning.specs.Newest.{Values, initialValues, newer, alone}
 use Rattle.planning.specs.Calls.{planned}
 use Rattle.planning.proofs.Tests.{T→true}
@@ -17,6 +17,7 @@ use Rattle.planning.proofs.Steps.{All}
 use Rattle.planning.proofs.Plans.{allBelow-intro, runs-stepsRun}
 use Rattle.planning.proofs.Formed.{Formed, sorted-has, goals-sorted}
 use Rattle.planning.proofs.Prefixes.{runBy-behind, stepsBy-le}
+use Rattle.planning.proofs.Sizes.{costOf-le}
 use Rattle.planning.proofs.Newest.{newestAfter, real-holds}
 use Rattle.state.proofs.Running.{further-steps}
 use Rattle.repair.specs.declared.Counts.{Counts}
@@ -40,18 +41,13 @@ pub record Counted (t : Task) (l : List ℕ) (f : Values) (c : Counts) : Type 0 
   pub newest : f ≡ newestAfter t l
 
 pub counted-none : (t : Task) (f : Values) → f ≡ initialValues t → Counted t [] f (record { steps = 0; runs = 0; cost = 0 })
-unfolding stepsBy costOf runBy
+unfolding stepsBy costBy runBy
 counted-none t f e = record { steps = refl; runs = refl; cost = refl; newest = e }
 
 costOf-behind : (t : Task) (l : List ℕ) (i : ℕ) → costOf t (l ++ (i ∷ [])) ≡ costOf t l + act t i .cost
-unfolding costOf
+unfolding costBy
 costOf-behind t [] i = omega arith
 costOf-behind t (j ∷ l) i = omega (arith, costOf-behind t l i)
-
-costOf-small : (t : Task) → Formed t → (l : List ℕ) → costOf t l ≤ 65535 * length l
-unfolding costOf
-costOf-small t F [] = omega arith
-costOf-small t F (i ∷ l) = omega (arith, F .cost-below i, costOf-small t F l)
 
 module _ {t : Task} (F : Formed t) {l : List ℕ} {f : Values} {c : Counts} (C : Counted t l f c) where
   -- a list that fits
@@ -59,7 +55,7 @@ module _ {t : Task} (F : Formed t) {l : List ℕ} {f : Values} {c : Counts} (C :
   counted-few h = record {
     steps = omega (arith, C .steps);
     runs = omega (arith, C .steps, C .runs, stepsBy-le (λ i s. holds s (act t i .pre)) (λ i. step real (act t i)) l (initial t));
-    cost = omega (arith, C .steps, C .cost, costOf-small t F l);
+    cost = omega (arith, C .steps, C .cost, costOf-le t F l);
   }
 
   -- one action more

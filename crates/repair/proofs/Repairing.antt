@@ -10,14 +10,14 @@ use native.Mathlib.Omega.{arith}
 use lib.ListN.{length, getD, take, drop, length-append, length-drop}
 use lib.Seq.{slice, slice-cons, slice-empty, drop-cons, drop-length, drop-at, take-at, take-take, take-suc, take-all, getD-take, getD-drop, length-take-le}
 use Rattle.planning.specs.Record.{Fact, Task}
-use Rattle.planning.specs.Runs.{State, step, relaxed, run, runBy, initial, goals, variables, actions, count, act, black}
+use Rattle.planning.specs.Runs.{State, step, relaxed, run, runBy, initial, goals, actions, count, act, black}
 use Rattle.planning.specs.Newest.{Values, initialValues, newer}
 use Rattle.planning.specs.Repair.{known, everAfter, moves, order, stages, repaired}
 use Rattle.planning.proofs.Facts.{_⊆_}
 use Rattle.planning.proofs.Known.{_≈_, known-start, known-run, everAfter-now}
 use Rattle.planning.proofs.Tests.{bool-same}
 use Rattle.planning.proofs.Repair.{repairFrom, repairFrom-nil, repairFrom-cons}
-use Rattle.planning.proofs.Formed.{Formed, sorted-func}
+use Rattle.planning.proofs.Formed.{Formed, eff-func}
 use Rattle.state.specs.Sets.{setsOf, redBlackOf}
 use Rattle.state.proofs.RedBlack.{redBlack-step, redBlack-initial}
 use Rattle.paths.specs.Paths.{Memo, Put}
@@ -149,7 +149,7 @@ module _ {t : Task} {l₀ plan₀ plan memo sets : List ℕ} {f : Values} {c : C
         → setsOf sets′ ≡ step relaxed (act t i) (setsOf sets) → Onward (act t i) f c c′ → f′ ≡ newer (act t i) f → Repairing t l₀ plan₀ plan memo′ sets′ f′ c′ a j
     unfolding runBy everAfter
     repairing-step F memo′ sets′ f′ c′ rows′ es O ef =
-        let effects = sorted-func (variables t) (count t) 0 (act t i .eff) (F .eff-sorted i) in
+        let effects = eff-func t F i in
         let now : shown t sets′ f′ ≡ step (black t) (act t i) (shown t sets f) = rw (es, ef) (redBlack-step (black t) (act t i) effects (setsOf sets) f) in
         let held′ = everAfter (act t) (black t) (i ∷ []) (shown t sets f) (G .held) in
         let later = known-run (act t) (black t) (i ∷ []) (shown t sets f) (G .held) (G .below) in

@@ -8,11 +8,10 @@ use native.Mathlib.Omega.{arith}
 use native.Mathlib.Decide.{ℕ-discrete}
 use borrow.Author.Tests.{eq-eqb, ne-eqb}
 use lib.Dec.{T, eqb}
-use Rattle.planning.specs.Record.{Fact, Action, Task}
-use Rattle.planning.specs.Runs.{has, look, act, variables, count}
+use Rattle.planning.specs.Record.{Fact, Action}
+use Rattle.planning.specs.Runs.{has, look, act}
 use Rattle.planning.proofs.Tests.{T→true, F→false}
 use Rattle.planning.proofs.Facts.{Func, look-some, look-none}
-use Rattle.planning.proofs.Formed.{Formed, sorted-func}
 use Rattle.task.specs.Task.{factsIn, preAt, effAt, endAt, actionIn, taskIn}
 use Rattle.state.specs.Sets.{Asked}
 use Rattle.state.proofs.Listed.{Listed}
@@ -37,6 +36,3 @@ module _ (task : List ℕ) (i : ℕ) (L : Listed task i) (a b v x : ℕ) (q : As
   pub asked-eff : a ≡ effAt task i → b ≡ endAt task i → Asked (look (act (taskIn task) i .eff) v) x
   unfolding actionIn
   asked-eff ea eb = subst (λ (y : Action). Asked (look (y .eff) v) x) (L .states) (rw (ea, eb) at q)
-
-pub pre-func : (t : Task) → Formed t → (i : ℕ) → Func (act t i .pre)
-pre-func t F i = sorted-func (variables t) (count t) 0 (act t i .pre) (F .pre-sorted i)

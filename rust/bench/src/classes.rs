@@ -2,7 +2,7 @@
 
 use crate::calls::{check, forward, judge, newest, plan, read_sheet, relax, repair, write_sheet};
 use bench::table::Class;
-use generate::{extremes, records, ring, stores, Random};
+use generate::{extremes, prices, records, ring, stores, Random};
 use reference::entry::MAX_STEPS;
 use reference::{examples, Task};
 
@@ -67,6 +67,11 @@ fn plans() -> Vec<Class> {
         Class::new("repair, ring of rooms", |r, n| {
             plan(&[ring::ring(r, 64, 15 * n, 14)], MAX_STEPS)
         }),
+        // A carriage on 8 x 8 rooms with ways of different costs and of the same, 15n boxes with 13
+        // errands each.
+        Class::new("repair, grid with costs", |r, n| {
+            plan(&[prices::grid(r, 15 * n, 13)], MAX_STEPS)
+        }),
         // That repaired plan of 4,000n steps as a relaxed plan: nothing is to be inserted.
         Class::new("caller's 16,000 steps", |r, n| repair(&tower(r, n))),
         // 16 movers whose plan would be far longer than any list; room for 8,192n steps.
@@ -79,6 +84,10 @@ fn plans() -> Vec<Class> {
         }),
         Class::new("1,000 office stores", |r, n| {
             plan(&many(250 * n, || stores::office_store(r)), 512)
+        }),
+        // 250n drawn stores of one or two carriages, with few costs, and some moves twice.
+        Class::new("1,000 small stores, costs", |r, n| {
+            plan(&many(250 * n, || prices::store(r)), 512)
         }),
         // The first store example 25n times.
         Class::new("two shelves, 100 times", |_, n| plan(&many(25 * n, examples::two_shelves), 16)),

@@ -4,6 +4,7 @@ use compare::guard::Guarded;
 use compare::lent::Lent;
 use compare::lists;
 use compare::suite::{hex, list_hex, same, same_lent, Options};
+use generate::repair::{self, OTHERS};
 use generate::{gates, mixture, Random};
 use mardiskos::lent::PlanResult;
 use reference::{entry, examples, record, search, Refusal, Task};
@@ -15,6 +16,11 @@ const MAX_STEPS: usize = entry::MAX_STEPS;
 const SEARCHED_STATES: usize = 500;
 /// One record in so many must pass 7 only since facts set again make no arcs.
 const LEAST_GAINED: usize = 16;
+/// By each of the rules that come close to 6.7 one record in so many must have another plan.
+const LEAST_OTHERS: [usize; OTHERS.len()] = [8, 16, 80];
+/// Records with more actions or longer plans are left out of that count.
+const COUNTED_ACTIONS: usize = 60;
+const COUNTED_STEPS: usize = 100;
 
 pub fn run(options: &Options) -> Result<String, String> {
     let mut plans = Plans {
@@ -29,6 +35,7 @@ pub fn run(options: &Options) -> Result<String, String> {
         searched: 0,
         gated: 0,
         gained: 0,
+        others: [0; OTHERS.len()],
     };
     plans.examples()?;
     let records = options.count.unwrap_or(COUNT);
@@ -53,6 +60,8 @@ struct Plans {
     /// needs, and those that would be refused with 7 if that made arcs.
     gated: usize,
     gained: usize,
+    /// Records whose plan would be another one by each of the rules that come close to 6.7.
+    others: [usize; OTHERS.len()],
 }
 
 impl Plans {
@@ -76,6 +85,7 @@ impl Plans {
         let answer = self.longest_plan(&bytes, None);
         if let Ok(task) = record::read(&bytes) {
             self.count_gates(&task, answer);
+            self.count_rules(&bytes, &task, answer);
             self.check_reference(&bytes, &task, answer)?;
             self.repairs(&bytes, &task)?;
         }
@@ -88,17 +98,40 @@ impl Plans {
         self.gained += usize::from(passes && gates::was_cyclic(task));
     }
 
-    /// What was compared, or that too few records have gates.
+    fn count_rules(
+        &mut self,
+        bytes: &[u8],
+        task: &Task,
+        answer: Result<entry::PlanResult, Refusal>,
+    ) {
+        let steps = answer.map_or(0, |result| result.steps as usize);
+        let relaxed = entry::relax(bytes, &mut self.room).map_or(0, |steps| steps as usize);
+        if steps <= relaxed || steps > COUNTED_STEPS || task.action_count() > COUNTED_ACTIONS {
+            return;
+        }
+        let relaxed = self.room[..relaxed].to_vec();
+        let mut plan = vec![0; steps];
+        entry::plan(bytes, &mut plan, &mut self.room).unwrap();
+        for (count, rule) in self.others.iter_mut().zip(OTHERS) {
+            let other = repair::repaired(task, &relaxed, rule).unwrap();
+            *count += usize::from(other != plan);
+        }
+    }
+
+    /// What was compared, or that too few records have gates or tell the rules for paths apart.
     fn summary(self, records: usize) -> Result<String, String> {
-        let Plans { calls, planned, searched, gated, gained, .. } = self;
+        let Plans { calls, planned, searched, gated, gained, others, .. } = self;
         let gates =
             format!("{gated} with gates set again, {gained} pass 7 only since that is no arc");
-        if gained < records / LEAST_GAINED {
-            return Err(format!("too few of {records} records: {gates}"));
+        let counts: Vec<String> =
+            others.iter().zip(OTHERS).map(|(count, rule)| format!("{count} {rule:?}")).collect();
+        let rules = format!("other plans by other rules: {}", counts.join(", "));
+        let few = others.iter().zip(LEAST_OTHERS).any(|(&count, least)| count < records / least);
+        if few || gained < records / LEAST_GAINED {
+            return Err(format!("too few of {records} records: {gates}; {rules}"));
         }
-        Ok(format!(
-            "{records} records ({planned} with a plan, {searched} searched, {gates}), {calls} calls"
-        ))
+        let answers = format!("{planned} with a plan, {searched} searched");
+        Ok(format!("{records} records ({answers}; {gates}; {rules}), {calls} calls"))
     }
 
     /// The reference's answer with all the room that counts.

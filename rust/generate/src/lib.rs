@@ -6,8 +6,10 @@ pub mod extremes;
 pub mod gates;
 pub mod listings;
 pub mod mixture;
+pub mod prices;
 pub mod random;
 pub mod records;
+pub mod repair;
 pub mod ring;
 pub mod stores;
 

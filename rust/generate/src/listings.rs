@@ -2,7 +2,7 @@
 //! drawn records of every kind of answer that the planner has.
 
 use crate::random::Random;
-use crate::{damage, gates, mixture, records, stores};
+use crate::{damage, gates, mixture, prices, records, stores};
 use reference::{examples, listing, record, Task};
 
 /// How many records of each kind, by the last line of the listing without its last number.
@@ -57,12 +57,13 @@ fn drawn(random: &mut Random) -> Vec<u8> {
     bytes
 }
 
-/// One in three with facts set again.
+/// One in three has ways of different costs and of the same, and one in three facts set again.
 fn task(random: &mut Random) -> Task {
     let task = match random.below(40) {
         0 => mixture::any_tower(random),
         1..12 => stores::store(random, stores::LARGE),
         12..15 => records::random_task(random, records::MIDDLE),
+        15..28 => prices::store(random),
         _ => mixture::small_task(random),
     };
     if random.chance(1, 3) {

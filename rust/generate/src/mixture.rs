@@ -1,7 +1,7 @@
 //! A mixture of all kinds of records, most of them small.
 
 use crate::random::Random;
-use crate::{choices, damage, extremes, gates, records, ring, stores};
+use crate::{choices, damage, extremes, gates, prices, records, ring, stores};
 use reference::{record, Task};
 
 /// A record, one in twenty damaged.
@@ -14,7 +14,8 @@ pub fn record(random: &mut Random) -> Vec<u8> {
 }
 
 /// One in three is changed so that its forward run has more to choose from, and every second one so that
-/// facts are set again; of those with two black variables a third then has a gate that is.
+/// facts are set again; of those with two black variables a third then has a gate that is. More than
+/// one in three has ways of different costs and of the same.
 pub fn task(random: &mut Random) -> Task {
     let mut task = any_task(random);
     if random.chance(1, 3) {
@@ -36,6 +37,7 @@ fn any_task(random: &mut Random) -> Task {
         40..70 => stores::store(random, stores::LARGE),
         70..85 => any_ring(random),
         85..90 => from_anywhere(random),
+        90..450 => prices::store(random),
         _ => small_task(random),
     }
 }
@@ -51,7 +53,7 @@ pub fn small_task(random: &mut Random) -> Task {
 }
 
 fn extreme_task(random: &mut Random) -> Task {
-    match random.below(10) {
+    match random.below(11) {
         0 => extremes::chain(random, 1024),
         1 => extremes::wheel(random),
         2 => extremes::lamp_wheel(random),
@@ -61,6 +63,7 @@ fn extreme_task(random: &mut Random) -> Task {
         6 => extremes::falling_wave(1024),
         7 => extremes::different_waves(random, 1024),
         8 => extremes::gates(random, 1024),
+        9 => prices::grid(random, 60, 13),
         _ => records::dense_task(random, 64, 1024, 15),
     }
 }

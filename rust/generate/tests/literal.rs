@@ -1,4 +1,4 @@
-//! The reference is written for speed; here it is held to the paper's wording, done step by step.
+//! The reference is written for speed; here it is held to the specification's wording, done step by step.
 
 use generate::{mixture, stores, Random};
 use reference::painting::painting;

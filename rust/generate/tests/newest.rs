@@ -61,7 +61,7 @@ fn newest(task: &Task, list: &[u16]) -> (usize, usize, Vec<u16>) {
 fn backwards_is_forwards() {
     let random = &mut Random::new(70);
     let (mut stopped, mut unreal) = (0, 0);
-    for _ in 0..20_000 {
+    for _ in 0..25_000 {
         let task = drawn(random);
         let all = [Semantics::relaxed(), Semantics::red_black(&task), Semantics::real()];
         let semantics = random.pick(&all).clone();

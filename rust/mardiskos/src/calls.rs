@@ -165,6 +165,8 @@ pub fn relax(record: &[u8]) -> Result<Vec<u16>, Refusal> {
 }
 
 /// The planner: the repair of the record's relaxed plan, with room for [`MAX_STEPS`]. Refuses with 7, 8, 10 and 11 too.
+/// The way on which inserted moves bring a black variable to a value is a cheapest one; where several cost the same, one with
+/// the fewest moves, and of several of those the one with the lower action at the first place where they differ.
 ///
 /// ```
 /// # fn main() -> Result<(), Box<dyn std::error::Error>> {
@@ -175,6 +177,9 @@ pub fn relax(record: &[u8]) -> Result<Vec<u16>, Refusal> {
 ///
 /// let record = std::fs::read("../../examples/gate.record")?;
 /// assert_eq!(mardiskos::plan(&record)?.steps, [0, 2, 1, 4, 0, 3, 1]);
+///
+/// let record = std::fs::read("../../examples/detour.record")?;
+/// assert_eq!(mardiskos::plan(&record)?.steps, [1, 2, 6, 3, 4]);
 /// # Ok(())
 /// # }
 /// ```

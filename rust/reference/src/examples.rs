@@ -114,6 +114,40 @@ pub fn gate() -> Task {
     task
 }
 
+/// A carriage, a black variable of so many values that starts at 0 and is to end there, with its
+/// moves (cost, from, to), and a box fetched at one of them.
+fn errand(values: u8, moves: &[(u16, usize, usize)], at: usize) -> Task {
+    let mover = variable(values, true, 0, Some(0));
+    let mut task = Task::new(vec![mover, variable(2, false, 0, Some(1))]);
+    for &(cost, from, to) in moves {
+        push(&mut task, cost, &[(0, from)], &[(0, to)]);
+    }
+    push(&mut task, 1, &[(0, at), (1, 0)], &[(1, 1)]);
+    task
+}
+
+/// A cellar with a dear lift and a cheap way over a ramp.
+pub fn detour() -> Task {
+    let moves = [(5, 2, 0), (1, 0, 1), (1, 1, 2), (1, 2, 1), (1, 1, 0), (5, 0, 2)];
+    errand(3, &moves, 2)
+}
+
+/// Four rooms in a ring, where driving costs nothing; the short way back has the higher number.
+pub fn ring() -> Task {
+    let out = [(0, 0, 1), (0, 1, 2), (0, 2, 3)];
+    let back = [(0, 3, 2), (0, 2, 1), (0, 1, 0), (0, 3, 0), (0, 0, 3)];
+    errand(4, &[&out[..], &back].concat(), 3)
+}
+
+/// Two ways back that cost the same in as many moves: one begins with the lower action, the other
+/// ends with it. A third one costs the same in more moves.
+pub fn diamond() -> Task {
+    let out = [(1, 0, 1), (1, 1, 2), (1, 2, 3)];
+    let back = [(1, 3, 1), (2, 3, 2), (1, 2, 0), (2, 1, 0)];
+    let returns = [(4, 0, 2), (4, 1, 3), (4, 2, 1)];
+    errand(4, &[&out[..], &back, &returns].concat(), 3)
+}
+
 /// One action with two effects on one variable, which no record may have.
 pub fn repeated_variable() -> Task {
     let mut task = Task::new(vec![variable(2, false, 0, None)]);
@@ -151,6 +185,9 @@ pub fn files() -> Vec<(&'static str, Vec<u8>)> {
         ("newest", newest()),
         ("two-shelves-with-4", two_shelves_with_4()),
         ("gate", gate()),
+        ("detour", detour()),
+        ("ring", ring()),
+        ("diamond", diamond()),
         ("repeated-variable", repeated_variable()),
         ("variables-64", sized(64, 0, 0)),
         ("variables-65", sized(65, 0, 0)),

@@ -138,7 +138,7 @@ impl<'a> Course<'a> {
         for (number, moved) in painting.moves[..task.action_count()].iter().enumerate() {
             if let Some(moved) = *moved {
                 if waiting.start(task, held, number) {
-                    paths.add(&painting.moves, moved, number);
+                    paths.add(moved, task.cost(number), number);
                 }
             }
         }
@@ -190,7 +190,7 @@ impl<'a> Course<'a> {
             self.prepare();
         }
         let v = to.variable();
-        let row = self.room.paths.row(&self.painting.moves, to);
+        let row = self.room.paths.row(self.current[v] as usize, to);
         while !self.is_at(to) {
             let (number, value) = self.room.paths.next(row, self.current[v] as usize);
             self.support(number)?;
@@ -230,7 +230,8 @@ impl<'a> Course<'a> {
             if new && self.prepared {
                 waiting.wake(task, held, fact, |number| {
                     let moved = moves[number % ACTIONS];
-                    moved.into_iter().for_each(|moved| paths.add(moves, moved, number));
+                    let cost = task.cost(number);
+                    moved.into_iter().for_each(|moved| paths.add(moved, cost, number));
                 });
             }
         }

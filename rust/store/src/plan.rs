@@ -41,7 +41,7 @@ impl Plan {
     /// action is never among the moves inserted before it. Let it move the black variable v. Moves
     /// are inserted for variables that it needs and their servants, all of which have a path to v
     /// in the black causal graph; as that has no cycle, none of them needs v. So v is moved only to
-    /// the value that the action needs, and a shortest path to that value does not leave it.
+    /// the value that the action needs, and as no path repeats a value, none leaves it.
     pub fn inserted(&self) -> Option<Vec<bool>> {
         let Some(relaxed) = &self.relaxed else { return Some(vec![false; self.steps.len()]) };
         let mut wanted = relaxed.iter().peekable();

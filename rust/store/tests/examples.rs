@@ -70,6 +70,21 @@ fn drives_set_the_gate_shut_again() {
 }
 
 #[test]
+fn the_cheaper_way_back_is_taken() {
+    let store = example("detour");
+    let plan = Plan::find(&store).unwrap();
+    let expected = "\
+5 steps, cost 5, real: 5 steps run
+0  enter  carriage = ramp
+1  down   carriage = cellar
+2  fetch  box = fetched
+3  up     carriage = ramp  (inserted)
+4  leave  carriage = door  (inserted)
+";
+    assert_eq!(show::plan(&store, &plan).unwrap().text, expected);
+}
+
+#[test]
 fn tray_says_why_it_is_unreal() {
     let store = example("tray");
     let plan = Plan::find(&store).unwrap();

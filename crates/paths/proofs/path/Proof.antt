@@ -1,75 +1,159 @@
+-- What is written and the path from the present value on are the whole path, and the length of the latter falls with every turn.
 use borrow.Author.Needs.{needs}
-use Prim.Native.Nat.{_+_, _-_, _*_, _<_}
+use mathlib.Core.Path.{_≡_, sym, _∙_}
+use Prim.Native.Nat.{ℕ, _+_, _*_, _%_, _<_}
 use native.Mathlib.Omega.{arith}
+use lib.ListN.{length, getD}
+use Rattle.planning.specs.Runs.{count}
+use Rattle.planning.proofs.Formed.{Formed}
 use Rattle.task.specs.Task.{taskIn}
 use Rattle.state.specs.Sets.{setsOf}
-use Rattle.paths.proofs.Memos.{memo-part, part-long}
+use Rattle.paths.specs.Paths.{pathsOf, leadTo}
+use Rattle.paths.proofs.Walking.{Walking, Move, walking-start, walking-move, walking-long, walking-less, walking-turn, walking-end}
 use Rattle.paths.proofs.path.Statement.{statement}
 use Rattle.paths.proofs.path.Tie as tie
 
-abbrev start-of : tie.After-prepare → tie.Start
-start-of c = c .before .before .before .before .before
+abbrev Inv-loop : tie.InvT-loop
+Inv-loop task ever memo v c d list₀ at from x₀ e₀ l₀ list x e l = Walking (taskIn task) (setsOf ever) v d c at list₀ list x e l
 
-small : (s : tie.Start) → s .args .d < 64
-small s = omega (arith, s .pre .1 .1, s .pre .0 .0 .loaded .formed .count-max (s .args .v))
+abbrev μ-loop : tie.MeasureT-loop
+μ-loop task ever memo v c d list₀ at from x₀ e₀ l₀ list x e l = length (pathsOf (taskIn task) (setsOf ever) v x d)
 
-prepare-requires : tie.Need-prepare-requires
+abbrev start-of : tie.After-prepare Inv-loop μ-loop → tie.Start Inv-loop μ-loop
+start-of f = f .before .before .before .before .before
+
+abbrev found-at : tie.At-loop Inv-loop μ-loop → tie.After-prepare Inv-loop μ-loop
+found-at h = h .before .before .before .before .before
+
+formed : (f : tie.After-prepare Inv-loop μ-loop) → Formed (taskIn (start-of f .args .task .now))
+formed f = start-of f .pre .0 .0 .loaded .formed
+
+-- the value asked for, and the lead at a place of its row
+small : (f : tie.After-prepare Inv-loop μ-loop) → start-of f .args .d < 64
+small f = omega (arith, start-of f .pre .1 .1, formed f .count-max (start-of f .args .v))
+
+first : (f : tie.After-prepare Inv-loop μ-loop) → start-of f .args .c < 64
+first f = omega (arith, start-of f .pre .1 .0, formed f .count-max (start-of f .args .v))
+
+lead-at : (f : tie.After-prepare Inv-loop μ-loop) (x : ℕ) → let a = start-of f .args in x < count (taskIn (a .task .now)) (a .v)
+    → getD (f .prepare .last .1 .1 .0) (64 * a .d + x) 0 ≡ leadTo (taskIn (a .task .now)) (setsOf (a .ever .now)) (a .v) (a .d) x
+lead-at f x b = let a = start-of f .args in let M = f .prepare .ensures in M .0 .rows (a .v) (a .d) x (start-of f .pre .0 .1) (small f) b (M .1)
+
+-- the next move
+moved : (h : tie.At-loop Inv-loop μ-loop) → (h .loop .l % 64 ≡ h .loop .x → ⊥)
+    → let s = start-of (found-at h) in Move (taskIn (s .args .task .now)) (formed (found-at h)) (setsOf (s .args .ever .now)) (s .args .v) (s .args .d) (h .loop .x) (h .loop .l)
+moved h ne = walking-move _ (formed (found-at h)) _ _ _ _ _ _ _ _ _ _ (h .loop .inv) ne
+
+prepare-requires : tie.Need-prepare-requires Inv-loop μ-loop
 prepare-requires c κs = let p = c .before .before .before .before .pre in ((p .0 .0, p .0 .1, p .1 .1), p .0 .2)
 
-mul-from : tie.Need-mul-from
-mul-from c = omega (arith, small (start-of (c .before .before)))
+mul-from : tie.Need-mul-from Inv-loop μ-loop
+mul-from c = let d = small (c .before .before) in record { fits = omega (arith, d) }
 
-add-to : tie.Need-add-to
-add-to c = omega (arith, small (start-of (c .before .before)))
+add-wide : tie.Need-add-wide Inv-loop μ-loop
+add-wide c = let f = c .before .before in let d = small f in record { fits = omega (arith, d, first f) }
 
-mul-walk : tie.Need-mul-walk
-mul-walk c = omega (arith, small (start-of (c .before .before)))
+mul-wide : tie.Need-mul-wide Inv-loop μ-loop
+mul-wide c = let f = c .before .before in let d = small f in record { fits = omega (arith, d, first f) }
 
-sub-walk : tie.Need-sub-walk
-sub-walk c = omega arith
+slice-read-wide : tie.Need-slice-read-wide Inv-loop μ-loop
+slice-read-wide c = let f = c .before .before .before in omega (arith, f .prepare .ensures .0 .long, small f, first f)
 
-part-walk-start : tie.Need-part-walk-start
-part-walk-start c = omega arith
+wide-requires : tie.Need-wide-requires Inv-loop μ-loop
+wide-requires c κs = tt
 
-part-walk-end : tie.Need-part-walk-end
-part-walk-end c = let found = c .before .before .before in omega (arith, found .prepare .ensures .0 .long, small (start-of found))
+loop-holds : tie.Need-loop-holds Inv-loop μ-loop
+loop-holds c =
+    let f = c .before .before .before .before in
+    let p = start-of f .pre .1 in
+    walking-start _ (formed f) _ _ _ _ _ _ _ (p .2) (p .0) (c .wide .ensures ∙ lead-at f (start-of f .args .c) (p .0))
 
-walk-requires : tie.Need-walk-requires
-walk-requires c κs =
-    let found = c .before .before .before .before .before in
-    let s = start-of found in
-    let a = s .args in
-    let M = found .prepare .ensures in
-    let k = (64 * a .d + 64) - 64 * a .d in (
-      (
-        s .pre .0 .0 .loaded,
-        part-long _ (64 * a .d) k (omega arith) (omega (arith, M .0 .long, small s)),
-        memo-part _ _ (a .v) (a .d) (s .pre .0 .1) (small s) (s .pre .0 .0 .loaded .formed .count-max (a .v)) _ k (omega arith) (M .0) (M .1),
-      ),
-      (s .pre .1 .0, s .pre .1 .2),
-    )
+same-length : tie.Need-same-length Inv-loop μ-loop
+same-length c = let f = found-at (c .before .before) in f .prepare .ensures .0 .long ∙ sym (start-of f .pre .0 .2 .long)
 
-same-length : tie.Need-same-length
-same-length c = search needs
+same-length-2 : tie.Need-same-length-2 Inv-loop μ-loop
+same-length-2 c = c .before .before .loop .inv .long
 
-same-length-2 : tie.Need-same-length-2
-same-length-2 c = search needs
+returns : tie.Need-returns Inv-loop μ-loop
+returns c =
+    let h = c .before .before in
+    let f = found-at h in
+    (walking-long _ (formed f) _ _ _ _ _ _ _ _ _ _ (h .loop .inv) (λ q. omega (arith, q)) (omega (arith, h .loop .inv .long)), f .prepare .ensures .0)
 
-returns : tie.Need-returns
-returns c = search needs
+cast-list : tie.Need-cast-list Inv-loop μ-loop
+cast-list c = let m = moved (c .before .before) (λ q. omega (arith, q)) .below in record { fits = omega (arith, m, formed (found-at (c .before .before)) .actions-max) }
+
+mul-list : tie.Need-mul-list Inv-loop μ-loop
+mul-list c = search needs
+
+slice-write-list : tie.Need-slice-write-list Inv-loop μ-loop
+slice-write-list c = omega arith
+
+add-e : tie.Need-add-e Inv-loop μ-loop
+add-e c = search needs
+
+add-wide-2 : tie.Need-add-wide-2 Inv-loop μ-loop
+add-wide-2 c = let d = small (found-at (c .before .before)) in record { fits = omega (arith, d) }
+
+mul-wide-2 : tie.Need-mul-wide-2 Inv-loop μ-loop
+mul-wide-2 c = let d = small (found-at (c .before .before)) in record { fits = omega (arith, d) }
+
+slice-read-wide-2 : tie.Need-slice-read-wide-2 Inv-loop μ-loop
+slice-read-wide-2 c = let f = found-at (c .before .before .before) in omega (arith, f .prepare .ensures .0 .long, small f)
+
+wide-requires-2 : tie.Need-wide-requires-2 Inv-loop μ-loop
+wide-requires-2 c κs = tt
+
+loop-less : tie.Need-loop-less Inv-loop μ-loop
+loop-less c =
+    let h = c .before .before .before .before in
+    walking-less _ (formed (found-at h)) _ _ _ _ _ _ _ _ _ _ (h .loop .inv) (λ q. omega (arith, q))
+
+loop-again : tie.Need-loop-again Inv-loop μ-loop
+loop-again c =
+    let h = c .before .before .before .before in
+    let f = found-at h in
+    let b = moved h (λ q. omega (arith, q)) .there in
+    walking-turn _ (formed f) _ _ _ _ _ _ _ _ _ _ (h .loop .inv) (λ q. omega (arith, q)) (omega (arith, h .loop .inv .long)) _ (c .wide2 .ensures ∙ lead-at f (h .loop .l % 64) b)
+
+same-length-3 : tie.Need-same-length-3 Inv-loop μ-loop
+same-length-3 c = let f = found-at (c .before) in f .prepare .ensures .0 .long ∙ sym (start-of f .pre .0 .2 .long)
+
+same-length-4 : tie.Need-same-length-4 Inv-loop μ-loop
+same-length-4 c = c .before .loop .inv .long
+
+returns-2 : tie.Need-returns-2 Inv-loop μ-loop
+returns-2 c =
+    let h = c .before in
+    let f = found-at h in
+    (walking-end _ (formed f) _ _ _ _ _ _ _ _ _ _ (h .loop .inv) (omega arith), f .prepare .ensures .0)
 
 pub path-spec : {M : Type 1} → statement M
 path-spec =
     tie.close
     (tie.spec
+    Inv-loop
+    μ-loop
     prepare-requires
     mul-from
-    add-to
-    mul-walk
-    sub-walk
-    part-walk-start
-    part-walk-end
-    walk-requires
+    add-wide
+    mul-wide
+    slice-read-wide
+    wide-requires
+    loop-holds
     same-length
     same-length-2
-    returns)
+    returns
+    cast-list
+    mul-list
+    slice-write-list
+    add-e
+    add-wide-2
+    mul-wide-2
+    slice-read-wide-2
+    wide-requires-2
+    loop-less
+    loop-again
+    same-length-3
+    same-length-4
+    returns-2)

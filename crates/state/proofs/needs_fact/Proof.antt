@@ -1,5 +1,6 @@
 use native.Mathlib.Omega.{arith}
-use Rattle.state.proofs.Asking.{asked-has, pre-func}
+use Rattle.planning.proofs.Formed.{pre-func}
+use Rattle.state.proofs.Asking.{asked-has}
 use borrow.Author.Needs.{needs}
 use Rattle.state.proofs.needs_fact.Statement.{statement}
 use Rattle.state.proofs.needs_fact.Tie as tie

@@ -9,7 +9,7 @@ use std::sync::atomic::{AtomicUsize, Ordering};
 use reference::{Fact, Task, Variable};
 use store::{parse, Store};
 
-pub const EXAMPLES: [&str; 13] = [
+pub const EXAMPLES: [&str; 16] = [
     "two-shelves",
     "two-shelves-without-1",
     "two-shelves-without-2",
@@ -23,6 +23,9 @@ pub const EXAMPLES: [&str; 13] = [
     "newest",
     "two-shelves-with-4",
     "gate",
+    "detour",
+    "ring",
+    "diamond",
 ];
 
 pub fn path(name: &str, extension: &str) -> PathBuf {

@@ -1,0 +1,227 @@
+-- Why settled labels give the best paths. Along any path the keys fall by no more than its moves weigh, so that a value's key is at most
+-- the weight of every path from there; going by the leads gives a path of just that weight. As a best path has at most 63 moves,
+-- least weight is least cost and then fewest moves. The lead is the smallest action that such a path starts with, since the label is the
+-- least over all arcs.
+use mathlib.Core.Path.{_≡_, refl, sym, ap, _∙_, subst}
+use mathlib.Core.Logic.{inl, inr, _≢_}
+use mathlib.Core.List.{List, [], _∷_}
+use Prim.Native.Nat.{ℕ, zero, suc, _+_, _*_, _/_, _%_, _<_, _≤_}
+use native.Mathlib.Omega.{arith}
+use native.Mathlib.Decide.{ℕ-discrete, decLt}
+use lib.Dec.{T}
+use lib.ListN.{length, getD}
+use Rattle.planning.specs.Record.{Task}
+use Rattle.planning.specs.Runs.{State, actions, count, act, costBy}
+use Rattle.planning.specs.Painting.{target}
+use Rattle.planning.specs.Repair.{usableArc, isPath}
+use Rattle.planning.proofs.Formed.{Formed}
+use Rattle.planning.proofs.Best.{Better, Best, arcs-inside, best-cases, best-of, best-short, best-onward, path-cons, path-uncons, path-nil, path-here}
+use Rattle.paths.specs.Paths.{leadOf, leadTo, pathsOf}
+use Rattle.paths.specs.Labels.{unreached, through, leadBy, Settled}
+use Rattle.paths.proofs.Marking.{lead-none, lead-some}
+
+module _ (t : Task) (F : Formed t) (K : State) (v d : ℕ) (db : d < count t v) (labels : List ℕ) (S : Settled t K v d labels) where
+  abbrev A : ℕ
+  A = actions t
+
+  abbrev n : ℕ
+  n = count t v
+
+  abbrev key : ℕ → ℕ
+  key c = getD labels c 0 / 65536
+
+  abbrev Is : ℕ → List ℕ → Type 0
+  Is c p = T (isPath (act t) A K v c d p)
+
+  abbrev best : ℕ → List ℕ
+  best c = pathsOf t K v c d
+
+  abbrev weight : List ℕ → ℕ
+  weight p = 64 * costBy (act t) p + length p
+
+  inside : (c i : ℕ) → i < A → T (usableArc (act t) K v c i) → target (act t) v i < n
+  inside = arcs-inside t F K v
+
+  small : (c : ℕ) → c < n → c < 64
+  small c b = omega (arith, F .count-max v)
+
+  -- a label by an arc
+  through-below : (x i : ℕ) → x < n → i < A → getD labels x 0 < unreached → through (key x) (act t i .cost) i x < unreached
+  unfolding through
+  through-below x i xb b l = omega (arith, S .small x xb l, F .cost-below i, F .actions-max, small x xb)
+
+  -- no path weighs less than the key
+  reached : (c : ℕ) (q : List ℕ) → c < n → Is c q → (getD labels c 0 < unreached) × (key c ≤ weight q)
+  unfolding costBy through
+  reached c [] cb h = let e : getD labels c 0 ≡ d = rw (path-nil (act t) A K v d c h) (S .goal) in (omega (arith, small d db), omega (arith, small d db))
+  reached c (i ∷ q) cb h = go (ℕ-discrete c d) (reached (target (act t) v i) q (inside c i (u .0) (u .1)) (u .2))
+    where
+      u : (i < A) × T (usableArc (act t) K v c i) × Is (target (act t) v i) q
+      u = path-uncons (act t) A K v d c i q h
+
+      x : ℕ
+      x = target (act t) v i
+
+      go : Dec (c ≡ d) → (getD labels x 0 < unreached) × (key x ≤ weight q) → (getD labels c 0 < unreached) × (key c ≤ 64 * (act t i .cost + costBy (act t) q) + suc (length q))
+      go (yes e) r = let z : getD labels c 0 ≡ d = rw e (S .goal) in (omega (arith, small d db), omega (arith, small d db))
+      go (no e) r =
+          let l = S .least c x (through (key x) (act t i .cost) i x) cb e (r .0) (i, u .0, u .1, refl, refl) in
+          let b = through-below x i (inside c i (u .0) (u .1)) (u .0) (r .0) in
+          (omega arith, omega (arith, F .actions-max, u .0, r .1, small x (inside c i (u .0) (u .1))))
+
+  -- a path by the leads, which weighs what the key says; k is above the key
+  record Lead (c : ℕ) : Type 0 where
+    pub rest : List ℕ
+    pub path : Is c rest
+    pub weighs : weight rest ≡ key c
+
+  led : (k c : ℕ) → c < n → key c < k → getD labels c 0 < unreached → Lead c
+  unfolding costBy through
+  led zero c cb b l = absurd (omega arith)
+  led (suc k) c cb b l = go (ℕ-discrete c d) (led k)
+    where
+      go : Dec (c ≡ d) → ((x : ℕ) → x < n → key x < k → getD labels x 0 < unreached → Lead x) → Lead c
+      go (yes e) f = let z : getD labels c 0 ≡ d = rw e (S .goal) in record { rest = []; path = subst (λ x. Is x []) (sym e) (path-here (act t) A K v d); weighs = omega (arith, small d db) }
+      go (no e) f = elim (S .found c cb e) [
+        | inl z ↦ absurd (omega arith)
+        | inr (x, l, (i, ib, u, tx, m)) ↦
+            let xb : x < n = rw (← tx) (inside c i ib u) in
+            let r = f x xb (omega (arith, F .actions-max, small x xb)) l in
+            record {
+              rest = i ∷ r .rest;
+              path = path-cons (act t) A K v d c i (r .rest) ib u (subst (λ z. Is z (r .rest)) (sym tx) (r .path));
+              weighs = omega (arith, r .weighs, F .actions-max, small x xb);
+            }
+      ]
+
+  abbrev IsBest : ℕ → Type 0
+  IsBest c = Best (act t) A K v d n inside c
+
+  best-few : (c : ℕ) → length (best c) < 64
+  best-few c = omega (arith, best-short (act t) A K v d n (omega arith) c, F .count-max v)
+
+  -- the key is the weight of the best path
+  best-weighs : (c : ℕ) → c < n → getD labels c 0 < unreached → IsBest c × (weight (best c) ≡ key c)
+  best-weighs c cb l = (B, go (decLt (costBy (act t) (best c)) (costBy (act t) p)) (ℕ-discrete (costBy (act t) p) (costBy (act t) (best c))))
+    where
+      r : Lead c
+      r = led (suc (key c)) c cb (omega arith) l
+
+      p : List ℕ
+      p = r .rest
+
+      B : IsBest c
+      B = best-of (act t) A K v d n inside c cb p (r .path)
+
+      low : key c ≤ weight (best c)
+      low = reached c (best c) cb (B .path) .1
+
+      no-less : Better (act t) p (best c) → ⊥
+      no-less = B .least p (r .path)
+
+      go : Dec (costBy (act t) (best c) < costBy (act t) p) → Dec (costBy (act t) p ≡ costBy (act t) (best c)) → weight (best c) ≡ key c
+      go (yes a) _ = absurd (omega (arith, low, r .weighs, best-few c))
+      go (no a) (no e) = absurd (no-less (inl (omega arith)))
+      go (no a) (yes e) =
+          let s : ¬ (length p < length (best c)) = λ b. no-less (inr (e, inl b)) in
+          omega (arith, low, r .weighs)
+
+  -- from d the empty path
+  best-here : best d ≡ []
+  unfolding costBy
+  best-here = go (best d) refl (best-of (act t) A K v d n inside d db [] (path-here (act t) A K v d))
+    where
+      go : (p : List ℕ) → best d ≡ p → IsBest d → p ≡ []
+      go [] e B = refl
+      go (i ∷ p) e B = absurd (B .least [] (path-here (act t) A K v d) (rw e (costs (ℕ-discrete 0 (costBy (act t) (i ∷ p))))))
+        where
+          costs : Dec (0 ≡ costBy (act t) (i ∷ p)) → Better (act t) [] (i ∷ p)
+          costs (yes z) = inr (z, inl (omega arith))
+          costs (no z) = inl (omega arith)
+
+  -- the first action of the best path, and the label's
+  lead-same : (c : ℕ) → c < n → c ≢ d → (x i : ℕ) → getD labels x 0 < unreached → i < A → T (usableArc (act t) K v c i) → target (act t) v i ≡ x
+      → getD labels c 0 ≡ through (key x) (act t i .cost) i x → (j : ℕ) (r : List ℕ) → best c ≡ j ∷ r → i ≡ j
+  unfolding costBy through
+  lead-same c cb ne x i xl ib u tx m j r e = go (decLt i j) (decLt j i)
+    where
+      xb : x < n
+      xb = rw (← tx) (inside c i ib u)
+
+      cl : getD labels c 0 < unreached
+      cl = rw m (through-below x i xb ib xl)
+
+      O : (j < A) × T (usableArc (act t) K v c j) × (best (target (act t) v j) ≡ r)
+      O = let o = best-onward (act t) A K v d n inside c cb j r e in (o .below, o .usable, o .rest)
+
+      y : ℕ
+      y = target (act t) v j
+
+      C : IsBest c × (weight (best c) ≡ key c)
+      C = best-weighs c cb cl
+
+      cw : 64 * (act t j .cost + costBy (act t) r) + suc (length r) ≡ key c
+      cw = subst (λ (p : List ℕ). weight p ≡ key c) e (C .1)
+
+      yb : y < n
+      yb = inside c j (O .0) (O .1)
+
+      yl : getD labels y 0 < unreached
+      yl = reached y r yb (path-uncons (act t) A K v d c j r (rw e at (C .0 .path)) .2) .0
+
+      yw : 64 * costBy (act t) r + length r ≡ key y
+      yw = subst (λ (p : List ℕ). weight p ≡ key y) (O .2) (best-weighs y yb yl .1)
+
+      X : IsBest x × (weight (best x) ≡ key x)
+      X = best-weighs x xb xl
+
+      -- no larger
+      least : getD labels c 0 ≤ (key y + 64 * act t j .cost + 1) * 65536 + (64 * j + y)
+      least = S .least c y (through (key y) (act t j .cost) j y) cb ne yl (j, O .0, O .1, refl, refl)
+
+      short : suc (length r) < 64
+      short = subst (λ (p : List ℕ). length p < 64) e (best-few c)
+
+      -- no smaller: that path would be better
+      other : Better (act t) (i ∷ best x) (j ∷ r) → ⊥
+      other b = C .0 .least (i ∷ best x) (path-cons (act t) A K v d c i (best x) ib u (rw tx (X .0 .path))) (rw e b)
+
+      go : Dec (i < j) → Dec (j < i) → i ≡ j
+      go (yes a) _ =
+          let z : 64 * (act t i .cost + costBy (act t) (best x)) + suc (length (best x)) ≡ 64 * (act t j .cost + costBy (act t) r) + suc (length r)
+          = omega (arith, X .1, cw, m, F .actions-max, small x xb) in
+          absurd (other (inr (omega (arith, best-few x, short), inr (omega (arith, best-few x, short), inl a))))
+      go (no a) (yes b) = absurd (omega (arith, least, m, cw, yw, F .actions-max, small x xb, small y yb))
+      go (no a) (no b) = omega arith
+
+  pub settled-lead : (c : ℕ) → c < n → leadBy (getD labels c 0) c ≡ leadTo t K v d c
+  unfolding leadOf through
+  settled-lead c cb = go (ℕ-discrete c d)
+    where
+      -- no path
+      none-at : getD labels c 0 ≡ unreached → best c ≡ []
+      none-at z = elim (best-cases (act t) A K v d n inside c cb) [ inl q ↦ q .1 | inr B ↦ absurd (omega (arith, z, reached c (best c) cb (B .path) .0)) ]
+
+      some-at : c ≢ d → (x i : ℕ) → getD labels x 0 < unreached → i < A → T (usableArc (act t) K v c i) → target (act t) v i ≡ x
+          → getD labels c 0 ≡ through (key x) (act t i .cost) i x → (p : List ℕ) → best c ≡ p → leadBy (getD labels c 0) c ≡ leadOf (act t) v c p
+      some-at ne x i xl ib u tx m p e =
+          let xb : x < n = rw (← tx) (inside c i ib u) in
+          let cl : getD labels c 0 < unreached = rw m (through-below x i xb ib xl) in
+          sym (lead-some (getD labels c 0) c (λ z. omega (arith, z))) ∙ by p e cl xb
+        where
+          by : (p : List ℕ) → best c ≡ p → getD labels c 0 < unreached → x < n → getD labels c 0 % 65536 ≡ leadOf (act t) v c p
+          by [] e cl xb = absurd (ne (path-nil (act t) A K v d c (rw e at (best-weighs c cb cl .0 .path))))
+          by (j ∷ r) e cl xb =
+              let z : i ≡ j = lead-same c cb ne x i xl ib u tx m j r e in
+              let y : target (act t) v j ≡ x = ap (target (act t) v) (sym z) ∙ tx in
+              omega (arith, m, z, y, small x xb, F .actions-max)
+
+      go : Dec (c ≡ d) → leadBy (getD labels c 0) c ≡ leadTo t K v d c
+      go (yes e) =
+          let z : getD labels c 0 ≡ d = rw e (S .goal) in
+          let q : best c ≡ [] = rw e best-here in
+          sym (lead-some (getD labels c 0) c (λ w. omega (arith, w, small d db))) ∙ rw q (omega (arith, small d db))
+      go (no ne) = elim (S .found c cb ne) [
+        | inl z ↦ sym (lead-none (getD labels c 0) c z) ∙ rw (none-at z) refl
+        | inr (x, xl, (i, ib, u, tx, m)) ↦ some-at ne x i xl ib u tx m (best c) refl
+      ]

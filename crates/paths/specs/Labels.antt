@@ -1,0 +1,65 @@
+-- Labels: for each value the key of a path to the wanted one, cost × 64 + moves, times 65,536, and the path's lead.
+use mathlib.Core.Path.{_≡_}
+use mathlib.Core.Logic.{_⊎_, _≢_}
+use mathlib.Core.Bool.{Bool, true, false}
+use mathlib.Core.List.{List}
+use Prim.Native.Nat.{ℕ, _+_, _*_, _/_, _%_, _<_, _≤_, min}
+use lib.Dec.{T, eqb}
+use lib.ListN.{length, getD}
+use Rattle.planning.specs.Record.{Task}
+use Rattle.planning.specs.Runs.{State, actions, count, act}
+use Rattle.planning.specs.Painting.{target}
+use Rattle.planning.specs.Repair.{usableArc}
+use Rattle.state.specs.Sets.{inSet}
+
+-- where no path was found; what a move adds to a key at most, 64 × 65,535 + 1; a bound on keys, 64 such moves
+abbrev pub unreached : ℕ
+unreached = 18446744073709551615
+
+abbrev pub dearest : ℕ
+dearest = 4194241
+
+abbrev pub highest : ℕ
+highest = 268431424
+
+-- the label by action i to the value x of this key
+unfoldable pub through : ℕ → ℕ → ℕ → ℕ → ℕ
+through key cost i x = (key + 64 * cost + 1) * 65536 + (64 * i + x)
+
+-- the lead that a label of c has, c where no path was found
+unfoldable pub leadBy : ℕ → ℕ → ℕ
+leadBy l c = elim (eqb l unreached) [ true ↦ c | false ↦ l % 65536 ]
+
+-- the lesser of two numbers where the test holds
+unfoldable pub lower : Bool → ℕ → ℕ → ℕ
+lower true l x = min l x
+lower false l x = x
+
+-- r is a member of the set with the least label, 64 if there is none
+pub record Nearest (labels : List ℕ) (front r : ℕ) : Type 0 where
+  pub within : r ≤ 64
+  pub member : r < 64 → T (inSet front r)
+  pub least : (c : ℕ) → c < 64 → T (inSet front c) → (r < 64) × (getD labels r 0 ≤ getD labels c 0)
+
+-- m is the label of c by a usable arc into x, whose key is given
+abbrev pub Into : Task → State → ℕ → ℕ → ℕ → ℕ → ℕ → Type 0
+Into t K v x key c m = (i : ℕ) × (i < actions t) × T (usableArc (act t) K v c i) × (target (act t) v i ≡ x) × (m ≡ through key (act t i .cost) i x)
+
+-- Values of the set rest have the least of their old label and those that D says, the others their old one; the set grow has those of
+-- the set front and the values of rest for which D says one.
+pub record Lowered (D : ℕ → ℕ → Type 0) (rest : ℕ) (old new : List ℕ) (front grow : ℕ) : Type 0 where
+  pub long : length new ≡ 64
+  pub below : (c : ℕ) → c < 64 → getD new c 0 ≤ getD old c 0
+  pub least : (c m : ℕ) → c < 64 → T (inSet rest c) → D c m → getD new c 0 ≤ m
+  pub found : (c : ℕ) → c < 64 → (getD new c 0 ≡ getD old c 0) ⊎ (T (inSet rest c) × D c (getD new c 0))
+  pub kept : (c : ℕ) → T (inSet front c) → T (inSet grow c)
+  pub grows : (c m : ℕ) → c < 64 → T (inSet rest c) → D c m → T (inSet grow c)
+  pub grown : (c : ℕ) → c < 64 → T (inSet grow c) → T (inSet front c) ⊎ (T (inSet rest c) × ((m : ℕ) × D c m))
+
+-- The labels towards d: that of d is that of the empty path; any other is the least by a usable arc into a value that has one.
+pub record Settled (t : Task) (K : State) (v d : ℕ) (labels : List ℕ) : Type 0 where
+  pub goal : getD labels d 0 ≡ d
+  pub small : (c : ℕ) → c < count t v → getD labels c 0 < unreached → getD labels c 0 / 65536 ≤ highest
+  pub least : (c x m : ℕ) → c < count t v → c ≢ d → getD labels x 0 < unreached → Into t K v x (getD labels x 0 / 65536) c m → getD labels c 0 ≤ m
+  pub found : (c : ℕ) → c < count t v → c ≢ d
+      → (getD labels c 0 ≡ unreached) ⊎ ((x : ℕ) × (getD labels x 0 < unreached) × Into t K v x (getD labels x 0 / 65536) c (getD labels c 0))

@@ -1,0 +1,175 @@
+//! The repair as the specification words it: variable by variable through the list built so far, with each
+//! path searched anew, by the rule of 6.7 or by one that comes close to it.
+
+use reference::painting::painting;
+use reference::{Fact, Task};
+use std::cmp::Ordering;
+
+/// Which of the paths from one value to another is taken.
+#[derive(Clone, Copy, Debug)]
+pub enum Rule {
+    /// 6.7: by cost, by moves, by actions first to last.
+    Cheapest,
+    /// By moves, by actions first to last: the rule up to version 0.4.0.
+    FewestMoves,
+    /// By cost, by actions first to last.
+    MovesForgotten,
+    /// By cost, by moves, by actions last to first.
+    FromTheEnd,
+}
+
+/// Rules that are not that of 6.7.
+pub const OTHERS: [Rule; 3] = [Rule::FewestMoves, Rule::MovesForgotten, Rule::FromTheEnd];
+
+/// A path that repeats no value.
+#[derive(Clone, Copy)]
+struct Path {
+    cost: u32,
+    moves: usize,
+    actions: [u16; 64],
+    /// The values on it.
+    seen: u64,
+}
+
+impl Path {
+    fn empty(at: usize) -> Self {
+        Path { cost: 0, moves: 0, actions: [0; 64], seen: 1 << at }
+    }
+
+    /// One action longer, unless that repeats a value.
+    fn and(&self, task: &Task, number: u16, to: usize) -> Option<Path> {
+        let mut path = *self;
+        path.cost += task.cost(number.into());
+        path.actions[path.moves] = number;
+        path.moves += 1;
+        path.seen |= 1 << to;
+        (path.seen != self.seen).then_some(path)
+    }
+
+    fn actions(&self) -> &[u16] {
+        &self.actions[..self.moves]
+    }
+
+    fn compare(&self, other: &Path, rule: Rule) -> Ordering {
+        let cost = self.cost.cmp(&other.cost);
+        let moves = self.moves.cmp(&other.moves);
+        let actions = || self.actions().cmp(other.actions());
+        let backwards = || self.actions().iter().rev().cmp(other.actions().iter().rev());
+        match rule {
+            Rule::Cheapest => cost.then(moves).then_with(actions),
+            Rule::FewestMoves => moves.then_with(actions),
+            Rule::MovesForgotten => cost.then_with(actions),
+            Rule::FromTheEnd => cost.then(moves).then_with(backwards),
+        }
+    }
+}
+
+fn value(facts: &[Fact], v: usize) -> Option<usize> {
+    facts.iter().find(|fact| fact.variable() == v).map(|fact| fact.value())
+}
+
+/// The repair of a relaxed plan, if the painting is accepted.
+pub fn repaired(task: &Task, relaxed: &[u16], rule: Rule) -> Option<Vec<u16>> {
+    let mut repair = Repair::new(task, painting(task).ok()?.order, rule);
+    for &number in relaxed {
+        repair.restore(task.preconditions(number.into()));
+        repair.apply(number);
+    }
+    repair.restore(&task.goals().collect::<Vec<_>>());
+    Some(repair.plan)
+}
+
+struct Repair<'a> {
+    task: &'a Task,
+    rule: Rule,
+    /// The black variables, clients first.
+    order: Vec<usize>,
+    current: Vec<usize>,
+    /// Red facts held, and black facts held at any time.
+    held: Vec<u64>,
+    plan: Vec<u16>,
+}
+
+impl<'a> Repair<'a> {
+    fn new(task: &'a Task, order: Vec<usize>, rule: Rule) -> Self {
+        let current: Vec<usize> = task.variables.iter().map(|v| v.initial.into()).collect();
+        let held = current.iter().map(|&value| 1 << value).collect();
+        Repair { task, rule, order, current, held, plan: Vec::new() }
+    }
+
+    fn apply(&mut self, number: u16) {
+        for fact in self.task.effects(number.into()) {
+            self.current[fact.variable()] = fact.value();
+            self.held[fact.variable()] |= 1 << fact.value();
+        }
+        self.plan.push(number);
+    }
+
+    fn restore(&mut self, wanted: &[Fact]) {
+        let black = |fact: &Fact| self.task.variables[fact.variable()].black;
+        let unmet = |fact: &Fact| black(fact) && self.current[fact.variable()] != fact.value();
+        if wanted.iter().any(unmet) {
+            let moves = self.moves(wanted);
+            moves.into_iter().for_each(|number| self.apply(number));
+        }
+    }
+
+    fn moves(&self, wanted: &[Fact]) -> Vec<u16> {
+        let mut list: Vec<u16> = Vec::new();
+        for &v in &self.order {
+            let mut at = self.current[v];
+            let mut next = Vec::new();
+            for &entry in &list {
+                if let Some(needed) = value(self.task.preconditions(entry.into()), v) {
+                    next.extend_from_slice(self.path(v, at, needed).actions());
+                    at = needed;
+                }
+                next.push(entry);
+            }
+            if let Some(needed) = value(wanted, v) {
+                next.extend_from_slice(self.path(v, at, needed).actions());
+            }
+            list = next;
+        }
+        list
+    }
+
+    fn usable(&self, number: usize) -> bool {
+        let held = |fact: &Fact| self.held[fact.variable()] >> fact.value() & 1 == 1;
+        self.task.preconditions(number).iter().all(held)
+    }
+
+    /// Paths to all values grow until none is bettered.
+    fn path(&self, v: usize, from: usize, to: usize) -> Path {
+        let arcs = self.arcs(v);
+        let mut best = vec![None; self.task.variables[v].values.into()];
+        best[from] = Some(Path::empty(from));
+        let mut bettered = from != to;
+        while std::mem::take(&mut bettered) {
+            for at in 0..best.len() {
+                let Some(path): Option<Path> = best[at] else { continue };
+                let leaving = arcs.iter().filter(|(_, needed, _)| needed.is_none_or(|d| d == at));
+                for &(number, _, target) in leaving {
+                    let Some(path) = path.and(self.task, number, target) else { continue };
+                    let better = |old: Path| path.compare(&old, self.rule).is_lt();
+                    if best[target].is_none_or(better) {
+                        best[target] = Some(path);
+                        bettered = true;
+                    }
+                }
+            }
+        }
+        best[to].expect("a path")
+    }
+
+    /// Usable actions that set a variable: the action, the value needed of it, the value set.
+    fn arcs(&self, v: usize) -> Vec<(u16, Option<usize>, usize)> {
+        let numbers = 0..self.task.action_count();
+        let usable = numbers.filter(|&number| self.usable(number));
+        let arc = |number: usize| {
+            let action = self.task.action(number);
+            Some((number as u16, value(action.preconditions, v), value(action.effects, v)?))
+        };
+        usable.filter_map(arc).collect()
+    }
+}
