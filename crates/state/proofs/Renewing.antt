@@ -72,6 +72,9 @@ module _ (task : List ℕ) (i : ℕ) (L : Listed task i) (end k : ℕ) (ns₀ ns
     so-far = q .so-far ∙ rw (factsIn-cons task k (cell task (1361 + i) 3) (omega (arith, w .at-end)) (L .end-below), ex, ev, ef) refl;
   }
 
+  pub renewing-placed : k < end → (f : ℕ) (r : List ℕ) → f ≡ getD task k 0 → r ≡ set ns (f / 64) (f % 64) → Renewing task i ns₀ r (k + 1)
+  renewing-placed h f r ef er = rw er (renewing-turn h f (f / 64) (f % 64) ef refl refl)
+
   pub renewing-end : end ≤ k → valuesOf ns ≡ newer (act (taskIn task) i) (valuesOf ns₀)
   unfolding setAll actionIn
   renewing-end h =

@@ -24,6 +24,14 @@ setsOf ms v x = inSet (getD ms v 0) x
 unfoldable pub valuesOf : List ℕ → Values
 valuesOf ns v = getD ns v 0
 
+-- x if b, else y
+unfoldable pub choose : Bool → ℕ → ℕ → ℕ
+choose b x y = elim b [ true ↦ x | false ↦ y ]
+
+-- new values over old ones, where 64 is none
+unfoldable pub over : Values → Values → Values
+over old new v = choose (eqb (new v) 64) (old v) (new v)
+
 -- the steps of a list that run, with one more behind that applies or not: of `steps` steps `runs` do
 unfoldable pub further : Bool → ℕ → ℕ → ℕ
 further b runs steps = elim (eqb runs steps && b) [ true ↦ suc runs | false ↦ runs ]

@@ -4,11 +4,11 @@
 use task::Goal;
 ghost use mathlib.Core.Path.{_≡_};
 ghost use Prim.Native.Nat.{ℕ, _+_, _*_, _/_, _%_, _^_, _<_, _≤_};
-ghost use lib.ListN.{length, getD};
+ghost use lib.ListN.{length, getD, set};
 ghost use Rattle.planning.specs.Runs.{actions, act, has, holds, look, step, initial, relaxed, black, size};
 ghost use Rattle.planning.specs.Newest.{initialValues, newer, alone};
 ghost use Rattle.task.specs.Task.{factsIn, taskIn, Loaded};
-ghost use Rattle.state.specs.Sets.{inSet, setsOf, valuesOf, modeOf, redBlackOf, further, GoalsOf, Asked};
+ghost use Rattle.state.specs.Sets.{inSet, setsOf, valuesOf, modeOf, redBlackOf, choose, over, further, GoalsOf, Asked};
 
 // The set of value x alone.
 pub fn single(x: usize) -> u64
@@ -251,14 +251,52 @@ impl Goals {
     }
 }
 
+// x if b, else y.
+fn choose(b: bool, x: u8, y: u8) -> u8
+    ensures { λ r. ⌜ r ≡ choose b x y ⌝ }
+{
+    if b { x } else { y }
+}
+
+// The values with fact f set. Every entry is chosen anew, by n, which is 64 at the variable of f: after a store of one byte the processor
+// waits with a read of many bytes at once.
+fn placed(values: [u8; 64], f: usize) -> [u8; 64]
+    requires { ⌜ f < 4096 ⌝ }
+    ensures { λ r. ⌜ r ≡ set values (f / 64) (f % 64) ⌝ }
+{
+    let x = (f % 64) as u8;
+    let mut n = 64 - (f / 64) as u8;
+    let mut r = values;
+    let mut k: usize = 0;
+    while k < 64 {
+        r[k] = choose(n == 64, x, values[k]);
+        n += 1;
+        k += 1;
+    }
+    r
+}
+
+// New values laid over old ones, where 64 is none.
+fn laid(old: [u8; 64], new: [u8; 64]) -> [u8; 64]
+    ensures { λ r. ⌜ valuesOf r ≡ over (valuesOf old) (valuesOf new) ⌝ }
+{
+    let mut r = old;
+    let mut k: usize = 0;
+    while k < 64 {
+        r[k] = choose(new[k] == 64, old[k], new[k]);
+        k += 1;
+    }
+    r
+}
+
 // The newest value of each variable. As long as every step ran for real they are the real state.
 pub struct Newest {
     pub values: [u8; 64],
 }
 
 impl Newest {
-    // The newest values after action i.
-    pub fn step(mut self, task: &[u16], i: usize) -> Newest
+    // The newest values after action i, its effects stored one by one.
+    fn stored(mut self, task: &[u16], i: usize) -> Newest
         requires { ⌜ Loaded (now task) × (i < actions (taskIn (now task))) ⌝ }
         ensures { λ r. ⌜ valuesOf (r .values) ≡ newer (act (taskIn (now (task .entry))) i) (valuesOf (self .values)) ⌝ }
     {
@@ -270,6 +308,38 @@ impl Newest {
             k += 1;
         }
         self
+    }
+
+    // The same with all values chosen anew for each effect.
+    fn chosen(self, task: &[u16], i: usize) -> Newest
+        requires { ⌜ Loaded (now task) × (i < actions (taskIn (now task))) ⌝ }
+        ensures { λ r. ⌜ valuesOf (r .values) ≡ newer (act (taskIn (now (task .entry))) i) (valuesOf (self .values)) ⌝ }
+    {
+        let mut values = self.values;
+        let end = task::eff_end(task, i);
+        let mut k = task::eff_start(task, i);
+        while k < end {
+            let next = placed(values, lists::wide(task[k]));
+            values = next;
+            k += 1;
+        }
+        Newest { values }
+    }
+
+    // The newest values after action i: up to three effects by choosing, more are stored apart and laid over the old values.
+    pub fn step(self, task: &[u16], i: usize) -> Newest
+        requires { ⌜ Loaded (now task) × (i < actions (taskIn (now task))) ⌝ }
+        ensures { λ r. ⌜ valuesOf (r .values) ≡ newer (act (taskIn (now (task .entry))) i) (valuesOf (self .values)) ⌝ }
+    {
+        if task::eff_end(task, i) - task::eff_start(task, i) <= 3 {
+            return self.chosen(task, i);
+        }
+        let none = Newest { values: [64; 64] };
+        let effects = none.stored(task, i);
+        let old = self.values;
+        let new = effects.values;
+        let values = laid(old, new);
+        Newest { values }
     }
 }
 
@@ -299,14 +369,12 @@ impl State {
         }
     }
 
-    // The state after action i, whole.
+    // The state after action i, whole. Beside the copies of the sets the newest values may be stored one by one.
     pub fn step(mut self, task: &[u16], i: usize) -> State
         requires { ⌜ Loaded (now task) × (i < actions (taskIn (now task))) ⌝ }
         ensures { λ r. ⌜ setsOf (r .sets) ≡ step relaxed (act (taskIn (now (task .entry))) i) (setsOf (self .sets)) ⌝ }
         ensures { λ r. ⌜ valuesOf (r .newest .values) ≡ newer (act (taskIn (now (task .entry))) i) (valuesOf (self .newest .values)) ⌝ }
     {
-        let newest = self.newest;
-        self.newest = newest.step(task, i);
         let end = task::eff_end(task, i);
         let mut k = task::eff_start(task, i);
         while k < end {
@@ -315,6 +383,8 @@ impl State {
             self.sets[v] = self.sets[v] | single(f % 64);
             k += 1;
         }
+        let newest = self.newest;
+        self.newest = newest.stored(task, i);
         self
     }
 

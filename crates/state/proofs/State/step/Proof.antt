@@ -1,8 +1,12 @@
--- Newest values step by themselves. Effects are put into the sets one after the other; those from k on are left.
+-- Effects are put into the sets one after the other; those from k on are left. Then newest values step by themselves.
 use borrow.Author.Needs.{needs}
 use mathlib.Core.Path.{_≡_, refl, ap, _∙_}
-use Prim.Native.Nat.{_-_, _<_}
+use mathlib.Core.List.{List}
+use Prim.Native.Nat.{ℕ, _-_, _<_}
 use native.Mathlib.Omega.{arith}
+use Rattle.planning.specs.Runs.{act}
+use Rattle.planning.specs.Newest.{newer}
+use Rattle.task.specs.Task.{taskIn}
 use Rattle.state.specs.Sets.{valuesOf}
 use Rattle.state.proofs.Listed.{Listed}
 use Rattle.state.proofs.Listing.{loaded-listed}
@@ -20,10 +24,7 @@ listed : (s : tie.Start Inv-loop μ-loop) → Listed (s .args .task .now) (s .ar
 listed s = loaded-listed _ (s .pre .0) _ (s .pre .1)
 
 abbrev start-of : tie.At-loop Inv-loop μ-loop → tie.Start Inv-loop μ-loop
-start-of h = h .before .before .before .before .before .before
-
-step-requires : tie.Need-step-requires Inv-loop μ-loop
-step-requires c κs = search needs
+start-of h = h .before .before .before .before
 
 eff-end-requires : tie.Need-eff-end-requires Inv-loop μ-loop
 eff-end-requires c κs = search needs
@@ -33,7 +34,7 @@ eff-start-requires c κs = search needs
 
 loop-holds : tie.Need-loop-holds Inv-loop μ-loop
 loop-holds c = (
-  walking-start _ _ (listed (c .before .before .before .before .before)) _ _ (c .before .eff-end .ensures) (c .eff-start .ensures),
+  walking-start _ _ (listed (c .before .before .before)) _ _ (c .before .eff-end .ensures) (c .eff-start .ensures),
   putting-start _ _ _ _ (c .eff-start .ensures) (search needs),
   refl,
 )
@@ -83,11 +84,17 @@ loop-again c =
       I .2,
     )
 
+stored-requires : tie.Need-stored-requires Inv-loop μ-loop
+stored-requires c κs = search needs
+
 returns : tie.Need-returns Inv-loop μ-loop
 returns c =
-    let h = c .before in
+    let h = c .before .before .before in
     let I = h .loop .inv in
-    (putting-end _ _ (listed (start-of h)) _ _ _ _ (I .0) (I .1) (omega arith), ap valuesOf (I .2) ∙ h .before .before .before .step .ensures)
+    let a = start-of h .args in (
+      putting-end _ _ (listed (start-of h)) _ _ _ _ (I .0) (I .1) (omega arith),
+      c .stored .ensures ∙ ap (λ (ns : List ℕ). newer (act (taskIn (a .task .now)) (a .i)) (valuesOf ns)) (I .2),
+    )
 
 pub step-spec : {M : Type 1} → statement M
 step-spec =
@@ -95,7 +102,6 @@ step-spec =
     (tie.spec
     Inv-loop
     μ-loop
-    step-requires
     eff-end-requires
     eff-start-requires
     loop-holds
@@ -110,4 +116,5 @@ step-spec =
     add-k
     loop-less
     loop-again
+    stored-requires
     returns)
