@@ -1,4 +1,4 @@
-/* Calls every function of the header on two shelves (and a tray, two shelves with a fifth action, a gate, and a detour) and
+/* Calls every function of the header on two shelves (and a tray, two shelves with a fifth action, a gate, a detour, and a lift) and
  * on records and lists with faults, and prints what comes back, the lists lent with all their entries. */
 #include "mardiskos.h"
 #include "output.h"
@@ -33,6 +33,13 @@ static const uint8_t detour[52] = {
     0x00, 0x00, 0x04, 0x44, 0x00, 0x00, 0x04, 0x00, 0x04, 0x44, 0x00, 0x40, 0x08,
     0x00, 0x04, 0x44, 0x00, 0x80, 0x04, 0x00, 0x04, 0x44, 0x00, 0x40, 0x00, 0x00,
     0x14, 0x44, 0x00, 0x00, 0x08, 0x00, 0x04, 0x84, 0x00, 0x81, 0x00, 0x10, 0x40,
+};
+
+/* A switch and a lift, both black, and a crate; the lift moves and is loaded only while the switch is on: 310 bits. */
+static const uint8_t lift[39] = {
+    0x10, 0x60, 0x14, 0x18, 0x10, 0x01, 0x81, 0x04, 0x10, 0x10, 0x40, 0x00, 0x40,
+    0x40, 0x04, 0x00, 0x04, 0x04, 0x00, 0x00, 0x00, 0x84, 0x40, 0x04, 0x10, 0x40,
+    0x00, 0x84, 0x40, 0x04, 0x10, 0x00, 0x00, 0xc8, 0x40, 0x04, 0x10, 0x02, 0x04,
 };
 
 /* A tray and two boxes, all red, and two actions, each of which loads a box on the tray. */
@@ -155,8 +162,8 @@ static void print_plan(mardiskos_plan_result p, const uint16_t *list, size_t len
                        size_t work_len)
 {
     print_code(p.code);
-    printf("  %" PRIu32 " steps, cost %" PRIu32 ", %s, %" PRIu32 " run\n", p.steps, p.cost,
-           p.real ? "real" : "not real", p.runs);
+    printf("  %" PRIu32 " steps, cost %" PRIu32 ", %s, %" PRIu32 " run, searches %" PRIu32 "\n", p.steps, p.cost,
+           p.real ? "real" : "not real", p.runs, p.searches);
     print_list("plan list", list, len);
     print_list("work list", work, work_len);
 }
@@ -170,7 +177,7 @@ static void plan(const char *what, const uint8_t *record, size_t record_len, siz
 }
 
 /* Each way from the record to a plan, with room and without; then with action 4, with room; then the plans of gate and
- * detour. */
+ * detour, and that of the lift, with room and without. */
 static void plans(void)
 {
     forward("", two_shelves, sizeof two_shelves, 4);
@@ -185,6 +192,8 @@ static void plans(void)
     plan(", with action 4", two_shelves_with_4, sizeof two_shelves_with_4, ENTRIES, 4);
     plan(", gate", gate, sizeof gate, GATE_ENTRIES, 7);
     plan(", detour", detour, sizeof detour, ENTRIES, 5);
+    plan(", lift", lift, sizeof lift, ENTRIES, ENTRIES);
+    plan(", lift", lift, sizeof lift, 5, ENTRIES);
 }
 
 static void repair(const char *what, const uint16_t *actions, size_t count, size_t len)

@@ -88,8 +88,8 @@ static int control(const char *name, size_t len)
     mardiskos_plan_result planned = mardiskos_plan(record, len, plan, MARDISKOS_MOST_STEPS, work, MARDISKOS_MOST_STEPS);
     if (planned.code != 0)
         return refuse(planned.code);
-    printf("plan: %" PRIu32 " steps, cost %" PRIu32 ", %s, %" PRIu32 " run\n", planned.steps, planned.cost,
-           verdict(planned.real), planned.runs);
+    printf("plan: %" PRIu32 " steps, cost %" PRIu32 ", %s, %" PRIu32 " run, searches %" PRIu32 "\n", planned.steps, planned.cost,
+           verdict(planned.real), planned.runs, planned.searches);
     mardiskos_sheet_size written =
         mardiskos_write_sheet(plan, planned.steps, planned.cost, planned.real, sheet, MARDISKOS_LONGEST_SHEET);
     if (written.code != 0)

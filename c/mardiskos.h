@@ -77,8 +77,8 @@ extern "C" {
 #endif
 
 /* The version, as text and as 10,000 * major + 100 * minor + patch. */
-#define MARDISKOS_VERSION "0.5.0"
-#define MARDISKOS_VERSION_NUMBER 500
+#define MARDISKOS_VERSION "0.6.0"
+#define MARDISKOS_VERSION_NUMBER 600
 
 #define MARDISKOS_NUMBER(code) ((unsigned)((code) % 32))
 #define MARDISKOS_PLACE(code) ((code) / 32)
@@ -191,14 +191,22 @@ typedef struct {
 mardiskos_relaxed_plan mardiskos_relax(const uint8_t *record, size_t len, uint16_t *plan,
                                        size_t plan_len);
 
-/* A plan: how many steps it has, the sum of their costs, how many run for real until one does not apply, and
- * whether it is a plan for real. The steps that run are the first `runs` entries of the plan list; where all
- * run and only a goal is missed, they are the whole plan. */
+/* A plan: how many steps it has, the sum of their costs, how many run for real until one does not apply, how many
+ * path searches the repair made, and whether it is a plan for real. The steps that run are the first `runs`
+ * entries of the plan list; where all run and only a goal is missed, they are the whole plan.
+ *
+ * A search is a place where the repair asks for a path. Where the next action of the relaxed plan, or the goals,
+ * want a black variable at another value than it has, moves are inserted before them. For each black variable in
+ * turn there is one search for each of these moves so far that needs a value of the variable, and one if a value
+ * of it is wanted, also where it has that value. A path without moves counts, and so does one that was found
+ * before. With n actions in the relaxed plan, P the product of the black variables' counts of values and m black
+ * variables, there are at most n * P * m searches; so there are none where the relaxed plan is empty. */
 typedef struct {
     uint64_t code;
     uint32_t steps;
     uint32_t cost;
     uint32_t runs;
+    uint32_t searches;
     bool real;
 } mardiskos_plan_result;
 

@@ -2,7 +2,7 @@
 
     import mardiskos
     record = open("examples/two-shelves.record", "rb").read()
-    plan = mardiskos.plan(record)         # Plan(steps=[0, 2, 1, 3], cost=10, runs=4, real=True)
+    plan = mardiskos.plan(record)         # Plan(steps=[0, 2, 1, 3], cost=10, runs=4, searches=1, real=True)
     mardiskos.newest(record, plan.steps)  # Newest(values=[0, 0], steps=4, runs=4)
     sheet = mardiskos.write_sheet(plan.steps, plan.cost, plan.real)
 
@@ -10,7 +10,8 @@ Records and sheets are bytes or anything like them, lists of actions any iterabl
 has number, place and words. A number that fits no field (an action not 0 to 65,535, a cost of over 32 bits) raises OverflowError.
 
 The library is looked for in the file that MARDISKOS_LIB names if it is set; else in build/lib of the repository, where
-`sh tools/build` puts it; else wherever the system finds libmardiskos.so.0. It is proved; this module is not, it is tested.
+`sh tools/build` puts it; else wherever the system finds it. Its name has this module's version, libmardiskos.so.0.6. It is proved;
+this module is not, it is tested.
 """
 
 import ctypes
@@ -19,7 +20,7 @@ from array import array
 from ctypes import c_bool, c_char_p, c_size_t, c_uint32, c_uint64, c_void_p
 from typing import Iterable, List, NamedTuple
 
-__version__ = "0.5.0"
+__version__ = "0.6.0"
 
 MAX_STEPS = 32768
 MAX_VARIABLES = 64
@@ -87,11 +88,14 @@ class ForwardRun(NamedTuple):
 
 
 class Plan(NamedTuple):
-    """A repaired plan: its steps, their cost, how many run for real, and whether it is a plan in a real run."""
+    """A repaired plan: its steps, their cost, how many run for real, how many path searches the repair made, and whether it is a plan
+    in a real run. A search is a place where the repair asks for a path, also for one that has no moves or was found before;
+    there are at most n * P * m: actions of the relaxed plan, product of the black variables' counts of values, black variables."""
 
     steps: List[int]
     cost: int
     runs: int
+    searches: int
     real: bool
 
     @property
@@ -132,7 +136,14 @@ class _RelaxedPlan(ctypes.Structure):
 
 
 class _PlanResult(ctypes.Structure):
-    _fields_ = [("code", c_uint64), ("steps", c_uint32), ("cost", c_uint32), ("runs", c_uint32), ("real", c_bool)]
+    _fields_ = [
+        ("code", c_uint64),
+        ("steps", c_uint32),
+        ("cost", c_uint32),
+        ("runs", c_uint32),
+        ("searches", c_uint32),
+        ("real", c_bool),
+    ]
 
 
 class _SheetSize(ctypes.Structure):
@@ -161,8 +172,9 @@ _CALLS = {
 def _load() -> ctypes.CDLL:
     name = os.environ.get("MARDISKOS_LIB")
     if not name:
-        name = os.path.join(os.path.dirname(os.path.abspath(__file__)), "..", "build", "lib", "libmardiskos.so")
-        name = name if os.path.exists(name) else "libmardiskos.so.0"
+        name = "libmardiskos.so." + __version__.rpartition(".")[0]
+        built = os.path.join(os.path.dirname(os.path.abspath(__file__)), "..", "build", "lib", name)
+        name = built if os.path.exists(built) else name
     try:
         library = ctypes.CDLL(name)
     except OSError as why:
@@ -273,4 +285,4 @@ def _room(entries: int) -> array:
 
 def _plan(result: _PlanResult, steps: array) -> Plan:
     _accept(result.code)
-    return Plan(steps[: result.steps].tolist(), result.cost, result.runs, result.real)
+    return Plan(steps[: result.steps].tolist(), result.cost, result.runs, result.searches, result.real)

@@ -64,21 +64,28 @@ class Calls(unittest.TestCase):
         record = example("two-shelves-with-4")
         self.assertEqual(mardiskos.forward(record), ([4, 2, 3], 5))
         self.assertEqual(mardiskos.relax(record), [4, 2, 3])
-        self.assertEqual(mardiskos.plan(record), Plan([4, 2, 1, 3], 9, 4, True))
+        self.assertEqual(mardiskos.plan(record), Plan([4, 2, 1, 3], 9, 4, 1, True))
 
     def test_gate_set_again(self):
         record = example("gate")
-        self.assertEqual(mardiskos.plan(record), Plan([0, 2, 1, 4, 0, 3, 1], 14, 7, True))
+        self.assertEqual(mardiskos.plan(record), Plan([0, 2, 1, 4, 0, 3, 1], 14, 7, 5, True))
         self.assertEqual(mardiskos.newest(record, [0, 2]), ([1, 1, 0], 2, 2))
 
     def test_cheapest_way_back(self):
-        self.assertEqual(mardiskos.plan(example("detour")), Plan([1, 2, 6, 3, 4], 5, 5, True))
-        self.assertEqual(mardiskos.plan(example("ring")), Plan([0, 1, 2, 8, 6], 1, 5, True))
-        self.assertEqual(mardiskos.plan(example("diamond")), Plan([0, 1, 2, 10, 3, 6], 7, 6, True))
+        self.assertEqual(mardiskos.plan(example("detour")), Plan([1, 2, 6, 3, 4], 5, 5, 1, True))
+        self.assertEqual(mardiskos.plan(example("ring")), Plan([0, 1, 2, 8, 6], 1, 5, 1, True))
+        self.assertEqual(mardiskos.plan(example("diamond")), Plan([0, 1, 2, 10, 3, 6], 7, 6, 1, True))
+
+    def test_searches(self):
+        record = example("lift")
+        self.assertEqual(mardiskos.plan(record), Plan([0, 2, 3, 4, 2, 1], 11, 6, 6, True))
+        self.assertEqual(mardiskos.repair(record, [0, 2, 4]).searches, 6)
+        self.assertEqual(mardiskos.repair(record, [0, 2, 3, 4, 2, 1]).searches, 0)
+        self.assertEqual(mardiskos.plan(example("tray")).searches, 0)
 
     def test_plan(self):
-        self.assertEqual(mardiskos.plan(TWO_SHELVES), Plan([0, 2, 1, 3], 10, 4, True))
-        self.assertEqual(mardiskos.plan(example("goal-met")), Plan([], 0, 0, True))
+        self.assertEqual(mardiskos.plan(TWO_SHELVES), Plan([0, 2, 1, 3], 10, 4, 1, True))
+        self.assertEqual(mardiskos.plan(example("goal-met")), Plan([], 0, 0, 0, True))
         self.assertEqual(mardiskos.plan(example("tray")).runnable, [0])
         self.assertEqual(mardiskos.plan(TWO_SHELVES, room=4).cost, 10)
         self.refuses(11, 3, mardiskos.plan, TWO_SHELVES, 3)
@@ -122,7 +129,7 @@ class Calls(unittest.TestCase):
             thread.start()
         for thread in threads:
             thread.join()
-        self.assertEqual(plans, [[Plan([0, 2, 1, 3], 10, 4, True)] * 20] * 4)
+        self.assertEqual(plans, [[Plan([0, 2, 1, 3], 10, 4, 1, True)] * 20] * 4)
 
 
 class Header(unittest.TestCase):

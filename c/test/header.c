@@ -70,12 +70,14 @@ static void null_lists(void)
     expect(mardiskos_plan(goal_met, sizeof goal_met, NULL, 0, NULL, 0).real, "plan, goal met");
     mardiskos_plan_result planned = mardiskos_plan(two_shelves, sizeof two_shelves, plan, 4, NULL, 0);
     expect(planned.code == code(MARDISKOS_NO_ROOM, 0) && plan[0] == 65535 && plan[3] == 65535, "plan, no work list");
+    expect(planned.searches == 0, "plan, no work list: searches");
     expect(mardiskos_plan(two_shelves, sizeof two_shelves, NULL, 0, plan, 4).code == code(MARDISKOS_NO_ROOM, 0), "plan, no room");
     planned = mardiskos_repair(two_shelves, sizeof two_shelves, NULL, 0, plan, 4, NULL, 0);
     expect(planned.code == code(MARDISKOS_WRONG_ENTRY, 0), "repair, no list");
     planned = mardiskos_repair(two_shelves, sizeof two_shelves, list, 4, NULL, 0, NULL, 0);
     expect(planned.code == code(MARDISKOS_NO_ROOM, 0), "repair, no room");
-    expect(mardiskos_repair(goal_met, sizeof goal_met, NULL, 0, NULL, 0, NULL, 0).real, "repair, goal met");
+    planned = mardiskos_repair(goal_met, sizeof goal_met, NULL, 0, NULL, 0, NULL, 0);
+    expect(planned.real && planned.searches == 0, "repair, goal met");
 }
 
 static void null_sheets(void)

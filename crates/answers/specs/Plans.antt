@@ -6,10 +6,10 @@ use Rattle.answers.specs.declared.Planned.{Planned}
 use Rattle.answers.specs.declared.Planned.the-variants.{Plan, Refused}
 
 abbrev pub answerOf : Planned → Answer Result
-answerOf (Plan s c n v) = done (record { steps = s; cost = c; real′ = v; runs = n })
+answerOf (Plan s c n k v) = done (record { steps = s; cost = c; real′ = v; runs = n; searches′ = k })
 answerOf (Refused f) = refused (f .number) (f .place)
 
 -- the steps, 0 after a refusal
 abbrev pub stepsOf : Planned → ℕ
-stepsOf (Plan s c n v) = s
+stepsOf (Plan s c n k v) = s
 stepsOf (Refused f) = 0

@@ -1,4 +1,4 @@
-// What the parts of the library answer: a check passes or refuses, a search or a reading gives a number or refuses. A refusal has its
+// What the parts of the library answer: a check passes or refuses, a call with one number gives it or refuses. A refusal has its
 // number in the table and its place.
 ghost use mathlib.Core.Path.{_≡_};
 ghost use Rattle.answers.specs.Answers.{refusalIn, refusalOf};
@@ -44,12 +44,14 @@ pub fn refusal_of(n: Number) -> Refusal
     f
 }
 
-// A plan with its steps, its cost, the steps that run for real, and whether it is a plan in a real run; or the refusal.
+// A plan with its steps, its cost, the steps that run for real, the path searches that it took, and whether it is a plan in a real run; or
+// the refusal.
 pub enum Planned {
     Plan {
         steps: u32,
         cost: u32,
         runs: u32,
+        searches: u32,
         real: bool,
     },
     Refused(Refusal),

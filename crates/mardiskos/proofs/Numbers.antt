@@ -134,7 +134,8 @@ read-back (refused m p) h =
     go (eqb (32 * p + m) 0) (ne-eqb (32 * p + m) 0 (λ e. omega (arith, b .0))) (omega (arith, b .0, b .1)) (omega (arith, b .0, b .1))
   where
     go : (b : Bool) → b ≡ false → (32 * p + m) % 32 ≡ m → (32 * p + m) / 32 ≡ p
-        → _≡_ {A = Answer Planned} (elim b [ true ↦ done (record { steps = 0; cost = 0; real′ = false; runs = 0 }) | false ↦ refused ((32 * p + m) % 32) ((32 * p + m) / 32) ]) (refused m p)
+        → _≡_ {A = Answer Planned}
+        (elim b [ true ↦ done (record { steps = 0; cost = 0; real′ = false; runs = 0; searches′ = 0 }) | false ↦ refused ((32 * p + m) % 32) ((32 * p + m) / 32) ]) (refused m p)
     go true e q r = let z : _≡_ {A = ℕ} 0 1 = cc in absurd (omega arith)
     go false e q r = rw (q, r) refl
 

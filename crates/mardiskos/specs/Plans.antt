@@ -7,9 +7,12 @@ use Rattle.planning.specs.Calls.{Planned}
 use Rattle.mardiskos.specs.declared.plans.PlanResult.{PlanResult}
 
 abbrev pub planResultOf : Answer Planned → PlanResult
-planResultOf (refused n p) = record { code = 32 * p + n; steps = 0; cost = 0; runs = 0; real = false }
-planResultOf (done x) = record { code = 0; steps = x .steps; cost = x .cost; runs = x .runs; real = x .real′ }
+planResultOf (refused n p) = record { code = 32 * p + n; steps = 0; cost = 0; runs = 0; searches = 0; real = false }
+planResultOf (done x) = record { code = 0; steps = x .steps; cost = x .cost; runs = x .runs; searches = x .searches′; real = x .real′ }
 
 -- the answer that C reads off a result
 unfoldable pub answerIn : PlanResult → Answer Planned
-answerIn r = elim (eqb (r .code) 0) [ true ↦ done (record { steps = r .steps; cost = r .cost; real′ = r .real; runs = r .runs }) | false ↦ refused (r .code % 32) (r .code / 32) ]
+answerIn r = elim (eqb (r .code) 0) [
+  | true ↦ done (record { steps = r .steps; cost = r .cost; real′ = r .real; runs = r .runs; searches′ = r .searches })
+  | false ↦ refused (r .code % 32) (r .code / 32)
+]

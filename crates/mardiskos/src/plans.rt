@@ -7,7 +7,7 @@ ghost use Rattle.planning.specs.Basics.{code};
 ghost use Rattle.planning.specs.Record.{taskOf};
 ghost use Rattle.planning.specs.Relaxed.{relaxedPlan};
 ghost use Rattle.planning.specs.Calls.{planCall, planList, repairCall, repairList, workList, planIn};
-ghost use Rattle.planning.specs.Existence.{Demand3, Bounded};
+ghost use Rattle.planning.specs.Existence.{Demand3, Bounded, Ceiling};
 ghost use Rattle.answers.specs.Plans.{answerOf};
 ghost use Rattle.mardiskos.specs.Plans.{planResultOf, answerIn};
 
@@ -17,6 +17,7 @@ pub struct PlanResult {
     pub steps: u32,
     pub cost: u32,
     pub runs: u32,
+    pub searches: u32,
     pub real: bool,
 }
 
@@ -38,6 +39,7 @@ fn flat(p: Planned) -> PlanResult
         steps,
         cost,
         runs,
+        searches,
         real,
     } = p
     else {
@@ -46,6 +48,7 @@ fn flat(p: Planned) -> PlanResult
             steps: 0,
             cost: 0,
             runs: 0,
+            searches: 0,
             real: false,
         };
     };
@@ -54,6 +57,7 @@ fn flat(p: Planned) -> PlanResult
         steps,
         cost,
         runs,
+        searches,
         real,
     }
 }
@@ -66,6 +70,7 @@ pub extern "C" fn mardiskos_plan(bytes: &[u8], plan: &mut [u16], work: &mut [u16
     ensures { λ r. ⌜ now (work .exit) ≡ workList (length (now (work .entry))) ⌝ }
     ensures { λ r. ⌜ Demand3 (now (bytes .entry)) (length (now (plan .entry))) (length (now (work .entry))) (answerIn r) (planIn (answerIn r) (now (plan .exit))) ⌝ }
     ensures { λ r. ⌜ Bounded (now (bytes .entry)) (relaxedPlan (taskOf (now (bytes .entry)))) (answerIn r) (planIn (answerIn r) (now (plan .exit))) ⌝ }
+    ensures { λ r. ⌜ Ceiling (now (bytes .entry)) (relaxedPlan (taskOf (now (bytes .entry)))) (answerIn r) ⌝ }
 {
     flat(planner::plan(bytes, plan, work))
 }
@@ -82,6 +87,7 @@ pub extern "C" fn mardiskos_repair(
     ensures { λ r. ⌜ now (plan .exit) ≡ repairList (now (bytes .entry)) (now (list .entry)) (length (now (plan .entry))) (length (now (work .entry))) ⌝ }
     ensures { λ r. ⌜ now (work .exit) ≡ workList (length (now (work .entry))) ⌝ }
     ensures { λ r. ⌜ Bounded (now (bytes .entry)) (now (list .entry)) (answerIn r) (planIn (answerIn r) (now (plan .exit))) ⌝ }
+    ensures { λ r. ⌜ Ceiling (now (bytes .entry)) (now (list .entry)) (answerIn r) ⌝ }
 {
     flat(planner::repair(bytes, list, plan, work))
 }

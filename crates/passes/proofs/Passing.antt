@@ -9,8 +9,8 @@ use lib.ListN.{length, getD, set, take, drop, length-set, length-append, length-
 use lib.Seq.{take-take, take-append-le, take-suc-set, drop-cons, drop-length, drop-drop, drop-set-lt, drop-append-add, length-take-le, length-front}
 use Rattle.planning.specs.Record.{Fact, Task}
 use Rattle.planning.specs.Runs.{State, look, actions, count, act}
-use Rattle.planning.specs.Repair.{toward, after, pass}
-use Rattle.planning.proofs.Fill.{pass-grows}
+use Rattle.planning.specs.Repair.{toward, after, pass, askedFor, passSearches}
+use Rattle.planning.proofs.Fill.{pass-grows, askedFor-one}
 use Rattle.planning.proofs.Formed.{Formed}
 use Rattle.state.specs.Sets.{Asked}
 use Rattle.paths.specs.Paths.{pathsOf, Memo, Put}
@@ -31,6 +31,14 @@ pub record Passing (t : Task) (K : State) (v : ℕ) (w : List Fact) (whole plan�
 pub passing-start : (t : Task) (K : State) (v start : ℕ) (w : List Fact) (plan memo : List ℕ) (from : ℕ) → start < count t v → from ≤ length plan → Entries t (drop from plan)
     → Memo t K memo → Passing t K v w (passOf t K v start (drop from plan) w) plan plan memo start 0 from
 passing-start t K v start w plan memo from b h n M = record { within = omega arith; at = h; long = refl; inside = b; entries = n; so-far = refl; rows = M }
+
+-- the searches so far and those for the entries from j on are all
+pub record Tally (t : Task) (v : ℕ) (w : List Fact) (total : ℕ) (plan : List ℕ) (k j : ℕ) : Type 0 where
+  pub sum : total ≡ k + passSearches (act t) v (drop j plan) w
+  pub few : k ≤ j
+
+pub tally-start : {t : Task} {v : ℕ} {w : List Fact} {plan : List ℕ} {from : ℕ} → Tally t v w (passSearches (act t) v (drop from plan) w) plan 0 from
+tally-start = record { sum = omega arith; few = omega arith }
 
 module _ {t : Task} {K : State} {v : ℕ} {w : List Fact} {whole plan₀ plan memo : List ℕ} {c e j : ℕ} (P : Passing t K v w whole plan₀ plan memo c e j) where
   abbrev rest : List ℕ
@@ -54,6 +62,12 @@ module _ {t : Task} {K : State} {v : ℕ} {w : List Fact} {whole plan₀ plan me
     rest-last =
         let z : j ≡ length plan = omega (arith, P .at, P .long) in
         rw (z, drop-length plan, asked-is (look w v) d q) refl
+
+    pub tally-end : (total k : ℕ) → Tally t v w total plan k j → (n : ℕ) → n ≡ askedFor (askedBy d) → k + n ≡ total
+    unfolding passSearches
+    tally-end total k S n en =
+        let z : j ≡ length plan = omega (arith, P .at, P .long) in
+        sym (S .sum ∙ rw (z, drop-length plan, en, asked-is (look w v) d q) refl)
 
     pub passing-end : (plan′ : List ℕ) (r : Written) → Put plan plan′ e (toward (pathsOf t K v) c (askedBy d)) r → Put plan₀ plan′ 0 whole r
     passing-end plan′ (Upto y) p = (omega (arith, whole-length, ap length rest-last, p .0), omega (arith, p .1, P .long), p .2 ∙ sym (P .so-far ∙ rw rest-last refl))
@@ -118,6 +132,16 @@ module _ {t : Task} {K : State} {v : ℕ} {w : List Fact} {whole plan₀ plan me
         let s = drop-set-lt (j + 1) (ys ++ drop j plan) x i (omega (arith, led-fits)) in
         let n : j + 1 ≡ length ys + 1 = omega (arith, L .long, front-length) in
         s ∙ ap (λ (k : ℕ). drop k (ys ++ drop j plan)) n ∙ drop-append-add ys (drop j plan) 1 ∙ drop-drop 1 j plan
+
+    pub led-tally : (total k : ℕ) → Tally t v w total plan k j → (n : ℕ) → n ≡ askedFor (askedBy d) → Tally t v w total plan′ (k + n) (j + 1)
+    unfolding passSearches
+    led-tally total k S n en =
+        let asks = asked-is (look (act t i .pre) v) d (L .asks) in
+        let rest : passSearches (act t) v (drop j plan) w ≡ n + passSearches (act t) v (drop (j + 1) plan) w = rw (drop-cons plan j 0 (L .here), add-one j, en, asks) refl in
+        record {
+          sum = rw back (omega (arith, S .sum, rest));
+          few = omega (arith, S .few, en, askedFor-one (askedBy d));
+        }
 
     pub led-turn : Formed t → (memo′ : List ℕ) (c′ : ℕ) → Memo t K memo′ → c′ ≡ after c (askedBy d) → Passing t K v w whole plan₀ plan′ memo′ c′ (x + 1) (j + 1)
     led-turn F memo′ c′ M ec = record {

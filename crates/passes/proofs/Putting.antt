@@ -11,14 +11,16 @@ use lib.ListN.{length, getD, set, take, length-set, length-append}
 use lib.Seq.{take-suc-set, getD-set-same, getD-set-other}
 use Rattle.planning.specs.Record.{Fact, Task}
 use Rattle.planning.specs.Runs.{State, look, count, act}
-use Rattle.planning.specs.Repair.{toward, after}
+use Rattle.planning.specs.Repair.{toward, after, askedFor}
 use Rattle.planning.proofs.Facts.{look-some}
 use Rattle.planning.proofs.Formed.{Formed, sorted-has}
 use Rattle.state.specs.Sets.{Asked}
 use Rattle.paths.specs.Paths.{Memo, Put}
 use Rattle.paths.specs.declared.Written.{Written}
 use Rattle.paths.specs.declared.Written.the-variants.{Upto, Long}
-use Rattle.passes.specs.Passes.{askedBy, Fitting, Blank, Behind}
+use Rattle.passes.specs.Passes.{askedBy, Fitting, Blank, writtenIn, insertedBy, Searched, Behind}
+use Rattle.passes.specs.declared.Inserted.{Inserted}
+use Rattle.passes.specs.declared.Inserted.the-variants as inserted
 
 pub asked-some : (d : ℕ) → d < 64 → askedBy d ≡ some d
 unfolding askedBy
@@ -75,22 +77,51 @@ lead-some path c d l l′ at r h p = subst (λ (o : Option ℕ). Put l l′ at (
 pub put-as : (d₀ d : List ℕ) (a : ℕ) (l : List ℕ) (r x : Written) → r ≡ x → Put d₀ d a l r → Put d₀ d a l x
 put-as d₀ d a l r x q p = subst (λ (z : Written). Put d₀ d a l z) q p
 
+-- and with the searches beside it
+pub told-as : (d₀ d : List ℕ) (a : ℕ) (l : List ℕ) (r x : Inserted) → r ≡ x → Put d₀ d a l (writtenIn r) → Put d₀ d a l (writtenIn x)
+told-as d₀ d a l r x q p = put-as d₀ d a l (writtenIn r) (writtenIn x) (ap writtenIn q) p
+
+pub counts-as : (n : ℕ) (r : Inserted) (e k : ℕ) → r ≡ inserted.Upto e k → Searched n r → k ≡ n
+counts-as n r e k q c = subst (Searched n) q c
+
 -- one entry more
-pub push-long : (d : List ℕ) (i : ℕ) (w : Written) → w ≡ Long → Behind w i d d Long
-push-long d i w q d₀ a l n p =
-    let z = put-as d₀ d a l w Long q p in
-    omega (arith, z, length-append l (i ∷ []))
+pub push-long : (d : List ℕ) (i : ℕ) (w : Inserted) → w ≡ inserted.Long → Behind w i d d inserted.Long
+push-long d i w q = (
+  λ d₀ a l n p. let z = told-as d₀ d a l w inserted.Long q p in omega (arith, z, length-append l (i ∷ [])),
+  λ n c. tt,
+)
 
-module _ (d : List ℕ) (i : ℕ) (w : Written) (e : ℕ) (q : w ≡ Upto e) where
-  pub push-full : length d ≤ e → Behind w i d d Long
-  push-full h d₀ a l n p =
-      let z = put-as d₀ d a l w (Upto e) q p in
-      omega (arith, z .0, length-append l (i ∷ []))
+module _ (d : List ℕ) (i : ℕ) (w : Inserted) (e k : ℕ) (q : w ≡ inserted.Upto e k) where
+  pub push-full : length d ≤ e → Behind w i d d inserted.Long
+  push-full h = (
+    λ d₀ a l n p. let z = told-as d₀ d a l w (inserted.Upto e k) q p in omega (arith, z .0, length-append l (i ∷ [])),
+    λ n c. tt,
+  )
 
-  pub push-more : e < length d → Behind w i d (set d e i) (Upto (e + 1))
-  push-more h d₀ a l n p =
-      let z = put-as d₀ d a l w (Upto e) q p in
-      (omega (arith, z .0, length-append l (i ∷ [])), omega arith, rw (add-one, take-suc-set d e i h, z .2, append-assoc) refl)
+  pub push-more : e < length d → Behind w i d (set d e i) (inserted.Upto (e + 1) k)
+  push-more h = (
+    λ d₀ a l n p. let z = told-as d₀ d a l w (inserted.Upto e k) q p in
+        (omega (arith, z .0, length-append l (i ∷ [])), omega arith, rw (add-one, take-suc-set d e i h, z .2, append-assoc) refl),
+    λ n c. counts-as n w e k q c,
+  )
+
+-- a path is asked for
+pub askedFor-some : (d : ℕ) → d < 64 → 1 ≡ askedFor (askedBy d)
+unfolding askedFor
+askedFor-some d h = rw (asked-some d h) refl
+
+pub askedFor-none : (d : ℕ) → 64 ≤ d → 0 ≡ askedFor (askedBy d)
+unfolding askedFor
+askedFor-none d h = rw (asked-none d h) refl
+
+-- what was written, with the searches
+pub inserted-put : (d₀ d : List ℕ) (a : ℕ) (l : List ℕ) (w : Written) (k : ℕ) (r : Inserted) → r ≡ insertedBy w k → Put d₀ d a l w → Put d₀ d a l (writtenIn r)
+inserted-put d₀ d a l (Upto e) k r q p = rw q p
+inserted-put d₀ d a l Long k r q p = rw q p
+
+pub inserted-counts : (n : ℕ) (w : Written) (k : ℕ) (r : Inserted) → r ≡ insertedBy w k → k ≡ n → Searched n r
+inserted-counts n (Upto e) k r q h = rw q h
+inserted-counts n Long k r q h = rw q tt
 
 -- forgetting
 pub record Forgetting (memo : List ℕ) (k : ℕ) : Type 0 where

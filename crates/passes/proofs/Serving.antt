@@ -10,7 +10,7 @@ use lib.ListN.{length, getD, take, drop, length-append}
 use lib.Seq.{drop-cons, drop-length, length-take-le, getD-take}
 use Rattle.planning.specs.Record.{Fact, Task}
 use Rattle.planning.specs.Runs.{State, look, act}
-use Rattle.planning.specs.Repair.{toward, after, pass}
+use Rattle.planning.specs.Repair.{toward, after, pass, askedFor, passSearches}
 use Rattle.state.specs.Sets.{Asked}
 use Rattle.paths.specs.Paths.{pathsOf, Put}
 use Rattle.paths.specs.declared.Written.{Written}
@@ -67,6 +67,19 @@ pass-idle t K v c (i ∷ l) w e = go (look (act t i .pre) v) e (pass-idle t K v 
         → toward (pathsOf t K v) c o ++ (i ∷ passOf t K v (after c o) l w) ≡ i ∷ (l ++ toward (pathsOf t K v) c (look w v))
     go none e k = ap (λ (x : List ℕ). i ∷ x) (k e)
     go (some x) e k = let z : _≡_ {A = ℕ} 0 1 = cc in absurd (omega arith)
+
+searches-idle : (t : Task) (v : ℕ) (l : List ℕ) (w : List Fact) → unasked t v l ≡ true → passSearches (act t) v l w ≡ askedFor (look w v)
+unfolding passSearches unasked askedFor
+searches-idle t v [] w e = refl
+searches-idle t v (i ∷ l) w e = go (look (act t i .pre) v) e (searches-idle t v l w)
+  where
+    go : (o : Option ℕ) → _≡_ {A = Bool} (elim o [ none ↦ unasked t v l | some x ↦ false ]) true → (unasked t v l ≡ true → passSearches (act t) v l w ≡ askedFor (look w v))
+        → askedFor o + passSearches (act t) v l w ≡ askedFor (look w v)
+    go none e k = omega (arith, k e)
+    go (some x) e k = let z : _≡_ {A = ℕ} 0 1 = cc in absurd (omega arith)
+
+pub served-counts : (t : Task) (v : ℕ) (l : List ℕ) (w : List Fact) → unasked t v l ≡ true → (d : ℕ) → Asked (look w v) d → askedFor (askedBy d) ≡ passSearches (act t) v l w
+served-counts t v l w u d q = rw (asked-is (look w v) d q) (sym (searches-idle t v l w u))
 
 -- the path behind the list is the pass
 module _ (t : Task) (K : State) (v c : ℕ) (plan : List ℕ) (e : ℕ) (w : List Fact) (b : e ≤ length plan) where

@@ -8,10 +8,14 @@ use lib.Dec.{ltb}
 use lib.ListN.{length, getD}
 use Rattle.planning.specs.Record.{Fact, Task}
 use Rattle.planning.specs.Runs.{State, look, actions, count, act}
-use Rattle.planning.specs.Repair.{pass}
-use Rattle.task.specs.Task.{factsIn}
+use Rattle.planning.specs.Repair.{pass, passSearches}
+use Rattle.task.specs.Task.{factsIn, taskIn}
+use Rattle.state.specs.Sets.{setsOf}
 use Rattle.paths.specs.Paths.{pathsOf, marksFrom, memoLength, Put}
 use Rattle.paths.specs.declared.Written.{Written}
+use Rattle.paths.specs.declared.Written.the-variants.{Upto, Long}
+use Rattle.passes.specs.declared.Inserted.{Inserted}
+use Rattle.passes.specs.declared.Inserted.the-variants as inserted
 
 -- the pass for v, whose value is c, over the list l, where the facts K are known and the facts w are wanted
 abbrev pub passOf : Task → State → ℕ → ℕ → List ℕ → List Fact → List ℕ
@@ -30,6 +34,13 @@ unasked t v (i ∷ l) = elim (look (act t i .pre) v) [ none ↦ unasked t v l | 
 abbrev pub factsOf : List ℕ → List Fact
 factsOf l = factsIn l 0 (length l)
 
+-- that pass, and its searches, by the lists that the code has
+abbrev pub servedIn : List ℕ → List ℕ → ℕ → List ℕ → List ℕ → List ℕ
+servedIn task ever f l want = served (taskIn task) (setsOf ever) f l (factsOf want)
+
+abbrev pub servedSearchesIn : List ℕ → ℕ → List ℕ → List ℕ → ℕ
+servedSearchesIn task f l want = passSearches (act (taskIn task)) (f / 64) l (factsOf want)
+
 -- the value asked by the number d: 64 and more ask none
 unfoldable pub askedBy : ℕ → Option ℕ
 askedBy d = elim (ltb d 64) [ true ↦ some d | false ↦ none ]
@@ -47,6 +58,21 @@ pub record Blank (memo : List ℕ) : Type 0 where
   pub long : length memo ≡ memoLength
   pub none-marked : (d : ℕ) → d < 64 → getD memo (marksFrom + d) 0 ≡ 0
 
--- what w says of a list that was written, r says of the same list with i behind it
-abbrev pub Behind : Written → ℕ → List ℕ → List ℕ → Written → Type 0
-Behind w i d d′ r = (d₀ : List ℕ) (a : ℕ) (l : List ℕ) → length d ≡ length d₀ → Put d₀ d a l w → Put d₀ d′ a (l ++ (i ∷ [])) r
+-- what was written, without the searches; with them; where it fits, they are n
+abbrev pub writtenIn : Inserted → Written
+writtenIn (inserted.Upto e k) = Upto e
+writtenIn inserted.Long = Long
+
+abbrev pub insertedBy : Written → ℕ → Inserted
+insertedBy (Upto e) k = inserted.Upto e k
+insertedBy Long k = inserted.Long
+
+abbrev pub Searched : ℕ → Inserted → Type 0
+Searched n (inserted.Upto e k) = k ≡ n
+Searched n inserted.Long = Unit {0}
+
+-- what w says of a list that was written, r says of the same list with i behind it; the searches are the same
+abbrev pub Behind : Inserted → ℕ → List ℕ → List ℕ → Inserted → Type 0
+Behind w i d d′ r =
+    ((d₀ : List ℕ) (a : ℕ) (l : List ℕ) → length d ≡ length d₀ → Put d₀ d a l (writtenIn w) → Put d₀ d′ a (l ++ (i ∷ [])) (writtenIn r))
+    × ((n : ℕ) → Searched n w → Searched n r)

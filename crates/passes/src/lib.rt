@@ -7,12 +7,18 @@ ghost use Prim.Native.Nat.{_/_, _%_, _<_, _≤_};
 ghost use lib.Dec.{T};
 ghost use lib.ListN.{length, take, drop};
 ghost use Rattle.planning.specs.Runs.{relaxed, step, actions, count, act, black};
-ghost use Rattle.planning.specs.Repair.{toward, after, blackMet};
+ghost use Rattle.planning.specs.Repair.{toward, after, blackMet, askedFor};
 ghost use Rattle.task.specs.Task.{taskIn, Loaded};
 ghost use Rattle.task.specs.Links.{Prepared};
 ghost use Rattle.state.specs.Sets.{setsOf, modeOf};
 ghost use Rattle.paths.specs.Paths.{pathsOf, Memo, memoLength, Covers, Put};
-ghost use Rattle.passes.specs.Passes.{askedBy, served, unasked, factsOf, Fitting, Entries, Blank, Behind};
+ghost use Rattle.passes.specs.Passes.{askedBy, servedIn, servedSearchesIn, unasked, factsOf, Fitting, Entries, Blank, writtenIn, Searched, insertedBy, Behind};
+
+// A list of moves was written up to a place, and so many paths were asked for; or it does not fit.
+pub enum Inserted {
+    Upto { end: usize, searches: usize },
+    Long,
+}
 
 // The memo with no row in it.
 pub fn forget(memo: &mut [u16])
@@ -96,17 +102,37 @@ fn lead_to(
 }
 
 // Entry i behind what was written, if that fits.
-pub fn push(w: Written, i: u16, list: &mut [u16]) -> Written
+pub fn push(w: Inserted, i: u16, list: &mut [u16]) -> Inserted
     ensures { λ r. ⌜ Behind w i (now (list .entry)) (now (list .exit)) r ⌝ }
 {
-    let Written::Upto(e) = w else {
-        return Written::Long;
+    let Inserted::Upto { end, searches } = w else {
+        return Inserted::Long;
     };
-    if e >= list.len() {
-        return Written::Long;
+    if end >= list.len() {
+        return Inserted::Long;
     }
-    list[e] = i;
-    Written::Upto(e + 1)
+    list[end] = i;
+    Inserted::Upto {
+        end: end + 1,
+        searches,
+    }
+}
+
+// One path is asked for where d asks a value.
+fn asked_for(d: usize) -> usize
+    ensures { λ r. ⌜ r ≡ askedFor (askedBy d) ⌝ }
+{
+    if d < 64 { 1 } else { 0 }
+}
+
+// What was written, after so many searches.
+fn with_searches(w: Written, searches: usize) -> Inserted
+    ensures { λ r. ⌜ r ≡ insertedBy w searches ⌝ }
+{
+    let Written::Upto(end) = w else {
+        return Inserted::Long;
+    };
+    Inserted::Upto { end, searches }
 }
 
 // The pass for the variable of fact f, its present one, over the entries of the plan from place `at` on, into its front. A path is lent
@@ -119,31 +145,35 @@ fn pass(
     want: &[u16],
     plan: &mut [u16],
     at: usize,
-) -> Written
+) -> Inserted
     requires { ⌜ Prepared (now task) × T (black (taskIn (now task)) (f / 64)) × Memo (taskIn (now task)) (setsOf (now ever)) (now memo) ⌝ }
     requires { ⌜ (f % 64 < count (taskIn (now task)) (f / 64)) × Fitting (taskIn (now task)) (factsOf (now want)) ⌝ }
     requires { ⌜ (at ≤ length (now plan)) × Entries (taskIn (now task)) (drop at (now plan)) ⌝ }
-    ensures { λ r. ⌜ Put (now (plan .entry)) (now (plan .exit)) 0 (served (taskIn (now (task .entry))) (setsOf (now (ever .entry))) f (drop at (now (plan .entry))) (factsOf (now (want .entry)))) r ⌝ }
+    ensures { λ r. ⌜ Put (now (plan .entry)) (now (plan .exit)) 0 (servedIn (now (task .entry)) (now (ever .entry)) f (drop at (now (plan .entry))) (now (want .entry))) (writtenIn r) ⌝ }
     ensures { λ _. ⌜ Memo (taskIn (now (task .entry))) (setsOf (now (ever .entry))) (now (memo .exit)) ⌝ }
+    ensures { λ r. ⌜ Searched (servedSearchesIn (now (task .entry)) f (drop at (now (plan .entry))) (now (want .entry))) r ⌝ }
 {
     let v = f / 64;
     let mut c = f % 64;
     let mut e: usize = 0;
+    let mut searches: usize = 0;
     let mut j = at;
     while j < plan.len() {
         let i = plan[j];
         let d = state::need(task, lists::wide(i), v);
         let w = lead_to(task, ever, memo, v, c, d, &mut plan[..j], e);
         let Written::Upto(x) = w else {
-            return Written::Long;
+            return Inserted::Long;
         };
         plan[x] = i;
         e = x + 1;
         c = next_value(c, d);
+        searches += asked_for(d);
         j += 1;
     }
     let d = state::asked(want, 0, want.len(), v);
-    lead_to(task, ever, memo, v, c, d, plan, e)
+    let w = lead_to(task, ever, memo, v, c, d, plan, e);
+    with_searches(w, searches + asked_for(d))
 }
 
 // No entry of the list before place e needs a value of v.
@@ -171,17 +201,19 @@ pub fn serve(
     want: &[u16],
     plan: &mut [u16],
     e: usize,
-) -> Written
+) -> Inserted
     requires { ⌜ Prepared (now task) × T (black (taskIn (now task)) (f / 64)) × Memo (taskIn (now task)) (setsOf (now ever)) (now memo) ⌝ }
     requires { ⌜ (f % 64 < count (taskIn (now task)) (f / 64)) × Fitting (taskIn (now task)) (factsOf (now want)) ⌝ }
     requires { ⌜ (e ≤ length (now plan)) × Entries (taskIn (now task)) (take e (now plan)) ⌝ }
-    ensures { λ r. ⌜ Put (now (plan .entry)) (now (plan .exit)) 0 (served (taskIn (now (task .entry))) (setsOf (now (ever .entry))) f (take e (now (plan .entry))) (factsOf (now (want .entry)))) r ⌝ }
+    ensures { λ r. ⌜ Put (now (plan .entry)) (now (plan .exit)) 0 (servedIn (now (task .entry)) (now (ever .entry)) f (take e (now (plan .entry))) (now (want .entry))) (writtenIn r) ⌝ }
     ensures { λ _. ⌜ Memo (taskIn (now (task .entry))) (setsOf (now (ever .entry))) (now (memo .exit)) ⌝ }
+    ensures { λ r. ⌜ Searched (servedSearchesIn (now (task .entry)) f (take e (now (plan .entry))) (now (want .entry))) r ⌝ }
 {
     let v = f / 64;
     if idle(task, v, plan, e) {
         let d = state::asked(want, 0, want.len(), v);
-        return lead_to(task, ever, memo, v, f % 64, d, plan, e);
+        let w = lead_to(task, ever, memo, v, f % 64, d, plan, e);
+        return with_searches(w, asked_for(d));
     }
     let at = lists::to_end(plan, e);
     pass(task, ever, memo, f, want, plan, at)

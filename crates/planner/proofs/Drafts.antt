@@ -45,7 +45,7 @@ module _ (t : Task) (k : List ℕ) (room : ℕ) (plan : List ℕ) where
   -- a check that passed stands in front of the others
   pub drafted-pass : (c : Check) (cs : List Check) (r : Planned) → c ≡ none → Drafted t cs k room plan r → Drafted t (c ∷ cs) k room plan r
   drafted-pass c cs r e D = record {
-    answer′ = D .answer′ ∙ ap (λ (x : Check). answer x (planned t (repaired t k))) (sym (inOrder-pass c (cs ++ (roomCheck (length (repaired t k)) room ∷ [])) e));
+    answer′ = D .answer′ ∙ ap (λ (x : Check). answer x (planned t k)) (sym (inOrder-pass c (cs ++ (roomCheck (length (repaired t k)) room ∷ [])) e));
     front = D .front;
   }
 
@@ -54,21 +54,21 @@ module _ (t : Task) (k : List ℕ) (room : ℕ) (plan : List ℕ) where
   unfolding inOrder andThen answer
   drafted-stop c cs f e = record { answer′ = rw e refl; front = tt }
 
-  one : (l : List ℕ) → answer (roomCheck (length l) room) (planned t l) ≡ answer (inOrder (roomCheck (length l) room ∷ [])) (planned t l)
+  one : let c = roomCheck (length (repaired t k)) room in answer c (planned t k) ≡ answer (inOrder (c ∷ [])) (planned t k)
   unfolding inOrder
-  one l = ap (λ (x : Check). answer x (planned t l)) (sym (andThen-last (roomCheck (length l) room)))
+  one = ap (λ (x : Check). answer x (planned t k)) (sym (andThen-last (roomCheck (length (repaired t k)) room)))
 
   -- the repair's own answer x, where no other check is left
-  pub drafted-repair : room ≤ length plan → (r : Planned) → Held t (repaired t k) plan room r → Drafted t [] k room plan r
+  pub drafted-repair : room ≤ length plan → (r : Planned) → Held t k plan room r → Drafted t [] k room plan r
   unfolding inOrder roomCheck planned
-  drafted-repair h (Plan n c s v) H =
+  drafted-repair h (Plan n c s x v) H =
       let l = repaired t k in
-      let told : done (record { steps = n; cost = c; real′ = v; runs = s }) ≡ answer (roomCheck (length l) room) (planned t l) = H .says in
-      let p = answer-done (roomCheck (length l) room) (planned t l) (record { steps = n; cost = c; real′ = v; runs = s }) (sym told) in
+      let told : done (record { steps = n; cost = c; real′ = v; runs = s; searches′ = x }) ≡ answer (roomCheck (length l) room) (planned t k) = H .says in
+      let p = answer-done (roomCheck (length l) room) (planned t k) (record { steps = n; cost = c; real′ = v; runs = s; searches′ = x }) (sym told) in
       let fits = leb→le (length l) room (check-none (leb (length l) room) 11 room (p .0)) in
       let m : length l ≡ n = ap (λ (y : Result). y .steps) (p .1) in
-      record { answer′ = told ∙ one l; front = (omega (arith, m, fits), subst (λ (y : ℕ). take y plan ≡ l) m (H .fills fits)) }
-  drafted-repair h (Refused f) H = record { answer′ = H .says ∙ one (repaired t k); front = tt }
+      record { answer′ = told ∙ one; front = (omega (arith, m, fits), subst (λ (y : ℕ). take y plan ≡ l) m (H .fills fits)) }
+  drafted-repair h (Refused f) H = record { answer′ = H .says ∙ one; front = tt }
 
 -- what is asked of the relaxed plan, and which it is
 module _ (t : Task) (l : List ℕ) where
@@ -139,7 +139,7 @@ module _ (s l : List ℕ) (n w : ℕ) (plan : List ℕ) (r : Planned) where
   plan-called D =
       let t = taskOf s in
       let room = roomCheck (length (repaired t (relaxedPlan t))) (capacityOf n w) in
-      record { answer = D .answer′ ∙ ap (λ (c : Check). answer c (planned t (repaired t (relaxedPlan t)))) (painting-apart s (goalsCheck t ∷ room ∷ [])); front = D .front }
+      record { answer = D .answer′ ∙ ap (λ (c : Check). answer c (planned t (relaxedPlan t))) (painting-apart s (goalsCheck t ∷ room ∷ [])); front = D .front }
 
   pub repair-called : Drafted (taskOf s) (recordCheck s ∷ paintingCheck (taskOf s) ∷ sourceCheck true (taskOf s) l ∷ []) (source true (taskOf s) l) (capacityOf n w) plan r
       → Ended (repairCall s l n w) (repaired (taskOf s) l) plan r
@@ -150,4 +150,4 @@ module _ (s l : List ℕ) (n w : ℕ) (plan : List ℕ) (r : Planned) where
       let two = inOrder (lengthCheck l ∷ relaxedCheck t l ∷ []) in
       let apart : inOrder (recordCheck s ∷ acyclicCheck t ∷ returnCheck t ∷ two ∷ room ∷ []) ≡ inOrder (recordCheck s ∷ acyclicCheck t ∷ returnCheck t ∷ lengthCheck l ∷ relaxedCheck t l ∷ room ∷ []) =
       ap (λ (x : Check). andThen (recordCheck s) (andThen (acyclicCheck t) (andThen (returnCheck t) x))) (list-apart t l room) in
-      record { answer = D .answer′ ∙ ap (λ (c : Check). answer c (planned t (repaired t l))) (painting-apart s (two ∷ room ∷ []) ∙ apart); front = D .front }
+      record { answer = D .answer′ ∙ ap (λ (c : Check). answer c (planned t l)) (painting-apart s (two ∷ room ∷ []) ∙ apart); front = D .front }

@@ -11,9 +11,9 @@ use Rattle.answers.specs.declared.Planned.the-variants.{Plan}
 use Rattle.answers.specs.Plans.{answerOf}
 
 -- the steps that run for real
-pub runnable-front : (x : Planned) (s c n : ℕ) (v : Bool) → x ≡ Plan s c n v → (l : List ℕ) → take n l ≡ runnable (answerOf x) l
+pub runnable-front : (x : Planned) (s c n k : ℕ) (v : Bool) → x ≡ Plan s c n k v → (l : List ℕ) → take n l ≡ runnable (answerOf x) l
 unfolding runnable
-runnable-front x s c n v e l = rw e refl
+runnable-front x s c n k v e l = rw e refl
 
-pub runnable-whole : (x : Planned) (s c n : ℕ) (v : Bool) → x ≡ Plan s c n v → (l : List ℕ) → length l ≤ n → l ≡ runnable (answerOf x) l
-runnable-whole x s c n v e l h = sym (take-all n l h) ∙ runnable-front x s c n v e l
+pub runnable-whole : (x : Planned) (s c n k : ℕ) (v : Bool) → x ≡ Plan s c n k v → (l : List ℕ) → length l ≤ n → l ≡ runnable (answerOf x) l
+runnable-whole x s c n k v e l h = sym (take-all n l h) ∙ runnable-front x s c n k v e l

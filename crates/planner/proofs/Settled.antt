@@ -8,7 +8,7 @@ use lib.Seq.{length-take-le, take-append-seam}
 use Rattle.planning.specs.Basics.{Answer}
 use Rattle.planning.specs.Record.{Task, taskOf}
 use Rattle.planning.specs.Calls.{lent, planIn, Planned as Result, planOf, planCall, planList, repairCall, repairList, workList}
-use Rattle.planning.specs.Existence.{ReturnsPlan, Complete, Demand3, Bounded}
+use Rattle.planning.specs.Existence.{ReturnsPlan, Complete, Demand3, Bounded, Ceiling}
 use Rattle.planning.specs.Relaxed.{relaxedPlan}
 use Rattle.planning.specs.Repair.{repaired}
 use Rattle.planning.proofs.Calls.{planCall-bounded, repairCall-bounded}
@@ -23,7 +23,7 @@ unfolding lent planIn
 finished a n l l′ e h = h ∙ ap (λ (x : ℕ). take x l ++ replicate (length l - x) 65535) e ∙ go a
   where
     go : (a : Planned) → take (stepsOf a) l ++ replicate (length l - stepsOf a) 65535 ≡ lent (answerOf a) (length l) (planIn (answerOf a) l)
-    go (Plan n c k v) =
+    go (Plan n c k s v) =
         let e : length l - n ≡ length l - length (take n l) = rw (length-take n l) (omega arith) in
         ap (λ (x : ℕ). take n l ++ replicate x 65535) e
     go (Refused f) = rw sub·zero refl
@@ -36,13 +36,13 @@ blanked w l e = e
 module _ (a : Answer Result) (l plan : List ℕ) (n : ℕ) (en : length plan ≡ n) where
   pub settled-list : (r : Planned) → Ended a l plan r → (plan′ : List ℕ) → plan′ ≡ lent (answerOf r) (length plan) (planIn (answerOf r) plan) → plan′ ≡ lent a n l
   unfolding lent planIn
-  settled-list (Plan s c k v) D plan′ e = rw (← (D .answer)) (e ∙ rw (D .front .1, en) refl)
+  settled-list (Plan s c k x v) D plan′ e = rw (← (D .answer)) (e ∙ rw (D .front .1, en) refl)
   settled-list (Refused f) D plan′ e = rw (← (D .answer)) (e ∙ rw en refl)
 
   pub settled-front : (r : Planned) → Ended a l plan r → (plan′ : List ℕ) → plan′ ≡ lent (answerOf r) (length plan) (planIn (answerOf r) plan) → ReturnsPlan
       (answerOf r) → planIn (answerOf r) plan′ ≡ l
   unfolding lent planIn
-  settled-front (Plan s c k v) D plan′ e z =
+  settled-front (Plan s c k y v) D plan′ e z =
       let q : length (take s plan) ≡ s = length-take-le s plan (D .front .0) in
       ap (take s) e ∙ (subst (λ x. take x (take s plan ++ replicate (length plan - length (take s plan)) 65535) ≡ l) q (take-append-seam (take s plan) _ ∙ D .front .1))
   settled-front (Refused f) D plan′ e z = absurd z
@@ -65,21 +65,24 @@ complete-same t n w r l l′ e C =
 pub plan-settled : (s : List ℕ) (n w : ℕ) (plan : List ℕ) → length plan ≡ n → (r : Planned) → Ended (planCall s n w) (planOf (taskOf s)) plan r →
     (plan′ : List ℕ) → plan′ ≡ lent (answerOf r) (length plan) (planIn (answerOf r) plan)
     → (plan′ ≡ planList s n w) × Demand3 s n w (answerOf r) (planIn (answerOf r) plan′) × Bounded s (relaxedPlan (taskOf s)) (answerOf r) (planIn (answerOf r) plan′)
+    × Ceiling s (relaxedPlan (taskOf s)) (answerOf r)
 unfolding planList
 plan-settled s n w plan en r D plan′ e =
     let front = settled-front (planCall s n w) (planOf (taskOf s)) plan n en r D plan′ e in (
       settled-list (planCall s n w) (planOf (taskOf s)) plan n en r D plan′ e,
       λ rec acy ret. complete-same (taskOf s) n w (answerOf r) (planOf (taskOf s)) (planIn (answerOf r) plan′) front (rw (D .answer) (demand3 s n w rec acy ret)),
-      bounded-same s (relaxedPlan (taskOf s)) (planCall s n w) (planOf (taskOf s)) (answerOf r) (D .answer) (planIn (answerOf r) plan′) front (planCall-bounded s n w),
+      bounded-same s (relaxedPlan (taskOf s)) (planCall s n w) (planOf (taskOf s)) (answerOf r) (D .answer) (planIn (answerOf r) plan′) front (planCall-bounded s n w .0),
+      subst (Ceiling s (relaxedPlan (taskOf s))) (sym (D .answer)) (planCall-bounded s n w .1),
     )
 
 -- the same of a caller's repair
 pub repair-settled : (s k : List ℕ) (n w : ℕ) (plan : List ℕ) → length plan ≡ n → (r : Planned) → Ended (repairCall s k n w) (repaired (taskOf s) k) plan r →
     (plan′ : List ℕ) → plan′ ≡ lent (answerOf r) (length plan) (planIn (answerOf r) plan)
-    → (plan′ ≡ repairList s k n w) × Bounded s k (answerOf r) (planIn (answerOf r) plan′)
+    → (plan′ ≡ repairList s k n w) × Bounded s k (answerOf r) (planIn (answerOf r) plan′) × Ceiling s k (answerOf r)
 unfolding repairList
 repair-settled s k n w plan en r D plan′ e = (
   settled-list (repairCall s k n w) (repaired (taskOf s) k) plan n en r D plan′ e,
   bounded-same s k (repairCall s k n w) (repaired (taskOf s) k) (answerOf r) (D .answer) (planIn (answerOf r) plan′)
-      (settled-front (repairCall s k n w) (repaired (taskOf s) k) plan n en r D plan′ e) (repairCall-bounded s k n w),
+      (settled-front (repairCall s k n w) (repaired (taskOf s) k) plan n en r D plan′ e) (repairCall-bounded s k n w .0),
+  subst (Ceiling s k) (sym (D .answer)) (repairCall-bounded s k n w .1),
 )

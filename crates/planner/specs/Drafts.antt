@@ -28,12 +28,12 @@ paintingCheck t = andThen (acyclicCheck t) (returnCheck t)
 
 -- after success the list l stands in the front of the plan list
 abbrev pub InFront : List ℕ → List ℕ → Planned → Type 0
-InFront l plan (Plan n c k v) = (n ≤ length plan) × (take n plan ≡ l)
+InFront l plan (Plan n c k s v) = (n ≤ length plan) × (take n plan ≡ l)
 InFront l plan (Refused f) = Unit {0}
 
 -- the answer r by the checks cs, then 11 in the given room, and the list k repaired in the front of the plan list
 pub record Drafted (t : Task) (cs : List Check) (k : List ℕ) (room : ℕ) (plan : List ℕ) (r : Planned) : Type 0 where
-  pub answer′ : answerOf r ≡ answer (inOrder (cs ++ (roomCheck (length (repaired t k)) room ∷ []))) (planned t (repaired t k))
+  pub answer′ : answerOf r ≡ answer (inOrder (cs ++ (roomCheck (length (repaired t k)) room ∷ []))) (planned t k)
   pub front : InFront (repaired t k) plan r
 
 -- the same of a call: with the list l where `given`, from the checks of the relaxed plan on, from the painting on, from the record on

@@ -13,7 +13,7 @@ ghost use Rattle.planning.specs.Record.{taskOf, recordCheck};
 ghost use Rattle.planning.specs.Runs.{relaxed, isPlan};
 ghost use Rattle.planning.specs.Relaxed.{relaxedPlan};
 ghost use Rattle.planning.specs.Calls.{planCall, planList, repairCall, repairList, workList, planIn, runnable, lent};
-ghost use Rattle.planning.specs.Existence.{Demand3, Bounded};
+ghost use Rattle.planning.specs.Existence.{Demand3, Bounded, Ceiling};
 ghost use Rattle.task.specs.Task.{taskIn, Loaded};
 ghost use Rattle.task.specs.Links.{Prepared};
 ghost use Rattle.answers.specs.Plans.{answerOf, stepsOf};
@@ -101,6 +101,7 @@ fn steps_of(answer: Planned) -> usize
         steps,
         cost: _,
         runs: _,
+        searches: _,
         real: _,
     } = answer
     else {
@@ -125,6 +126,7 @@ pub fn plan(bytes: &[u8], plan: &mut [u16], work: &mut [u16]) -> Planned
     ensures { λ r. ⌜ now (work .exit) ≡ workList (length (now (work .entry))) ⌝ }
     ensures { λ r. ⌜ Demand3 (now (bytes .entry)) (length (now (plan .entry))) (length (now (work .entry))) (answerOf r) (planIn (answerOf r) (now (plan .exit))) ⌝ }
     ensures { λ r. ⌜ Bounded (now (bytes .entry)) (relaxedPlan (taskOf (now (bytes .entry)))) (answerOf r) (planIn (answerOf r) (now (plan .exit))) ⌝ }
+    ensures { λ r. ⌜ Ceiling (now (bytes .entry)) (relaxedPlan (taskOf (now (bytes .entry)))) (answerOf r) ⌝ }
 {
     let r = plan_checked(bytes, false, &[], plan, work);
     finish(r, plan, work);
@@ -137,6 +139,7 @@ pub fn repair(bytes: &[u8], list: &[u16], plan: &mut [u16], work: &mut [u16]) ->
     ensures { λ r. ⌜ now (plan .exit) ≡ repairList (now (bytes .entry)) (now (list .entry)) (length (now (plan .entry))) (length (now (work .entry))) ⌝ }
     ensures { λ r. ⌜ now (work .exit) ≡ workList (length (now (work .entry))) ⌝ }
     ensures { λ r. ⌜ Bounded (now (bytes .entry)) (now (list .entry)) (answerOf r) (planIn (answerOf r) (now (plan .exit))) ⌝ }
+    ensures { λ r. ⌜ Ceiling (now (bytes .entry)) (now (list .entry)) (answerOf r) ⌝ }
 {
     let r = plan_checked(bytes, true, list, plan, work);
     finish(r, plan, work);
@@ -151,6 +154,7 @@ pub fn runnable<'a>(answer: Planned, plan: &'a [u16]) -> &'a [u16]
         steps: _,
         cost: _,
         runs,
+        searches: _,
         real: _,
     } = answer
     else {

@@ -6,6 +6,7 @@ use mathlib.Core.Path.{_≡_, refl}
 use mathlib.Core.Bool.{Bool, true, false}
 use mathlib.Core.List.{List, [], _∷_}
 use mathlib.Core.Option.{Option, none, some}
+use lib.Dec.{leb}
 use lib.ListN.{length, replicate}
 use Rattle.planning.specs.Basics.{Answer, refused, done, times, check, andThen, inOrder, answer, bitAt, bitsAt, holdsField, someBelow, oneIf}
 use Rattle.planning.specs.Basics.{tally, first, total, refuseAt, reach}
@@ -19,9 +20,9 @@ use Rattle.planning.specs.Relaxed.{adds, cheapest, forward, addable, for
 use Rattle.planning.specs.Painting.{without, reducedEffects, causalArc, blackArc, onCycle, cyclic, fits, leaves, orZero, target, arcFrom, outside, returnBy, lacksReturn}
 use Rattle.planning.specs.Painting.{unreturned, acyclicCheck, returnCheck}
 use Rattle.planning.specs.Repair.{known, union, everAfter, usableArc, smaller, better, choose, bestBelow, behind, bestIn, bestPath, toward, after, pass, fill, ready, clientsFirst}
-use Rattle.planning.specs.Repair.{order, value, blackMet, moves, stageSteps, allSteps, stagesFrom, stages, repaired}
+use Rattle.planning.specs.Repair.{order, value, blackMet, moves, askedFor, passSearches, fillSearches, moveSearches, stageSteps, allSteps, allSearches, stagesFrom, stages, repaired, searches}
 use Rattle.planning.specs.Newest.{initialValues, newer, tracked, track, redBlackSteps, stopsIn, tabulate, newestValues, Progress, progress}
-use Rattle.planning.specs.Existence.{share, blackProduct}
+use Rattle.planning.specs.Existence.{share, blackProduct, blackCount, searchBound, searchesIn}
 use Rattle.planning.specs.Calls.{Planned, lent, capacity, capacityOf, roomCheck, goalsCheck, planned, planOf, planCall, planList}
 use Rattle.planning.specs.Calls.{newestCall, newestList, lengthCheck, notBelow, entriesCheck}
 
@@ -140,6 +141,12 @@ diamond =
     0 ∷ 4 ∷ 68 ∷ 0 ∷ 192 ∷ 4 ∷ 0 ∷ 8 ∷ 68 ∷ 0 ∷ 192 ∷ 8 ∷ 0 ∷ 4 ∷ 68 ∷ 0 ∷ 128 ∷ 0 ∷ 0 ∷ 8 ∷ 68 ∷ 0 ∷ 64 ∷ 0 ∷ 0 ∷ 16 ∷
     68 ∷ 0 ∷ 0 ∷ 8 ∷ 0 ∷ 16 ∷ 68 ∷ 0 ∷ 64 ∷ 12 ∷ 0 ∷ 16 ∷ 68 ∷ 0 ∷ 128 ∷ 4 ∷ 0 ∷ 4 ∷ 132 ∷ 0 ∷ 193 ∷ 0 ∷ 16 ∷ 64 ∷ []
 
+-- lift, 12.23
+unfoldable pub lift : List ℕ
+lift =
+    16 ∷ 96 ∷ 20 ∷ 24 ∷ 16 ∷ 1 ∷ 129 ∷ 4 ∷ 16 ∷ 16 ∷ 64 ∷ 0 ∷ 64 ∷ 64 ∷ 4 ∷ 0 ∷ 4 ∷ 4 ∷ 0 ∷ 0 ∷ 0 ∷ 132 ∷ 64 ∷ 4 ∷ 16 ∷ 64 ∷
+    0 ∷ 132 ∷ 64 ∷ 4 ∷ 16 ∷ 0 ∷ 0 ∷ 200 ∷ 64 ∷ 4 ∷ 16 ∷ 2 ∷ 4 ∷ []
+
 -- how a clause writes facts, actions and variables
 abbrev pub fact : ℕ → ℕ → Fact
 fact v d = record { var = v; val = d }
@@ -222,6 +229,19 @@ diamondTask = wayBack 4
     (moveOf 1 0 1 ∷ moveOf 1 1 2 ∷ moveOf 1 2 3 ∷ moveOf 1 3 1 ∷ moveOf 2 3 2 ∷ moveOf 1 2 0 ∷ moveOf 2 1 0
     ∷ moveOf 4 0 2 ∷ moveOf 4 1 3 ∷ moveOf 4 2 1 ∷ takeAt 3 ∷ [])
 
+abbrev pub liftTask : Task
+liftTask =
+    task (blackOne 2 0 (some 0) ∷ blackOne 2 0 (some 1) ∷ redOne 2 0 (some 1) ∷ [])
+    (action 1 [] (fact 0 1 ∷ []) ∷ action 1 [] (fact 0 0 ∷ []) ∷ action 2 (fact 0 1 ∷ []) (fact 1 1 ∷ [])
+    ∷ action 2 (fact 0 1 ∷ []) (fact 1 0 ∷ []) ∷ action 3 (fact 0 1 ∷ fact 1 0 ∷ []) (fact 2 1 ∷ []) ∷ [])
+
+-- black variables with one value that every drive needs: more searches than n × P
+abbrev pub crewTask : Task
+crewTask =
+    task (blackOne 2 0 (some 0) ∷ blackOne 1 0 (some 0) ∷ blackOne 1 0 (some 0) ∷ redOne 2 0 (some 1) ∷ [])
+    (action 1 (fact 0 0 ∷ fact 1 0 ∷ fact 2 0 ∷ []) (fact 0 1 ∷ []) ∷ action 1 (fact 0 1 ∷ fact 1 0 ∷ fact 2 0 ∷ []) (fact 0 0 ∷ [])
+    ∷ action 1 (fact 0 1 ∷ []) (fact 3 1 ∷ []) ∷ [])
+
 -- the path of the carriage where every arc is usable
 abbrev pub anyway : Task → ℕ → ℕ → List ℕ
 anyway t c d = bestPath (act t) (actions t) (λ _ _. true) 0 (count t 0) c d
@@ -257,6 +277,10 @@ plan n l c b r = record { number = 0; place = 0; steps = n; list = l; cost = c; 
 -- a refusal: number, place, plan list
 abbrev pub refusal : ℕ → ℕ → List ℕ → Outcome
 refusal n p l = record { number = n; place = p; steps = 0; list = l; cost = 0; real = false; runs = 0 }
+
+-- the path searches that the planner tells, with lists of n entries
+unfoldable pub sought : List ℕ → ℕ → ℕ
+sought s n = searchesIn (planCall s n n)
 
 -- newest, 12.17: driving out lights the lamp, scanning needs it off and leaves it off
 abbrev pub newestTask : Task
@@ -354,6 +378,20 @@ pub starred :
     × (relaxedPlan (taskOf diamond) ≡ 0 ∷ 1 ∷ 2 ∷ 10 ∷ [])
     × (called diamond 7 ≡ plan 6 (0 ∷ 1 ∷ 2 ∷ 10 ∷ 3 ∷ 6 ∷ 65535 ∷ []) 7 true 6)
     × (anyway diamondTask 0 3 ≡ 0 ∷ 1 ∷ 2 ∷ [])
+    × (taskOf lift ≡ liftTask)
+    × (recordEnd lift ≡ 310)
+    × (relaxedPlan (taskOf lift) ≡ 0 ∷ 2 ∷ 4 ∷ [])
+    × (called lift 8 ≡ plan 6 (0 ∷ 2 ∷ 3 ∷ 4 ∷ 2 ∷ 1 ∷ 65535 ∷ 65535 ∷ []) 11 true 6)
+    × (blackCount (taskOf lift) ≡ 2)
+    × (sought lift 6 ≡ 6)
+    × (sought lift 5 ≡ 0)
+    × (sought twoShelves 4 ≡ 1)
+    × (sought withoutTwo 3 ≡ 0)
+    × (sought goalMet 0 ≡ 0)
+    × (sought door 7 ≡ 5)
+    × (searches crewTask (0 ∷ 2 ∷ []) ≡ 5)
+    × (leb (searches crewTask (0 ∷ 2 ∷ [])) (searchBound crewTask (0 ∷ 2 ∷ [])) ≡ true)
+    × (searchBound (taskOf lift) (0 ∷ 2 ∷ 4 ∷ []) ≡ 24)
     × (desk newest [] 3 ≡ shown 0 0 (0 ∷ 0 ∷ 0 ∷ []))
     × (desk newest (0 ∷ 2 ∷ 1 ∷ []) 3 ≡ shown 3 3 (0 ∷ 1 ∷ 1 ∷ []))
     × (desk newest (0 ∷ 2 ∷ 3 ∷ []) 3 ≡ shown 3 3 (1 ∷ 0 ∷ 1 ∷ []))
@@ -365,17 +403,32 @@ pub starred :
     × (desk twoShelves [] 2 ≡ shown 0 0 (0 ∷ 1 ∷ []))
     × (desk tray (0 ∷ 1 ∷ []) 4 ≡ shown 2 1 (1 ∷ 1 ∷ 1 ∷ 65535 ∷ []))
     × (desk bothBlack (0 ∷ []) 2 ≡ shown 1 1 (1 ∷ 1 ∷ []))
-unfolding times share blackProduct check andThen inOrder answer bitAt bitsAt holdsField someBelow oneIf tally first total refuseAt reach variablesIn
+unfolding times share blackProduct blackCount searchBound searchesIn sought check andThen inOrder answer bitAt bitsAt holdsField someBelow oneIf tally first total refuseAt reach variablesIn
     actionsIn goalOf variableAt variablesAt factsAt preconditionsIn effectsIn effectsFrom actionEnd actionAt actionsAt actionsEnd taskOf fieldCheck
     headerChecks goalFits variableChecks variablesChecks countIn factChecks factsChecks actionChecks actionsChecks endsAt recordEnd recordChecks
     recordCheck has touches look holds step variable act count black initial goalsFrom goals runBy runsBy stepsBy allBelow isPlan size factsIn costBy
     adds cheapest forward addable forwardRun forwardEnd reachesGoals factsReached firstAchiever is reachedNeeded keep relaxedPlan without reducedEffects causalArc blackArc onCycle
     cyclic fits leaves orZero target arcFrom outside returnBy lacksReturn unreturned acyclicCheck returnCheck known union everAfter usableArc
-    smaller better choose bestBelow behind bestIn bestPath toward after pass fill ready clientsFirst order value blackMet moves stageSteps allSteps stagesFrom stages repaired lent
+    smaller better choose bestBelow behind bestIn bestPath toward after pass fill ready clientsFirst order value blackMet moves askedFor passSearches
+    fillSearches moveSearches stageSteps allSteps allSearches stagesFrom stages repaired searches lent
     capacity capacityOf roomCheck goalsCheck planned planOf planCall planList called outcome redPairs variables64 variables65 twoShelves withoutOne withoutTwo lampOne lampTwo
-    bothBlack initialSet goalMet tray door litReturn repeatedVariable withFour gate detour ring diamond initialValues newer tracked track redBlackSteps stopsIn tabulate newestValues progress
+    bothBlack initialSet goalMet tray door litReturn repeatedVariable withFour gate detour ring diamond lift initialValues newer tracked track redBlackSteps stopsIn tabulate newestValues progress
     newestCall newestList lengthCheck notBelow entriesCheck deskOf desk newest
 starred = (
+  refl,
+  refl,
+  refl,
+  refl,
+  refl,
+  refl,
+  refl,
+  refl,
+  refl,
+  refl,
+  refl,
+  refl,
+  refl,
+  refl,
   refl,
   refl,
   refl,

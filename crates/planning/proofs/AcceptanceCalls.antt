@@ -17,7 +17,7 @@ use Rattle.planning.specs.Relaxed.{adds, cheapest, forward, addable, for
 use Rattle.planning.specs.Painting.{without, reducedEffects, causalArc, blackArc, onCycle, cyclic, fits, leaves, orZero, target, arcFrom, outside, returnBy, lacksReturn}
 use Rattle.planning.specs.Painting.{unreturned, acyclicCheck, returnCheck}
 use Rattle.planning.specs.Repair.{known, union, everAfter, usableArc, smaller, better, choose, bestBelow, behind, bestIn, bestPath, toward, after, pass, fill, ready, clientsFirst}
-use Rattle.planning.specs.Repair.{order, value, blackMet, moves, stageSteps, allSteps, stagesFrom, stages, repaired}
+use Rattle.planning.specs.Repair.{order, value, blackMet, moves, askedFor, passSearches, fillSearches, moveSearches, stageSteps, allSteps, allSearches, stagesFrom, stages, repaired, searches}
 use Rattle.planning.specs.Sheet.{Sheet, bitsOf, stepBits, sheetBits, numberIn, packed, sheetEnd, sheetSize, sheetBytes, stepsAt, stepsIn, sheetOf}
 use Rattle.planning.specs.Sheet.{sheetField, stepsChecks, sheetChecks, sheetCheck}
 use Rattle.planning.specs.Calls.{lent, lentBytes, capacity, capacityOf, roomCheck, goalsCheck, lengthCheck, notBelow, entriesCheck, checkCall, checkCode}
@@ -85,7 +85,8 @@ unfolding times check andThen inOrder answer bitAt bitsAt holdsField someBelow o
     recordCheck has touches look holds step variable act count black initial goalsFrom goals runBy runsBy stepsBy allBelow isPlan size factsIn costBy
     judged judgement adds cheapest forward addable forwardRun forwardEnd reachesGoals factsReached firstAchiever is reachedNeeded keep relaxedPlan without reducedEffects causalArc
     blackArc onCycle cyclic fits leaves orZero target arcFrom outside returnBy lacksReturn unreturned acyclicCheck returnCheck known union everAfter
-    usableArc smaller better choose bestBelow behind bestIn bestPath toward after pass fill ready clientsFirst order value blackMet moves stageSteps allSteps stagesFrom stages
+    usableArc smaller better choose bestBelow behind bestIn bestPath toward after pass fill ready clientsFirst order value blackMet moves askedFor passSearches
+    fillSearches moveSearches stageSteps allSteps allSearches stagesFrom stages searches
     repaired lent capacity capacityOf roomCheck goalsCheck lengthCheck notBelow entriesCheck judgeCall forwardCall forwardList relaxCall relaxList
     planned planOf planCall planList runnable twoShelves withoutTwo tray
 told = (refl, refl, refl, refl, refl, refl, refl, refl, refl, refl, refl)

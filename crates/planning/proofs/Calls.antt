@@ -1,5 +1,5 @@
 -- The two calls that repair. Check 9 of a caller's list passes exactly if the list is a relaxed plan, and check 10 exactly if the
--- planner has one of its own, so that what a call returns is a red-black plan of at most n × P steps that fits the room lent.
+-- planner has one of its own, so that what a call returns is a red-black plan of at most n × P steps, by at most n × P × m path searches.
 use Prim.Native.Nat.{ℕ, suc, _*_, _≤_}
 use mathlib.Core.Path.{_≡_, refl, sym}
 use mathlib.Core.Bool.{Bool, true, false, _&&_}
@@ -14,14 +14,14 @@ use Rattle.planning.specs.Record.{Task, taskOf, recordCheck}
 use Rattle.planning.specs.Runs.{State, holds, step, actions, act, relaxed, initial, goals, run, runs, allBelow, isPlan, runBy, runsBy}
 use Rattle.planning.specs.Relaxed.{reachesGoals, factsReached, relaxedPlan}
 use Rattle.planning.specs.Painting.{cyclic, unreturned, acyclicCheck, returnCheck}
-use Rattle.planning.specs.Repair.{repaired}
+use Rattle.planning.specs.Repair.{repaired, searches}
 use Rattle.planning.specs.Calls.{capacityOf, roomCheck, goalsCheck, relaxedFault, relaxedCheck, Planned, planned, repairCall, planOf, planCall}
-use Rattle.planning.specs.Existence.{blackProduct, stepBound, RedBlackPlan, Bounded}
+use Rattle.planning.specs.Existence.{blackProduct, searchBound, stepBound, RedBlackPlan, Bounded, searchesIn, Ceiling}
 use Rattle.planning.proofs.Tests.{T→true, true→T, and-l, and-r, and-i}
 use Rattle.planning.proofs.Checks.{check-none, refuseAt-none, answer-done, answer-refused, answer-passed, here, later}
 use Rattle.planning.proofs.Formed.{Formed, formed-of}
 use Rattle.planning.proofs.Achievers.{relaxedPlan-is-plan, relaxedPlan-length}
-use Rattle.planning.proofs.Painting.{repaired-is-plan, repaired-length}
+use Rattle.planning.proofs.Painting.{repaired-is-plan, repaired-length, searches-few}
 
 -- a list without a fault: entries below A that apply in turn, and the goals at the end
 relaxedFault-none : (t : Task) (s : State) (k : ℕ) (l : List ℕ) → relaxedFault t s k l ≡ none
@@ -74,40 +74,38 @@ relaxedCheck-of t l e =
     let h = true→T (allBelow (actions t) l && (runs (act t) relaxed l (initial t) && holds (run (act t) relaxed l (initial t)) (goals t))) e in
     rw (relaxedFault-of t (initial t) 0 l (search and-l) (search (and-l, and-r)) (search (and-l, and-r))) refl
 
--- what an answered call says: the plan is a red-black plan, at most b steps long, and fits the room lent
-pub record Returned (t : Task) (l : List ℕ) (b n w : ℕ) (p : Planned) : Type 0 where
-  pub result : p ≡ planned t l
-  pub is-plan : RedBlackPlan t l
-  pub short : length l ≤ b
-  pub fits′ : length l ≤ capacityOf n w
+-- what an answered call says of the repair of the list k: it is a red-black plan, and steps and searches keep to their bounds
+pub record Returned (t : Task) (k : List ℕ) (p : Planned) : Type 0 where
+  pub result : p ≡ planned t k
+  pub is-plan : RedBlackPlan t (repaired t k)
+  pub short : length (repaired t k) ≤ length k * blackProduct t
+  pub few : searches t k ≤ searchBound t k
 
-roomCheck-none : (n room : ℕ) → roomCheck n room ≡ none → n ≤ room
-unfolding roomCheck
-roomCheck-none n room e = leb→le n room (check-none (leb n room) 11 room e)
+module _ (s k : List ℕ) (p : Planned) (e : p ≡ planned (taskOf s) k) (rec : recordCheck s ≡ none) (seven : acyclicCheck (taskOf s) ≡ none) (eight : returnCheck (taskOf s) ≡ none) where
+  returned : (Formed (taskOf s) → isPlan (taskOf s) relaxed k ≡ true) → Returned (taskOf s) k p
+  unfolding acyclicCheck returnCheck
+  returned r =
+      let t : Task = taskOf s in
+      let F = formed-of s rec in
+      let acy = refuseAt-none 7 (cyclic t) seven in
+      let ret = refuseAt-none 8 (unreturned t) eight in
+      record { result = e; is-plan = repaired-is-plan t F acy ret k (r F); short = repaired-length t F acy ret k (r F); few = searches-few t F acy ret k (r F) }
 
-pub repairCall-returned : (s l : List ℕ) (n w : ℕ) (p : Planned) → repairCall s l n w ≡ done p → Returned (taskOf s) (repaired (taskOf s) l) (length l * blackProduct (taskOf s)) n w p
-unfolding repairCall acyclicCheck returnCheck
+-- the bounds of such a call
+bounds : (s k : List ℕ) (a : Answer Planned) → ((p : Planned) → a ≡ done p → Returned (taskOf s) k p) → Bounded s k a (repaired (taskOf s) k) × Ceiling s k a
+unfolding searchesIn planned
+bounds s k (refused _ _) f = (λ z. absurd z, omega arith)
+bounds s k (done p) f = let R = f p refl in (λ _. (R .is-plan, R .short), rw (R .result) (R .few))
+
+pub repairCall-returned : (s l : List ℕ) (n w : ℕ) (p : Planned) → repairCall s l n w ≡ done p → Returned (taskOf s) l p
+unfolding repairCall
 repairCall-returned s l n w p e =
-    let t : Task = taskOf s in
-    let P = answer-passed _ (planned t (repaired t l)) p e in
+    let P = answer-passed _ (planned (taskOf s) l) p e in
     let Q = P .0 in
-    let F = formed-of s (Q .0) in
-    let acy = refuseAt-none 7 (cyclic t) (Q .1 .0) in
-    let ret = refuseAt-none 8 (unreturned t) (Q .1 .1 .0) in
-    let rel = relaxedCheck-none t l (Q .1 .1 .1 .1 .0) in
-    record {
-      result = sym (P .1);
-      is-plan = repaired-is-plan t F acy ret l rel;
-      short = repaired-length t F acy ret l rel;
-      fits′ = roomCheck-none (length (repaired t l)) (capacityOf n w) (Q .1 .1 .1 .1 .1 .0);
-    }
+    returned s l p (sym (P .1)) (Q .0) (Q .1 .0) (Q .1 .1 .0) (λ _. relaxedCheck-none (taskOf s) l (Q .1 .1 .1 .1 .0))
 
-pub repairCall-bounded : (s k : List ℕ) (n w : ℕ) → Bounded s k (repairCall s k n w) (repaired (taskOf s) k)
-repairCall-bounded s k n w = go (repairCall s k n w) refl
-  where
-    go : (r : Answer Planned) → repairCall s k n w ≡ r → Bounded s k r (repaired (taskOf s) k)
-    go (refused _ _) e = λ z. absurd z
-    go (done p) e = λ _. let R = repairCall-returned s k n w p e in (R .is-plan, R .short)
+pub repairCall-bounded : (s k : List ℕ) (n w : ℕ) → Bounded s k (repairCall s k n w) (repaired (taskOf s) k) × Ceiling s k (repairCall s k n w)
+repairCall-bounded s k n w = bounds s k (repairCall s k n w) (repairCall-returned s k n w)
 
 -- the planner's own relaxed plan, repaired
 module _ (t : Task) (F : Formed t) (acy : cyclic t ≡ none) (ret : unreturned t ≡ none) (sol : reachesGoals t ≡ true) where
@@ -119,52 +117,31 @@ module _ (t : Task) (F : Formed t) (acy : cyclic t ≡ none) (ret : unreturned t
   unfolding planOf stepBound
   planOf-length = omega (arith, repaired-length t F acy ret (relaxedPlan t) (relaxedPlan-is-plan t F sol), mul-le-mul-right (blackProduct t) (relaxedPlan-length t F))
 
-pub planCall-returned : (s : List ℕ) (n w : ℕ) (p : Planned) → planCall s n w ≡ done p → Returned (taskOf s) (planOf (taskOf s)) (stepBound (taskOf s)) n w p
-unfolding planCall acyclicCheck returnCheck goalsCheck
+pub planCall-returned : (s : List ℕ) (n w : ℕ) (p : Planned) → planCall s n w ≡ done p → Returned (taskOf s) (relaxedPlan (taskOf s)) p
+unfolding planCall goalsCheck
 planCall-returned s n w p e =
     let t : Task = taskOf s in
-    let P = answer-passed _ (planned t (planOf t)) p e in
+    let P = answer-passed _ (planned t (relaxedPlan t)) p e in
     let Q = P .0 in
-    let F = formed-of s (Q .0) in
-    let acy = refuseAt-none 7 (cyclic t) (Q .1 .0) in
-    let ret = refuseAt-none 8 (unreturned t) (Q .1 .1 .0) in
     let sol = T→true (reachesGoals t) (check-none (reachesGoals t) 10 (factsReached t) (Q .1 .1 .1 .0)) in
-    record {
-      result = sym (P .1);
-      is-plan = planOf-is-plan t F acy ret sol;
-      short = planOf-length t F acy ret sol;
-      fits′ = roomCheck-none (length (planOf t)) (capacityOf n w) (Q .1 .1 .1 .1 .0);
-    }
+    returned s (relaxedPlan t) p (sym (P .1)) (Q .0) (Q .1 .0) (Q .1 .1 .0) (λ F. relaxedPlan-is-plan t F sol)
 
-pub planCall-bounded : (s : List ℕ) (n w : ℕ) → Bounded s (relaxedPlan (taskOf s)) (planCall s n w) (planOf (taskOf s))
-unfolding planCall planOf acyclicCheck returnCheck goalsCheck
-planCall-bounded s n w = go (planCall s n w) refl
-  where
-    t : Task
-    t = taskOf s
-
-    go : (r : Answer Planned) → planCall s n w ≡ r → Bounded s (relaxedPlan t) r (planOf t)
-    go (refused _ _) e = λ z. absurd z
-    go (done p) e = λ _.
-        let Q = answer-passed _ (planned t (planOf t)) p e .0 in
-        let F = formed-of s (Q .0) in
-        let acy = refuseAt-none 7 (cyclic t) (Q .1 .0) in
-        let ret = refuseAt-none 8 (unreturned t) (Q .1 .1 .0) in
-        let sol = T→true (reachesGoals t) (check-none (reachesGoals t) 10 (factsReached t) (Q .1 .1 .1 .0)) in
-        (planOf-is-plan t F acy ret sol, repaired-length t F acy ret (relaxedPlan t) (relaxedPlan-is-plan t F sol))
+pub planCall-bounded : (s : List ℕ) (n w : ℕ) → Bounded s (relaxedPlan (taskOf s)) (planCall s n w) (planOf (taskOf s)) × Ceiling s (relaxedPlan (taskOf s)) (planCall s n w)
+unfolding planOf
+planCall-bounded s n w = bounds s (relaxedPlan (taskOf s)) (planCall s n w) (planCall-returned s n w)
 
 -- with the record accepted and the painting passed, the planner answers in one of three ways
 module _ (s : List ℕ) (n w : ℕ) (rec : recordCheck s ≡ none) (acy : cyclic (taskOf s) ≡ none) (ret : unreturned (taskOf s) ≡ none) where
   pub planCall-none : reachesGoals (taskOf s) ≡ false → planCall s n w ≡ refused 10 (factsReached (taskOf s))
   unfolding planCall acyclicCheck returnCheck goalsCheck refuseAt check
-  planCall-none e = answer-refused _ (planned (taskOf s) (planOf (taskOf s))) (record { number = 10; place = factsReached (taskOf s) })
+  planCall-none e = answer-refused _ (planned (taskOf s) (relaxedPlan (taskOf s))) (record { number = 10; place = factsReached (taskOf s) })
       (later rec (later (rw acy refl) (later (rw ret refl) (here (rw e refl)))))
 
   pub planCall-long : reachesGoals (taskOf s) ≡ true → leb (length (planOf (taskOf s))) (capacityOf n w) ≡ false → planCall s n w ≡ refused 11 (capacityOf n w)
   unfolding planCall acyclicCheck returnCheck goalsCheck roomCheck refuseAt check
-  planCall-long e f = answer-refused _ (planned (taskOf s) (planOf (taskOf s))) (record { number = 11; place = capacityOf n w })
+  planCall-long e f = answer-refused _ (planned (taskOf s) (relaxedPlan (taskOf s))) (record { number = 11; place = capacityOf n w })
       (later rec (later (rw acy refl) (later (rw ret refl) (later (rw e refl) (here (rw f refl))))))
 
-  pub planCall-done : reachesGoals (taskOf s) ≡ true → leb (length (planOf (taskOf s))) (capacityOf n w) ≡ true → planCall s n w ≡ done (planned (taskOf s) (planOf (taskOf s)))
+  pub planCall-done : reachesGoals (taskOf s) ≡ true → leb (length (planOf (taskOf s))) (capacityOf n w) ≡ true → planCall s n w ≡ done (planned (taskOf s) (relaxedPlan (taskOf s)))
   unfolding planCall acyclicCheck returnCheck goalsCheck roomCheck refuseAt check
-  planCall-done e f = answer-done _ (planned (taskOf s) (planOf (taskOf s))) (rec, (rw acy refl, (rw ret refl, (rw e refl, (rw f refl, tt)))))
+  planCall-done e f = answer-done _ (planned (taskOf s) (relaxedPlan (taskOf s))) (rec, (rw acy refl, (rw ret refl, (rw e refl, (rw f refl, tt)))))

@@ -14,7 +14,7 @@ use native.Mathlib.Nat.{mul-le-mul-right}
 use Rattle.planning.specs.Record.{Fact, Action}
 use Rattle.planning.specs.Runs.{State, has, touches, look, holds, Mode, step, run, runs, runBy, runsBy}
 use Rattle.planning.specs.Painting.{reducedEffects}
-use Rattle.planning.specs.Repair.{toward, after, pass, fill, moves}
+use Rattle.planning.specs.Repair.{toward, after, pass, fill, moves, askedFor, passSearches, fillSearches}
 use Rattle.planning.proofs.Tests.{and-i}
 use Rattle.planning.proofs.Facts.{_⊆_, sub→holds, touches→has, Func, look-some}
 use Rattle.planning.proofs.Steps.{All, all-append, all-map}
@@ -131,3 +131,21 @@ pub fill-grows : (act : ℕ → Action) (path : ℕ → ℕ → ℕ → List ℕ
 unfolding fill
 fill-grows act path val [] l w = omega arith
 fill-grows act path val (v ∷ vs) l w = omega (arith, pass-grows act (path v) v (val v) l w, fill-grows act path val vs (pass act (path v) v (val v) l w) w)
+
+-- a pass asks for at most one path an entry and one at the end, and no list on the way is longer than the last one
+pub askedFor-one : (o : Option ℕ) → askedFor o ≤ 1
+unfolding askedFor
+askedFor-one none = omega arith
+askedFor-one (some d) = omega arith
+
+pub pass-searches : (act : ℕ → Action) (v : ℕ) (l : List ℕ) (w : List Fact) → passSearches act v l w ≤ length l + 1
+unfolding passSearches
+pass-searches act v [] w = askedFor-one (look w v)
+pass-searches act v (i ∷ l) w = omega (arith, askedFor-one (look (act i .pre) v), pass-searches act v l w)
+
+pub fill-searches : (act : ℕ → Action) (path : ℕ → ℕ → ℕ → List ℕ) (val : ℕ → ℕ) (vs l : List ℕ) (w : List Fact)
+    → fillSearches act path val vs l w ≤ length vs * (length (fill act path val vs l w) + 1)
+unfolding fill fillSearches
+fill-searches act path val [] l w = omega arith
+fill-searches act path val (v ∷ vs) l w =
+    omega (arith, pass-searches act v l w, fill-grows act path val (v ∷ vs) l w, fill-searches act path val vs (pass act (path v) v (val v) l w) w)

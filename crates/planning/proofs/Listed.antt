@@ -11,7 +11,7 @@ use Rattle.planning.specs.Relaxed.{adds, cheapest, forward, addable, for
 use Rattle.planning.specs.Painting.{without, reducedEffects, causalArc, blackArc, onCycle, cyclic, fits, leaves, orZero, target, arcFrom, outside, returnBy, lacksReturn}
 use Rattle.planning.specs.Painting.{unreturned, acyclicCheck, returnCheck}
 use Rattle.planning.specs.Repair.{known, union, everAfter, usableArc, smaller, better, choose, bestBelow, behind, bestIn, bestPath, toward, after, pass, fill, ready, clientsFirst}
-use Rattle.planning.specs.Repair.{order, value, blackMet, moves, stageSteps, allSteps, stagesFrom, stages, repaired}
+use Rattle.planning.specs.Repair.{order, value, blackMet, moves, askedFor, passSearches, fillSearches, moveSearches, stageSteps, allSteps, allSearches, stagesFrom, stages, repaired, searches}
 use Rattle.planning.specs.Calls.{capacity, capacityOf, roomCheck, goalsCheck, planned, planOf, planCall, runnable}
 use Rattle.planning.specs.Listing.{digitsUpto, decimal, numbers, line, verdictWord, listing, listingOf}
 use Rattle.planning.proofs.Acceptance.{twoShelves, withFour, withoutTwo, tray}
@@ -41,6 +41,7 @@ unfolding listingOf listing digitsUpto decimal numbers line verdictWord times ch
     goals runBy runsBy stepsBy allBelow isPlan size factsIn costBy adds cheapest forward addable forwardRun forwardEnd reachesGoals factsReached
     firstAchiever is reachedNeeded keep relaxedPlan without reducedEffects causalArc blackArc onCycle cyclic fits leaves orZero target arcFrom outside returnBy
     lacksReturn unreturned acyclicCheck returnCheck known union everAfter usableArc smaller better choose bestBelow behind bestIn bestPath toward after pass fill ready
-    clientsFirst order value blackMet moves stageSteps allSteps stagesFrom stages repaired capacity capacityOf roomCheck goalsCheck planned planOf planCall runnable
+    clientsFirst order value blackMet moves askedFor passSearches fillSearches moveSearches stageSteps allSteps allSearches
+    stagesFrom stages repaired searches capacity capacityOf roomCheck goalsCheck planned planOf planCall runnable
     twoShelves withFour withoutTwo tray
 listed = (refl, refl, refl, refl)

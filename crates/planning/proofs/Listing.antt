@@ -25,11 +25,11 @@ use Rattle.planning.proofs.Longest.{planCall-front}
 
 planCall-record : (s : List ℕ) (p : Planned) → planCall s 16384 16384 ≡ done p → recordCheck s ≡ none
 unfolding planCall
-planCall-record s p e = answer-passed _ (planned (taskOf s) (planOf (taskOf s))) p e .0 .0
+planCall-record s p e = answer-passed _ (planned (taskOf s) (relaxedPlan (taskOf s))) p e .0 .0
 
 -- the planner's answer is p
 module _ (s : List ℕ) (p : Planned) (e : planCall s 16384 16384 ≡ done p) where
-  result : p ≡ planned (taskOf s) (planOf (taskOf s))
+  result : p ≡ planned (taskOf s) (relaxedPlan (taskOf s))
   result = planCall-returned s 16384 16384 p e .result
 
   pub relaxed-few : length (relaxedPlan (taskOf s)) ≤ 4032
@@ -41,13 +41,13 @@ module _ (s : List ℕ) (p : Planned) (e : planCall s 16384 16384 ≡ done p) wh
   pub forward-done : forwardCall s 16384 ≡ done (record { steps = length (forwardRun (taskOf s)); reached = factsReached (taskOf s) })
   unfolding planCall forwardCall roomCheck capacity
   forward-done =
-      let Q = answer-passed _ (planned (taskOf s) (planOf (taskOf s))) p e .0 in
+      let Q = answer-passed _ (planned (taskOf s) (relaxedPlan (taskOf s))) p e .0 in
       answer-done _ _ (Q .0, (Q .1 .1 .1 .0, (check-pass (leb (length (forwardRun (taskOf s))) 16384) 11 16384 (le→leb (length (forwardRun (taskOf s))) 16384 (omega (arith, forward-few))), tt)))
 
   pub relax-done : relaxCall s 16384 ≡ done (length (relaxedPlan (taskOf s)))
   unfolding planCall relaxCall roomCheck capacity
   relax-done =
-      let Q = answer-passed _ (planned (taskOf s) (planOf (taskOf s))) p e .0 in
+      let Q = answer-passed _ (planned (taskOf s) (relaxedPlan (taskOf s))) p e .0 in
       answer-done _ _ (Q .0, (Q .1 .1 .1 .0, (check-pass (leb (length (relaxedPlan (taskOf s))) 16384) 11 16384 (le→leb (length (relaxedPlan (taskOf s))) 16384 (omega (arith, relaxed-few))), tt)))
 
   -- the front of the list of the relaxed plan
@@ -57,18 +57,18 @@ module _ (s : List ℕ) (p : Planned) (e : planCall s 16384 16384 ≡ done p) wh
 
   -- the front of the list of the plan, and the part of it that runs
   pub plan-front : take (p .steps) (planList s 16384 16384) ≡ planOf (taskOf s)
-  unfolding planList lent planned
+  unfolding planList lent planned planOf
   plan-front = ap (λ x. take (x .steps) (planList s 16384 16384)) result ∙ rw (e, lent) (take-append-seam (planOf (taskOf s)) _)
 
   pub runs-front : runnable (done p) (planList s 16384 16384) ≡ runnable (done p) (planOf (taskOf s))
-  unfolding planList lent runnable planned
+  unfolding planList lent runnable planned planOf
   runs-front = rw (e, lent) (take-append-le (p .runs) (planOf (taskOf s)) _ (omega (arith, ap (λ x. x .runs) result, stepsRun-le (act (taskOf s)) real (planOf (taskOf s)) (initial (taskOf s)))))
 
   -- the four lines
   pub listing-lines : (f n c : ℕ) (l m : List ℕ) → f ≡ factsReached (taskOf s) → l ≡ relaxedPlan (taskOf s) → m ≡ planOf (taskOf s) → c ≡ p .cost
       → n ≡ length (runnable (done p) (planOf (taskOf s)))
       → line reachedWord (f ∷ []) ++ (line relaxedWord (length l ∷ l) ++ (line planWord (length m ∷ c ∷ m) ++ line (verdictWord (p .real′)) (n ∷ []))) ≡ listingOf s
-  unfolding listingOf listing planned
+  unfolding listingOf listing planned planOf
   listing-lines f n c l m ef el em ec en = rw (ef, el, em, ec, en, e, listing) (rw result refl)
 
 pub listing-refused : (s : List ℕ) (n p : ℕ) → planCall s 16384 16384 ≡ refused n p → line refusedWord (n ∷ p ∷ []) ≡ listingOf s

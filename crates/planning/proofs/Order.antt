@@ -8,6 +8,7 @@ use mathlib.Core.Bool.{Bool, not, _&&_, _||_, and-false}
 use mathlib.Core.List.{List, [], _∷_}
 use mathlib.Core.Option.{Option, none, some}
 use lib.Dec.{T, T-not, not-T, eqb, eqb→eq, eqb-refl}
+use lib.ListN.{length}
 use native.Mathlib.Omega.{arith}
 use Rattle.planning.specs.Basics.{someBelow, tally, first, times, reach}
 use Rattle.planning.specs.Record.{Action}
@@ -33,6 +34,17 @@ untaken-intro m taken v b t = and-i (m v) (not (taken v)) b (not-T (taken v) t)
 
 untaken-elim : (m : Mode) (taken : ℕ → Bool) (v : ℕ) → T (untaken m taken v) → T (m v) × (T (taken v) → ⊥)
 untaken-elim m taken v h = (and-l (m v) (not (taken v)) h, T-not (taken v) (and-r (m v) (not (taken v)) h))
+
+-- one node a turn
+pub clientsFirst-le : (n : ℕ) (adj : ℕ → ℕ → Bool) (m : Mode) (k : ℕ) (taken : ℕ → Bool) → length (clientsFirst n adj m k taken) ≤ k
+unfolding clientsFirst
+clientsFirst-le n adj m zero taken = omega arith
+clientsFirst-le n adj m (suc k) taken = go (first n (ready n adj m taken)) (clientsFirst-le n adj m k)
+  where
+    go : (o : Option ℕ) → ((taken : ℕ → Bool) → length (clientsFirst n adj m k taken) ≤ k)
+        → length {A = ℕ} (elim o [ none ↦ [] | some v ↦ v ∷ clientsFirst n adj m k (taking taken v) ]) ≤ suc k
+    go none rec = omega arith
+    go (some v) rec = omega (arith, rec (taking taken v))
 
 module _ (n : ℕ) (adj : ℕ → ℕ → Bool) (m : Mode) (inside : (v : ℕ) → T (m v) → v < n) (ends : (u v : ℕ) → T (adj u v) → T (m u) × T (m v))
     (acyclic : (v : ℕ) → v < n → T (onCycle n adj v) → ⊥) where
@@ -168,3 +180,14 @@ module _ (n : ℕ) (adj : ℕ → ℕ → Bool) (m : Mode) (inside : (v : ℕ) �
           let sp = times-split n (λ u. share (untaken m taken u) (count u)) (λ u. share (untaken m (taking taken v) u) (count u)) v (inside v (r .black′))
           (rw (T→true (eqb v v) (eqb-refl v), and-false (m v)) refl) (λ i b ne. rw (F→false (eqb i v) (λ t. ne (eqb→eq i v t))) refl) in
           rw (rec (taking taken v) (omega (arith, untaken-fewer taken v r))) (sym (rw (T→true (untaken m taken v) (untaken-intro m taken v (r .black′) (r .fresh))) at sp))
+
+  -- and there are no more of them than black nodes
+  pub clientsFirst-length : (k : ℕ) (taken : ℕ → Bool) → length (clientsFirst n adj m k taken) ≤ tally n (untaken m taken)
+  unfolding clientsFirst
+  clientsFirst-length zero taken = omega arith
+  clientsFirst-length (suc k) taken = go (first n (ready n adj m taken)) (first-is n (ready n adj m taken)) (clientsFirst-length k)
+    where
+      go : (o : Option ℕ) → First? n (ready n adj m taken) o → ((taken : ℕ → Bool) → length (clientsFirst n adj m k taken) ≤ tally n (untaken m taken))
+          → length {A = ℕ} (elim o [ none ↦ [] | some v ↦ v ∷ clientsFirst n adj m k (taking taken v) ]) ≤ tally n (untaken m taken)
+      go none f rec = omega arith
+      go (some v) f rec = omega (arith, untaken-fewer taken v (ready-elim taken v (f .passes)), rec (taking taken v))

@@ -10,15 +10,16 @@ use mathlib.Core.Option.{none}
 use lib.Dec.{T, not-T, eqb, eqb→eq}
 use lib.ListN.{length}
 use native.Mathlib.Omega.{arith}
+use native.Mathlib.Nat.{mul-le-mul-left, mul-le-mul-right}
 use native.Mathlib.Decide.{ℕ-discrete, decLt}
 use Rattle.planning.specs.Basics.{someBelow}
 use Rattle.planning.specs.Record.{Fact, Variable, Task}
 use Rattle.planning.specs.Runs.{has, touches, holds, variables, actions, variable, act, count, relaxed, black, initial, goals, isPlan}
 use Rattle.planning.specs.Painting.{reducedEffects, causalArc, blackArc, onCycle, cyclic, target, arcFrom, outside, returnBy, lacksReturn, unreturned}
-use Rattle.planning.specs.Repair.{known, order, stages, repaired}
-use Rattle.planning.specs.Existence.{share, blackProduct}
+use Rattle.planning.specs.Repair.{known, order, stages, repaired, searches}
+use Rattle.planning.specs.Existence.{share, blackProduct, blackCount, searchBound}
 use Rattle.planning.proofs.Tests.{or-l, or-r, and-l, and-r, and-i, T-cases}
-use Rattle.planning.proofs.Below.{some-intro, some-elim, first-none, tally-le, times-same}
+use Rattle.planning.proofs.Below.{some-intro, some-elim, first-none, tally-le, tally-sub, times-same}
 use Rattle.planning.proofs.Graph.{reach-here, reach-move, onCycle-of}
 use Rattle.planning.proofs.Facts.{has-here, has-there, has-cases, has-++, holds→sub, has→touches}
 use Rattle.planning.proofs.Fields.{variable-past}
@@ -29,8 +30,8 @@ use Rattle.planning.proofs.Walks.{Walk, Usable, stop}
 use Rattle.planning.proofs.Fill.{product}
 use Rattle.planning.proofs.Known.{known-start}
 use Rattle.planning.proofs.Conn.{Returns, Invertible, Inv, Conn, inv-same, conn-same}
-use Rattle.planning.proofs.Order.{untaken, clientsFirst-ordered, clientsFirst-product}
-use Rattle.planning.proofs.Repair.{Red, Accepted, repairFrom, repairFrom-leads, repairFrom-short}
+use Rattle.planning.proofs.Order.{untaken, clientsFirst-ordered, clientsFirst-product, clientsFirst-length}
+use Rattle.planning.proofs.Repair.{Red, Accepted, repairFrom, repairFrom-leads, repairFrom-short, searchesFrom-short}
 
 pub black-inside : (t : Task) (v : ℕ) → T (black t v) → v < variables t
 unfolding black
@@ -195,3 +196,18 @@ module _ (t : Task) (F : Formed t) where
     repaired-length l p =
         let P = isPlan-elim t relaxed l p in
         rw product-order at (repairFrom-short (act t) (actions t) (black t) (count t) (order t) accepted (goals t) l (initial t) (initial t) (P .runs′) (P .meets))
+
+    -- and it takes at most n × P × m path searches
+    order-few : length (order t) ≤ blackCount t
+    unfolding order blackCount
+    order-few =
+        let few = clientsFirst-length (variables t) (blackArc t) (black t) (black-inside t) (blackArc-ends t) (no-cycle Y) (variables t) (λ _. false) in
+        omega (arith, few, tally-sub (variables t) (untaken (black t) (λ _. false)) (black t) (λ v _ h. and-l (black t v) true h))
+
+    pub searches-few : (l : List ℕ) → isPlan t relaxed l ≡ true → searches t l ≤ searchBound t l
+    unfolding stages searches searchBound
+    searches-few l p =
+        let P = isPlan-elim t relaxed l p in
+        let few = rw product-order at (searchesFrom-short (act t) (actions t) (black t) (count t) (order t) accepted (goals t) l (initial t) (initial t) (P .runs′) (P .meets)) in
+        let less = mul-le-mul-left (length l) (mul-le-mul-right (blackProduct t) order-few) in
+        omega (arith, few, less)

@@ -13,25 +13,28 @@ use mathlib.Core.Option.{Option, none, some}
 use lib.Dec.{T, T-not}
 use lib.ListN.{length, length-append}
 use native.Mathlib.Omega.{arith}
-use native.Mathlib.Nat.{mul-le-mul-right}
+use native.Mathlib.Nat.{mul-le-mul-left, mul-le-mul-right}
 use Rattle.planning.specs.Basics.{first}
 use Rattle.planning.specs.Record.{Fact, Action}
 use Rattle.planning.specs.Runs.{State, has, holds, Mode, step, relaxed, run, runs, runBy, runsBy}
 use Rattle.planning.specs.Painting.{orZero}
-use Rattle.planning.specs.Repair.{known, everAfter, bestPath, fill, value, blackMet, moves, stageSteps, allSteps, stagesFrom}
+use Rattle.planning.specs.Repair.{known, everAfter, bestPath, fill, value, blackMet, moves, stageSteps, allSteps, stagesFrom, fillSearches, moveSearches, allSearches}
 use Rattle.planning.proofs.Tests.{T→true, or-r, or-cases, and-l, and-r, and-i}
 use Rattle.planning.proofs.Below.{First?, first-is}
 use Rattle.planning.proofs.Facts.{_⊆_, holds→sub, sub→holds, Func}
 use Rattle.planning.proofs.Steps.{step-mono, run-append, runs-append, run-grows, All, all-append, all-map}
 use Rattle.planning.proofs.Walks.{Walk, Usable}
-use Rattle.planning.proofs.Fill.{withs, Ordered, Sound, fill-meets, meets→runs, product, fill-short}
+use Rattle.planning.proofs.Fill.{withs, Ordered, Sound, fill-meets, meets→runs, product, fill-short, fill-searches}
 use Rattle.planning.proofs.Best.{best-walk, best-short}
 use Rattle.planning.proofs.Known.{everAfter-now, known-run}
 use Rattle.planning.proofs.Conn.{Invertible, Inv, Conn, inv-same, conn-same, inv-step, conn-step}
 
--- the steps of the stages; at the end only the moves for the goals
+-- the steps of the stages; at the end only the moves for the goals; the searches
 abbrev pub repairFrom : (ℕ → Action) → ℕ → Mode → (ℕ → ℕ) → List ℕ → List Fact → List ℕ → State → State → List ℕ
 repairFrom act A m count order goal l s ever = allSteps (stagesFrom act A m count order goal l s ever)
+
+abbrev pub searchesFrom : (ℕ → Action) → ℕ → Mode → (ℕ → ℕ) → List ℕ → List Fact → List ℕ → State → State → ℕ
+searchesFrom act A m count order goal l s ever = allSearches (stagesFrom act A m count order goal l s ever)
 
 pub repairFrom-nil : (act : ℕ → Action) (A : ℕ) (m : Mode) (count : ℕ → ℕ) (order : List ℕ) (goal : List Fact) (s ever : State)
     → repairFrom act A m count order goal [] s ever ≡ moves act A m count order s ever goal
@@ -197,3 +200,40 @@ module _ (act : ℕ → Action) (A : ℕ) (m : Mode) (count : ℕ → ℕ) (orde
   repairFrom-short goal (i ∷ l) s ever r g =
       rw (moves-none s ever (act i .pre) (holds→sub s (act i .pre) (search and-l)))
       (omega (arith, repairFrom-long goal l (step m (act i) s) (everAfter act m (i ∷ []) s ever)))
+
+  -- searches for one need: one for each black variable and place of its list, of which there are at most P
+  moves-searches : (s ever : State) (w : List Fact) → moveSearches act A m count order s ever w ≤ length order * product count order
+  unfolding moveSearches
+  moves-searches s ever w = go (blackMet m s w)
+    where
+      W : State
+      W = known m s ever
+
+      path : ℕ → ℕ → ℕ → List ℕ
+      path v = bestPath act A W v (count v)
+
+      go : (b : Bool) → elim b [ true ↦ 0 | false ↦ fillSearches act path (value count s) order [] w ] ≤ length order * product count order
+      go true = omega arith
+      go false =
+          let few = fill-short act path (value count s) count (λ v c d. best-short act A W v d (count v) (K .pos v) c) order [] w in
+          let less : length (fill act path (value count s) order [] w) + 1 ≤ product count order = omega (arith, few) in
+          omega (arith, fill-searches act path (value count s) order [] w, mul-le-mul-left (length order) less)
+
+  searchesFrom-long : (goal : List Fact) (l : List ℕ) (s ever : State) → searchesFrom act A m count order goal l s ever ≤ (length l + 1) * (length order * product count order)
+  unfolding allSearches stagesFrom stageSteps
+  searchesFrom-long goal [] s ever = omega (arith, moves-searches s ever goal)
+  searchesFrom-long goal (i ∷ l) s ever =
+      let k : List ℕ = moves act A m count order s ever (act i .pre) ++ (i ∷ []) in
+      omega (arith, moves-searches s ever (act i .pre), searchesFrom-long goal l (run act m k s) (everAfter act m k s ever))
+
+  searches-none : (s ever : State) (w : List Fact) → has w ⊆ s → moveSearches act A m count order s ever w ≡ 0
+  unfolding moveSearches
+  searches-none s ever w h = rw (T→true (blackMet m s w) (sub→blackMet m s w h), moveSearches) refl
+
+  pub searchesFrom-short : (goal : List Fact) (l : List ℕ) (s ever : State) → T (runs act relaxed l s) → has goal ⊆ run act relaxed l s
+      → searchesFrom act A m count order goal l s ever ≤ length l * (length order * product count order)
+  unfolding allSearches stagesFrom stageSteps runBy runsBy
+  searchesFrom-short goal [] s ever r g = omega (arith, searches-none s ever goal g)
+  searchesFrom-short goal (i ∷ l) s ever r g =
+      let k : List ℕ = moves act A m count order s ever (act i .pre) ++ (i ∷ []) in
+      omega (arith, searches-none s ever (act i .pre) (holds→sub s (act i .pre) (search and-l)), searchesFrom-long goal l (run act m k s) (everAfter act m k s ever))

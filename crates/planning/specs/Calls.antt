@@ -12,7 +12,7 @@ use Rattle.planning.specs.Runs.{State, holds, step, relaxed, real, varia
 use Rattle.planning.specs.Newest.{Progress, progress, newestValues}
 use Rattle.planning.specs.Relaxed.{forwardRun, reachesGoals, factsReached, relaxedPlan}
 use Rattle.planning.specs.Painting.{acyclicCheck, returnCheck}
-use Rattle.planning.specs.Repair.{repaired}
+use Rattle.planning.specs.Repair.{repaired, searches}
 use Rattle.planning.specs.Sheet.{Sheet, sheetBytes, sheetSize, sheetOf, sheetCheck, stepsIn}
 
 -- 7.4, 7.5 and 7.9: a lent list of n entries afterwards
@@ -128,15 +128,19 @@ relaxCall s n = answerTo (relaxing s n)
 unfoldable pub relaxList : List ℕ → ℕ → List ℕ
 relaxList s n = lent (relaxCall s n) n (relaxing s n .front)
 
--- 9.2, 3.9, 7.7 and 7.8: steps, cost, verdict and how many steps run for real
+-- 9.2, 3.9, 7.7, 7.8 and 6.9: steps, cost, verdict, how many steps run for real, and the path searches
 pub record Planned : Type 0 where
   pub steps : ℕ
   pub cost : ℕ
   pub real′ : Bool
   pub runs : ℕ
+  pub searches′ : ℕ
 
+-- of the repair of the list k
 unfoldable pub planned : Task → List ℕ → Planned
-planned t l = record { steps = length l; cost = costOf t l; real′ = isPlan t real l; runs = stepsRun (act t) real l (initial t) }
+planned t k =
+    let l = repaired t k in
+    record { steps = length l; cost = costOf t l; real′ = isPlan t real l; runs = stepsRun (act t) real l (initial t); searches′ = searches t k }
 
 -- 9.1: repair of the list l, with a plan list of n and a work list of w entries
 abbrev pub repairing : List ℕ → List ℕ → ℕ → ℕ → Call Planned
@@ -144,7 +148,7 @@ repairing s l n w = record {
   checks =
       recordCheck s ∷ acyclicCheck (taskOf s) ∷ returnCheck (taskOf s) ∷ lengthCheck l ∷ relaxedCheck (taskOf s) l
       ∷ roomCheck (length (repaired (taskOf s) l)) (capacityOf n w) ∷ [];
-  result = planned (taskOf s) (repaired (taskOf s) l);
+  result = planned (taskOf s) l;
   front = repaired (taskOf s) l;
 }
 
@@ -163,7 +167,7 @@ planning s n w = record {
   checks =
       recordCheck s ∷ acyclicCheck (taskOf s) ∷ returnCheck (taskOf s) ∷ goalsCheck (taskOf s)
       ∷ roomCheck (length (planOf (taskOf s))) (capacityOf n w) ∷ [];
-  result = planned (taskOf s) (planOf (taskOf s));
+  result = planned (taskOf s) (relaxedPlan (taskOf s));
   front = planOf (taskOf s);
 }
 

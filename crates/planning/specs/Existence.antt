@@ -1,11 +1,11 @@
--- Demand 3 (11.3); what a repair makes (6.1) and its bound (6.8).
+-- Demand 3 (11.3); what a repair makes (6.1) and its bounds (6.8, 6.9).
 use Prim.Native.Nat.{ℕ, _*_, _≤_}
 use mathlib.Core.Path.{_≡_}
 use mathlib.Core.Bool.{Bool, true, false}
 use mathlib.Core.List.{List}
 use mathlib.Core.Option.{none}
 use lib.ListN.{length}
-use Rattle.planning.specs.Basics.{Answer, refused, done, times}
+use Rattle.planning.specs.Basics.{Answer, refused, done, tally, times}
 use Rattle.planning.specs.Record.{Task, taskOf, recordCheck}
 use Rattle.planning.specs.Runs.{variables, count, black, isPlan}
 use Rattle.planning.specs.Relaxed.{addable}
@@ -55,3 +55,18 @@ Demand3 s n w r l = recordCheck s ≡ none → cyclic (taskOf s) ≡ none → un
 -- 6.1 and 6.8: what the repair of the list k returns, with answer r and plan l, is a red-black plan of at most n × P steps
 abbrev pub Bounded : List ℕ → List ℕ → Answer Planned → List ℕ → Type 0
 Bounded s k r l = ReturnsPlan r → RedBlackPlan (taskOf s) l × (length l ≤ length k * blackProduct (taskOf s))
+
+-- 6.9: m, the number of black variables; n × P × m for the list k; the searches that an answer tells, 0 after a refusal
+unfoldable pub blackCount : Task → ℕ
+blackCount t = tally (variables t) (black t)
+
+unfoldable pub searchBound : Task → List ℕ → ℕ
+searchBound t k = length k * blackProduct t * blackCount t
+
+unfoldable pub searchesIn : Answer Planned → ℕ
+searchesIn (refused _ _) = 0
+searchesIn (done p) = p .searches′
+
+-- 6.9: the repair of the list k takes no more
+abbrev pub Ceiling : List ℕ → List ℕ → Answer Planned → Type 0
+Ceiling s k r = searchesIn r ≤ searchBound (taskOf s) k

@@ -1,5 +1,5 @@
 -- Repair (6).
-use Prim.Native.Nat.{ℕ, zero, suc, pred}
+use Prim.Native.Nat.{ℕ, zero, suc, pred, _+_}
 use mathlib.Core.Bool.{Bool, true, false, not, _&&_, _||_}
 use mathlib.Core.List.{List, [], _∷_, _++_}
 use mathlib.Core.Option.{Option, none, some}
@@ -116,11 +116,30 @@ unfoldable pub moves : (ℕ → Action) → ℕ → Mode → (ℕ → ℕ) → L
 moves act A m count order s ever w =
     elim (blackMet m s w) [ true ↦ [] | false ↦ fill act (λ v. bestPath act A (known m s ever) v (count v)) (value count s) order [] w ]
 
--- 6.2: a stage of the walk: the moves inserted, and behind them the action that they are for, none at the end; its steps, and those of a
--- list of stages
+-- 6.9: a path is asked for where a value is, also an empty one; those of the pass of v over a list; of a pass for each variable of vs; of
+-- the moves inserted for w, none if its black facts are held
+unfoldable pub askedFor : Option ℕ → ℕ
+askedFor none = 0
+askedFor (some d) = 1
+
+unfoldable pub passSearches : (ℕ → Action) → ℕ → List ℕ → List Fact → ℕ
+passSearches act v [] w = askedFor (look w v)
+passSearches act v (i ∷ l) w = askedFor (look (act i .pre) v) + passSearches act v l w
+
+unfoldable pub fillSearches : (ℕ → Action) → (ℕ → ℕ → ℕ → List ℕ) → (ℕ → ℕ) → List ℕ → List ℕ → List Fact → ℕ
+fillSearches act path value [] l w = 0
+fillSearches act path value (v ∷ vs) l w = passSearches act v l w + fillSearches act path value vs (pass act (path v) v (value v) l w) w
+
+unfoldable pub moveSearches : (ℕ → Action) → ℕ → Mode → (ℕ → ℕ) → List ℕ → State → State → List Fact → ℕ
+moveSearches act A m count order s ever w =
+    elim (blackMet m s w) [ true ↦ 0 | false ↦ fillSearches act (λ v. bestPath act A (known m s ever) v (count v)) (value count s) order [] w ]
+
+-- 6.2: a stage of the walk: the moves inserted, and behind them the action that they are for, none at the end; 6.9: the searches for the
+-- moves; the steps of a stage, and steps and searches of a list of stages
 pub record Stage : Type 0 where
   pub inserted : List ℕ
   pub entry : List ℕ
+  pub searched : ℕ
 
 unfoldable pub stageSteps : Stage → List ℕ
 stageSteps x = x .inserted ++ x .entry
@@ -129,12 +148,18 @@ unfoldable pub allSteps : List Stage → List ℕ
 allSteps [] = []
 allSteps (x ∷ xs) = stageSteps x ++ allSteps xs
 
+unfoldable pub allSearches : List Stage → ℕ
+allSearches [] = 0
+allSearches (x ∷ xs) = x .searched + allSearches xs
+
 -- 6.2: the stage for an action; for the goals
 abbrev pub stageFor : (ℕ → Action) → ℕ → Mode → (ℕ → ℕ) → List ℕ → State → State → ℕ → Stage
-stageFor act A m count order s ever i = record { inserted = moves act A m count order s ever (act i .pre); entry = i ∷ [] }
+stageFor act A m count order s ever i =
+    record { inserted = moves act A m count order s ever (act i .pre); entry = i ∷ []; searched = moveSearches act A m count order s ever (act i .pre) }
 
 abbrev pub lastStage : (ℕ → Action) → ℕ → Mode → (ℕ → ℕ) → List ℕ → State → State → List Fact → Stage
-lastStage act A m count order s ever goal = record { inserted = moves act A m count order s ever goal; entry = [] }
+lastStage act A m count order s ever goal =
+    record { inserted = moves act A m count order s ever goal; entry = []; searched = moveSearches act A m count order s ever goal }
 
 -- 6.2: the walk along the rest l of the relaxed plan, from the state s; the repair of a relaxed plan l
 unfoldable pub stagesFrom : (ℕ → Action) → ℕ → Mode → (ℕ → ℕ) → List ℕ → List Fact → List ℕ → State → State → List Stage
@@ -148,3 +173,7 @@ stages t l = stagesFrom (act t) (actions t) (black t) (count t) (order t) (goals
 
 unfoldable pub repaired : Task → List ℕ → List ℕ
 repaired t l = allSteps (stages t l)
+
+-- 6.9: the path searches of a repair
+unfoldable pub searches : Task → List ℕ → ℕ
+searches t l = allSearches (stages t l)

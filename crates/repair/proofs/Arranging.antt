@@ -7,30 +7,41 @@ use native.Mathlib.Omega.{arith}
 use lib.ListN.{length, getD, take, drop, length-drop}
 use lib.Seq.{take-length, take-add, take-at, drop-at, getD-take, getD-drop, length-take-le, take-append-le}
 use Rattle.planning.specs.Record.{Fact, Task}
-use Rattle.planning.specs.Runs.{State, variables, actions, count, act, black}
+use Rattle.planning.specs.Runs.{State, variables, actions, count, act, black, goals}
 use Rattle.planning.specs.Repair.{blackMet}
 use Rattle.task.specs.Task.{factOf, factsIn, preAt, effAt, taskIn, Loaded}
 use Rattle.state.proofs.Listing.{between-inside}
 use Rattle.paths.proofs.Facts.{pre-facts}
 use Rattle.paths.specs.Paths.{Put}
 use Rattle.paths.specs.declared.Written.{Written}
-use Rattle.paths.specs.declared.Written.the-variants.{Upto, Long}
-use Rattle.passes.specs.Passes.{factsOf}
-use Rattle.passes.proofs.Putting.{pre-fitting, put-as}
-use Rattle.repair.specs.Repairs.{Wanted, filled, moved, stepsFor, lastMoves, stageOf}
+use Rattle.paths.specs.declared.Written.the-variants.{Upto}
+use Rattle.passes.specs.declared.Inserted.{Inserted}
+use Rattle.passes.specs.declared.Inserted.the-variants as inserted
+use Rattle.passes.specs.Passes.{factsOf, writtenIn, Searched}
+use Rattle.passes.proofs.Putting.{pre-fitting, told-as, counts-as}
+use Rattle.repair.specs.Repairs.{Wanted, filled, moved, stepsFor, lastMoves, stageOf, filledSearches, movedSearches, stageSearches}
 
 pub moves-none : (t : Task) (K s : State) (w : List Fact) (plan : List ℕ) (a : ℕ) → blackMet (black t) s w ≡ true → a ≤ length plan → Put plan plan a (moved t K s w) (Upto a)
 unfolding moved
 moves-none t K s w plan a e h = rw (e, moved) (omega arith, h, sym (append-nil (take a plan)))
 
+pub searches-none : (t : Task) (K s : State) (w : List Fact) → blackMet (black t) s w ≡ true → 0 ≡ movedSearches t K s w
+unfolding movedSearches
+searches-none t K s w e = rw (e, movedSearches) refl
+
+pub searches-some : (t : Task) (K s : State) (w : List Fact) → blackMet (black t) s w ≡ false → (r : Inserted) (x k : ℕ) → r ≡ inserted.Upto x k
+    → Searched (filledSearches t K s w) r → k ≡ movedSearches t K s w
+unfolding movedSearches
+searches-some t K s w e r x k q c = counts-as (filledSearches t K s w) r x k q c ∙ sym (rw (e, movedSearches) refl)
+
 -- the passes filled the part of the plan from place a on
-pub record Passed (t : Task) (K s : State) (w : List Fact) (plan : List ℕ) (a : ℕ) (ys : List ℕ) (r : Written) : Type 0 where
+pub record Passed (t : Task) (K s : State) (w : List Fact) (plan : List ℕ) (a : ℕ) (ys : List ℕ) (r : Inserted) : Type 0 where
   pub unmet : blackMet (black t) s w ≡ false
   pub within : a ≤ length plan
   pub long : length ys ≡ length (take (length plan - a) (drop a plan))
-  pub put : Put (take (length plan - a) (drop a plan)) ys 0 (filled t K s w) r
+  pub put : Put (take (length plan - a) (drop a plan)) ys 0 (filled t K s w) (writtenIn r)
 
-module _ {t : Task} {K s : State} {w : List Fact} {plan : List ℕ} {a : ℕ} {ys : List ℕ} {r : Written} (P : Passed t K s w plan a ys r) where
+module _ {t : Task} {K s : State} {w : List Fact} {plan : List ℕ} {a : ℕ} {ys : List ℕ} {r : Inserted} (P : Passed t K s w plan a ys r) where
   moved-is : moved t K s w ≡ filled t K s w
   unfolding moved
   moved-is = rw (P .unmet, moved) refl
@@ -41,14 +52,14 @@ module _ {t : Task} {K s : State} {w : List Fact} {plan : List ℕ} {a : ℕ} {y
   part-length : length part′ ≡ length plan - a
   part-length = length-take-le (length plan - a) (drop a plan) (omega (arith, length-drop a plan))
 
-  pub moves-long : r ≡ Long → length plan < a + length (moved t K s w)
+  pub moves-long : r ≡ inserted.Long → length plan < a + length (moved t K s w)
   moves-long q =
-      let z = put-as part′ ys 0 (filled t K s w) r Long q (P .put) in
+      let z = told-as part′ ys 0 (filled t K s w) r inserted.Long q (P .put) in
       omega (arith, z, part-length, ap length moved-is, P .within)
 
-  module _ (n : ℕ) (q : r ≡ Upto n) where
+  module _ (n k : ℕ) (q : r ≡ inserted.Upto n k) where
     told : Put part′ ys 0 (filled t K s w) (Upto n)
-    told = put-as part′ ys 0 (filled t K s w) r (Upto n) q (P .put)
+    told = told-as part′ ys 0 (filled t K s w) r (inserted.Upto n k) q (P .put)
 
     pub moves-fit : a + n ≤ length plan
     moves-fit = omega (arith, told .1, part-length, P .within)
@@ -97,14 +108,19 @@ module _ (task : List ℕ) (L : Loaded task) (k from to i : ℕ) (ek : k ≡ i) 
   pub moves-pre : (K s : State) (plan plan′ : List ℕ) (a : ℕ) (r : Written) → Put plan plan′ a (moved t K s (factsOf part)) r → Put plan plan′ a (moved t K s (act t i .pre)) r
   moves-pre K s plan plan′ a r p = subst (λ (w : List Fact). Put plan plan′ a (moved t K s w) r) part-pre p
 
--- the steps of a stage, where nothing is left of the relaxed plan; where something is
-pub stage-last : (t : Task) (K s : State) (l : List ℕ) → length l ≡ 0 → (plan plan′ : List ℕ) (a : ℕ) (r : Written) → Put plan plan′ a (lastMoves t K s) r → Put plan plan′ a (stageOf t K s l) r
-unfolding stageOf
-stage-last t K s [] e plan plan′ a r p = p
-stage-last t K s (i ∷ l) e plan plan′ a r p = absurd (omega (arith, e))
+  pub searches-pre : (K s : State) (r : Inserted) → Searched (movedSearches t K s (factsOf part)) r → Searched (movedSearches t K s (act t i .pre)) r
+  searches-pre K s r p = subst (λ (w : List Fact). Searched (movedSearches t K s w) r) part-pre p
 
-pub stage-first : (t : Task) (K s : State) (l : List ℕ) → (length l ≡ 0 → ⊥) → (plan plan′ : List ℕ) (a : ℕ) (r : Written) → Put plan plan′ a
-    (stepsFor t K s (getD l 0 0)) r → Put plan plan′ a (stageOf t K s l) r
-unfolding stageOf
-stage-first t K s [] e plan plan′ a r p = absurd (e refl)
-stage-first t K s (i ∷ l) e plan plan′ a r p = p
+-- a stage, where nothing is left of the relaxed plan; where something is
+module _ (t : Task) (K s : State) (plan plan′ : List ℕ) (a : ℕ) (r : Inserted) where
+  pub stage-last : (l : List ℕ) → length l ≡ 0 → Put plan plan′ a (lastMoves t K s) (writtenIn r) → Searched (movedSearches t K s (goals t)) r
+      → Put plan plan′ a (stageOf t K s l) (writtenIn r) × Searched (stageSearches t K s l) r
+  unfolding stageOf stageSearches
+  stage-last [] e p n = (p, n)
+  stage-last (i ∷ l) e p n = absurd (omega (arith, e))
+
+  pub stage-first : (l : List ℕ) → (length l ≡ 0 → ⊥) → Put plan plan′ a (stepsFor t K s (getD l 0 0)) (writtenIn r) → Searched (movedSearches t K s (act t (getD l 0 0) .pre)) r
+      → Put plan plan′ a (stageOf t K s l) (writtenIn r) × Searched (stageSearches t K s l) r
+  unfolding stageOf stageSearches
+  stage-first [] e p n = absurd (e refl)
+  stage-first (i ∷ l) e p n = (p, n)

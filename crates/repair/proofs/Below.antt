@@ -2,21 +2,26 @@
 use mathlib.Core.Bool.{Bool, true, false, _||_}
 use mathlib.Core.List.{List, [], _∷_, _++_}
 use mathlib.Core.Option.{Option, none, some}
-use Prim.Native.Nat.{ℕ, zero, suc, _+_, _<_}
+use Prim.Native.Nat.{ℕ, zero, suc, _+_, _-_, _*_, _<_, _≤_}
 use native.Mathlib.Omega.{arith}
+use native.Mathlib.Nat.{mul-le-mul-right}
 use lib.Dec.{T, eqb}
-use lib.ListN.{length, getD}
+use lib.ListN.{length, getD, length-append}
 use Rattle.planning.specs.Basics.{first}
 use Rattle.planning.specs.Record.{Fact, Action, Task}
 use Rattle.planning.specs.Runs.{State, Mode, look, variables, actions, count, act, black, goals}
 use Rattle.planning.specs.Repair.{toward, after, pass, fill, ready, clientsFirst, order, value, blackMet}
+use Rattle.planning.specs.Painting.{blackArc}
 use Rattle.planning.proofs.Tests.{and-l}
 use Rattle.planning.proofs.Below.{First?, first-is}
 use Rattle.planning.proofs.Steps.{All, all-append}
 use Rattle.planning.proofs.Best.{best-below}
+use Rattle.planning.proofs.Fill.{fill-searches}
+use Rattle.planning.proofs.Formed.{Formed}
+use Rattle.planning.proofs.Order.{clientsFirst-le}
 use Rattle.passes.specs.Passes.{passOf, Entries}
 use Rattle.paths.specs.Paths.{pathsOf}
-use Rattle.repair.specs.Repairs.{fillFrom, filled, moved, stageOf}
+use Rattle.repair.specs.Repairs.{fillFrom, filled, moved, stageOf, filledSearches, movedSearches, stageSearches}
 
 all-entries : (n : ℕ) (l : List ℕ) → All (λ i. i < n) l → (k : ℕ) → k < length l → getD l k 0 < n
 all-entries n [] a k h = absurd (omega arith)
@@ -88,3 +93,24 @@ stage-entries t K s (i ∷ l) e = append-entries t (moved t K s (act t i .pre)) 
     one : Entries t (i ∷ [])
     one zero h = e 0 (omega arith)
     one (suc k) h = absurd (omega arith)
+
+-- an insertion has at most one search for each variable and place of its list
+order-few : (t : Task) → Formed t → length (order t) ≤ 64
+unfolding order
+order-few t F = omega (arith, clientsFirst-le (variables t) (blackArc t) (black t) (variables t) (λ _. false), F .variables-max)
+
+moved-searches : (t : Task) → Formed t → (K s : State) (w : List Fact) → movedSearches t K s w ≤ 64 * (length (moved t K s w) + 1)
+unfolding moved filled movedSearches filledSearches
+moved-searches t F K s w = go (blackMet (black t) s w)
+  where
+    l : List ℕ
+    l = fillFrom t K s (order t) [] w
+
+    go : (m : Bool) → elim m [ true ↦ 0 | false ↦ filledSearches t K s w ] ≤ 64 * (length {A = ℕ} (elim m [ true ↦ [] | false ↦ filled t K s w ]) + 1)
+    go true = omega arith
+    go false = omega (arith, fill-searches (act t) (pathsOf t K) (value (count t) s) (order t) [] w, mul-le-mul-right (length l + 1) (order-few t F))
+
+pub stage-searches : (t : Task) → Formed t → (K s : State) (l : List ℕ) → stageSearches t K s l ≤ 64 * (length (stageOf t K s l) + (1 - length l))
+unfolding stageOf stageSearches
+stage-searches t F K s [] = omega (arith, moved-searches t F K s (goals t))
+stage-searches t F K s (i ∷ l) = omega (arith, moved-searches t F K s (act t i .pre), length-append (moved t K s (act t i .pre)) (i ∷ []))

@@ -11,6 +11,7 @@ use Rattle.planning.specs.Basics.{done}
 use Rattle.planning.specs.Record.{Task}
 use Rattle.planning.specs.Runs.{holds, step, real, actions, act, initial, goals, runBy, stepsBy, run, runs, stepsRun, isPlan, costBy, costOf, allBelow}
 use Rattle.planning.specs.Newest.{Values, initialValues, newer, alone}
+use Rattle.planning.specs.Repair.{repaired, searches}
 use Rattle.planning.specs.Calls.{planned}
 use Rattle.planning.proofs.Tests.{T→true}
 use Rattle.planning.proofs.Steps.{All}
@@ -21,16 +22,16 @@ use Rattle.planning.proofs.Sizes.{costOf-le}
 use Rattle.planning.proofs.Newest.{newestAfter, real-holds}
 use Rattle.state.proofs.Running.{further-steps}
 use Rattle.repair.specs.declared.Counts.{Counts}
-use Rattle.repair.specs.Counting.{Onward, Few, judgedBy}
+use Rattle.repair.specs.Counting.{noCounts, Onward, Few, judgedBy}
 
 -- the answer: where all steps run for real the goals decide, else it is no plan
-module _ (c : Counts) (met : Bool) where
+module _ (c : Counts) (met : Bool) (n : ℕ) where
   pub judged-all : (r : Bool) → eqb (c .runs) (c .steps) ≡ true → r ≡ met
-      → done (record { steps = c .steps; cost = c .cost; real′ = r; runs = c .runs }) ≡ done (judgedBy met c)
+      → done (record { steps = c .steps; cost = c .cost; real′ = r; runs = c .runs; searches′ = n }) ≡ done (judgedBy met c n)
   judged-all r h e = rw (h, e) refl
 
   pub judged-some : eqb (c .runs) (c .steps) ≡ false
-      → done (record { steps = c .steps; cost = c .cost; real′ = eqb (c .runs) (c .steps); runs = c .runs }) ≡ done (judgedBy met c)
+      → done (record { steps = c .steps; cost = c .cost; real′ = eqb (c .runs) (c .steps); runs = c .runs; searches′ = n }) ≡ done (judgedBy met c n)
   judged-some h = rw h refl
 
 -- the counts and newest values of the list l
@@ -40,7 +41,7 @@ pub record Counted (t : Task) (l : List ℕ) (f : Values) (c : Counts) : Type 0 
   pub cost : c .cost ≡ costOf t l
   pub newest : f ≡ newestAfter t l
 
-pub counted-none : (t : Task) (f : Values) → f ≡ initialValues t → Counted t [] f (record { steps = 0; runs = 0; cost = 0 })
+pub counted-none : (t : Task) (f : Values) → f ≡ initialValues t → Counted t [] f noCounts
 unfolding stepsBy costBy runBy
 counted-none t f e = record { steps = refl; runs = refl; cost = refl; newest = e }
 
@@ -69,10 +70,10 @@ module _ {t : Task} (F : Formed t) {l : List ℕ} {f : Values} {c : Counts} (C :
   }
 
   -- the verdict
-  pub counted-verdict : All (λ i. i < actions t) l → judgedBy (holds (alone f) (goals t)) c ≡ planned t l
+  pub counted-verdict : (k : List ℕ) → l ≡ repaired t k → (n : ℕ) → n ≡ searches t k → All (λ i. i < actions t) l → judgedBy (holds (alone f) (goals t)) c n ≡ planned t k
   unfolding planned isPlan
-  counted-verdict b =
+  counted-verdict k whole n en b =
       let below : allBelow (actions t) l ≡ true = T→true (allBelow (actions t) l) (allBelow-intro (actions t) l b) in
       let met : holds (run (act t) real l (initial t)) (goals t) ≡ holds (alone f) (goals t) =
       real-holds t F l (goals t) (λ v d x. sorted-has _ _ 0 (goals t) (goals-sorted t F) v d x .var-below) ∙ ap (λ (g : Values). holds (alone g) (goals t)) (sym (C .newest)) in
-      rw (below, runs-stepsRun (act t) real l (initial t), met, C .steps, C .runs, C .cost) refl
+      rw (← whole, below, runs-stepsRun (act t) real l (initial t), met, C .steps, C .runs, C .cost, en) refl

@@ -20,16 +20,17 @@ use Rattle.state.specs.declared.Goals.{Goals}
 use Rattle.state.proofs.Listing.{between-inside}
 use Rattle.paths.specs.Paths.{Put}
 use Rattle.paths.specs.declared.Written.{Written}
-use Rattle.passes.specs.Passes.{Fitting, factsOf}
+use Rattle.passes.specs.Passes.{Fitting, factsOf, Searched}
+use Rattle.passes.specs.declared.Inserted.{Inserted}
 use Rattle.answers.specs.declared.Planned.{Planned}
 use Rattle.answers.specs.Plans.{answerOf}
 use Rattle.repair.specs.Answers.{Held}
 use Rattle.repair.specs.declared.Counts.{Counts}
 use Rattle.repair.specs.Counting.{judgedBy}
-use Rattle.repair.specs.Repairs.{Wanted, moved}
+use Rattle.repair.specs.Repairs.{Wanted, moved, movedSearches}
 use Rattle.repair.proofs.Below.{entries-all}
 use Rattle.repair.proofs.Counting.{Counted, counted-verdict}
-use Rattle.repair.proofs.Repairing.{Repairing, repairing-whole}
+use Rattle.repair.proofs.Repairing.{Repairing, repairing-whole, repairing-searched}
 
 -- the goals
 module _ (t : Task) (F : Formed t) (g : Goals) (G : GoalsOf t g) (few : g .count ≤ length (g .facts)) where
@@ -53,6 +54,9 @@ module _ (t : Task) (F : Formed t) (g : Goals) (G : GoalsOf t g) (few : g .count
   pub goals-moves : (K s : State) (plan plan′ : List ℕ) (a : ℕ) (r : Written) → Put plan plan′ a (moved t K s (factsOf front)) r → Put plan plan′ a (moved t K s (goals t)) r
   goals-moves K s plan plan′ a r p = subst (λ (w : List Fact). Put plan plan′ a (moved t K s w) r) goals-are p
 
+  pub goals-searches : (K s : State) (r : Inserted) → Searched (movedSearches t K s (factsOf front)) r → Searched (movedSearches t K s (goals t)) r
+  goals-searches K s r p = subst (λ (w : List Fact). Searched (movedSearches t K s w) r) goals-are p
+
 -- the room that the two lists lend
 module _ (plan work : List ℕ) (less room : ℕ) (ea : less ≡ min (length plan) (length work)) (eb : room ≡ capacity less) where
   pub room-is : room ≡ capacityOf (length plan) (length work)
@@ -65,28 +69,31 @@ module _ (plan work : List ℕ) (less room : ℕ) (ea : less ≡ min (length pla
   pub front-length : length (take room plan) ≡ room
   front-length = length-take-le room plan (room-bounds .0)
 
--- the list l in the front of the plan list d: the answer, or 11
-module _ (t : Task) (l d : List ℕ) (room : ℕ) (r : Planned) where
-  pub held-whole : answerOf r ≡ done (planned t l) → (n : ℕ) → n ≤ room → n ≤ length d → take n d ≡ l → Held t l d room r
+-- the repair of the list k in the front of the plan list d: the answer, or 11
+module _ (t : Task) (k d : List ℕ) (room : ℕ) (r : Planned) where
+  abbrev l : List ℕ
+  l = repaired t k
+
+  pub held-whole : answerOf r ≡ done (planned t k) → (n : ℕ) → n ≤ room → n ≤ length d → take n d ≡ l → Held t k d room r
   unfolding answer
   held-whole e n h b q =
       let m : length l ≡ n = ap length (sym q) ∙ length-take-le n d b in
       record { says = e ∙ rw (room-fits (length l) room (omega (arith, m))) refl; fills = λ _. rw m q }
 
-  pub held-long : answerOf r ≡ refused 11 room → room < length l → Held t l d room r
+  pub held-long : answerOf r ≡ refused 11 room → room < length l → Held t k d room r
   unfolding answer
   held-long e h = record { says = e ∙ rw (room-short (length l) room h) refl; fills = λ b. absurd (omega arith) }
 
 -- the same of the front part ys of the plan list
-pub held-front : (t : Task) (l ys rest : List ℕ) (n : ℕ) → n ≡ length ys → (room : ℕ) → n ≡ room → (r : Planned) → Held t l ys n r → Held t l (ys ++ rest) room r
-held-front t l ys rest n en room e r H = rw (← e) (record { says = H .says; fills = λ b. take-append-le (length l) ys rest (omega (arith, en)) ∙ H .fills b })
+pub held-front : (t : Task) (k ys rest : List ℕ) (n : ℕ) → n ≡ length ys → (room : ℕ) → n ≡ room → (r : Planned) → Held t k ys n r → Held t k (ys ++ rest) room r
+held-front t k ys rest n en room e r H = rw (← e) (record { says = H .says; fills = λ b. take-append-le (length (repaired t k)) ys rest (omega (arith, en)) ∙ H .fills b })
 
 -- the repair where every step is taken and every stage placed
-pub repairing-held : {t : Task} {l₀ plan₀ plan memo sets : List ℕ} {f : Values} {c : Counts} {a j : ℕ}
-    → Repairing t l₀ plan₀ plan memo sets f c a j → Formed t → c .steps ≡ a → length l₀ < j
-    → (r : Planned) → answerOf r ≡ done (judgedBy (holds (alone f) (goals t)) c) → Held t (repaired t l₀) plan (length plan₀) r
-repairing-held {t = t} {l₀ = l₀} {plan₀ = plan₀} {plan = plan} {f = f} {c = c} {a = a} G F k h r e =
+pub repairing-held : {t : Task} {l₀ plan₀ plan memo sets : List ℕ} {f : Values} {c : Counts} {n a j : ℕ}
+    → Repairing t l₀ plan₀ plan memo sets f c n a j → Formed t → c .steps ≡ a → length l₀ < j
+    → (r : Planned) → answerOf r ≡ done (judgedBy (holds (alone f) (goals t)) c n) → Held t l₀ plan (length plan₀) r
+repairing-held {t = t} {l₀ = l₀} {plan₀ = plan₀} {plan = plan} {f = f} {c = c} {n = n} {a = a} G F k h r e =
     let whole = repairing-whole G k h in
     let counts : Counted t (take a plan) f c = subst (λ (n : ℕ). Counted t (take n plan) f c) k (G .counts) in
-    let verdict = counted-verdict F counts (entries-all (actions t) (take a plan) (G .entries)) in
-    held-whole t (repaired t l₀) plan (length plan₀) r (e ∙ ap done (verdict ∙ ap (planned t) whole)) a (G .within) (omega (arith, G .within, G .long)) whole
+    let verdict = counted-verdict F counts l₀ whole n (repairing-searched G k h) (entries-all (actions t) (take a plan) (G .entries)) in
+    held-whole t l₀ plan (length plan₀) r (e ∙ ap done verdict) a (G .within) (omega (arith, G .within, G .long)) whole

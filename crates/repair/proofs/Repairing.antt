@@ -12,52 +12,74 @@ use lib.Seq.{slice, slice-cons, slice-empty, drop-cons, drop-length, drop-at, ta
 use Rattle.planning.specs.Record.{Fact, Task}
 use Rattle.planning.specs.Runs.{State, step, relaxed, run, runBy, initial, goals, actions, count, act, black}
 use Rattle.planning.specs.Newest.{Values, initialValues, newer}
-use Rattle.planning.specs.Repair.{known, everAfter, moves, order, stages, repaired}
+use Rattle.planning.specs.Repair.{known, everAfter, moves, order, Stage, stagesFrom, stages, repaired, moveSearches, allSteps, allSearches, stageSteps, searches}
 use Rattle.planning.proofs.Facts.{_⊆_}
 use Rattle.planning.proofs.Known.{_≈_, known-start, known-run, everAfter-now}
 use Rattle.planning.proofs.Tests.{bool-same}
-use Rattle.planning.proofs.Repair.{repairFrom, repairFrom-nil, repairFrom-cons}
+use Rattle.planning.proofs.Repair.{repairFrom-nil, repairFrom-cons}
 use Rattle.planning.proofs.Formed.{Formed, eff-func}
 use Rattle.state.specs.Sets.{setsOf, redBlackOf}
 use Rattle.state.proofs.RedBlack.{redBlack-step, redBlack-initial}
 use Rattle.paths.specs.Paths.{Memo, Put}
-use Rattle.paths.specs.declared.Written.{Written}
-use Rattle.paths.specs.declared.Written.the-variants.{Upto, Long}
-use Rattle.passes.specs.Passes.{Entries, Blank}
-use Rattle.passes.proofs.Putting.{put-as, blank-memo}
+use Rattle.paths.specs.declared.Written.the-variants as written
+use Rattle.passes.specs.declared.Inserted.{Inserted}
+use Rattle.passes.specs.declared.Inserted.the-variants.{Upto, Long}
+use Rattle.passes.specs.Passes.{Entries, Blank, writtenIn, Searched}
+use Rattle.passes.proofs.Putting.{told-as, counts-as, blank-memo}
 use Rattle.repair.specs.declared.Counts.{Counts}
-use Rattle.repair.specs.Counting.{Onward, Small, Few}
-use Rattle.repair.specs.Repairs.{filled, moved, stageOf}
-use Rattle.repair.proofs.Below.{stage-entries, append-entries}
+use Rattle.repair.specs.Counting.{noCounts, Onward, Small, Few}
+use Rattle.repair.specs.Repairs.{filled, moved, stageOf, filledSearches, movedSearches, stageSearches}
+use Rattle.repair.proofs.Below.{stage-entries, stage-searches, append-entries}
 use Rattle.repair.proofs.Counting.{Counted, counted-none, counted-few, counted-behind}
 
 same-facts : (s t : State) → s ≈ t → s ≡ t
 same-facts s t h = fun-ext (λ v. fun-ext (λ d. bool-same (s v d) (t v d) (h .0 v d) (h .1 v d)))
 
--- the repair of the rest l of the relaxed plan; what is behind its first stage; what is behind the first j stages
-abbrev restOf : Task → List ℕ → State → State → List ℕ
-restOf t l s ever = repairFrom (act t) (actions t) (black t) (count t) (order t) (goals t) l s ever
+-- the stages for the rest l of the relaxed plan; those behind its first stage; those behind the first j stages
+abbrev restOf : Task → List ℕ → State → State → List Stage
+restOf t l s ever = stagesFrom (act t) (actions t) (black t) (count t) (order t) (goals t) l s ever
 
-unfoldable pub behind : Task → List ℕ → State → State → List ℕ
+unfoldable pub behind : Task → List ℕ → State → State → List Stage
 behind t [] s ever = []
 behind t (i ∷ l) s ever = restOf t l s ever
 
-unfoldable pub leftOf : Task → List ℕ → ℕ → State → State → List ℕ
+unfoldable pub leftOf : Task → List ℕ → ℕ → State → State → List Stage
 leftOf t l zero s ever = restOf t l s ever
 leftOf t l (suc j) s ever = behind t (drop j l) s ever
+
+-- the same from the state behind the steps k
+abbrev leftAfter : Task → List ℕ → ℕ → List ℕ → State → State → List Stage
+leftAfter t l j k s ever = leftOf t l j (run (act t) (black t) k s) (everAfter (act t) (black t) k s ever)
 
 moves-is : (t : Task) (K s ever : State) (w : List Fact) → known (black t) s ever ≡ K → moves (act t) (actions t) (black t) (count t) (order t) s ever w ≡ moved t K s w
 unfolding moves moved filled
 moves-is t K s ever w e = rw (← e) refl
 
-rest-stage : (t : Task) (K s ever : State) → known (black t) s ever ≡ K → (l : List ℕ)
-    → let k : List ℕ = stageOf t K s l in restOf t l s ever ≡ k ++ behind t l (run (act t) (black t) k s) (everAfter (act t) (black t) k s ever)
-unfolding stageOf behind
-rest-stage t K s ever e [] =
-    repairFrom-nil (act t) (actions t) (black t) (count t) (order t) (goals t) s ever ∙ moves-is t K s ever (goals t) e ∙ sym (append-nil (moved t K s (goals t)))
-rest-stage t K s ever e (i ∷ l) =
-    repairFrom-cons (act t) (actions t) (black t) (count t) (order t) (goals t) i l s ever
-    ∙ ap (λ (j : List ℕ). let k : List ℕ = j ++ (i ∷ []) in k ++ restOf t l (run (act t) (black t) k s) (everAfter (act t) (black t) k s ever)) (moves-is t K s ever (act t i .pre) e)
+searches-is : (t : Task) (K s ever : State) (w : List Fact) → known (black t) s ever ≡ K
+    → moveSearches (act t) (actions t) (black t) (count t) (order t) s ever w ≡ movedSearches t K s w
+unfolding moveSearches movedSearches filledSearches
+searches-is t K s ever w e = rw (← e) refl
+
+-- the first stage and those behind it
+module _ (t : Task) (K s ever : State) (e : known (black t) s ever ≡ K) where
+  abbrev later : List ℕ → List Stage
+  later l = let k : List ℕ = stageOf t K s l in behind t l (run (act t) (black t) k s) (everAfter (act t) (black t) k s ever)
+
+  rest-steps : (l : List ℕ) → allSteps (restOf t l s ever) ≡ stageOf t K s l ++ allSteps (later l)
+  unfolding stageOf behind allSteps
+  rest-steps [] =
+      repairFrom-nil (act t) (actions t) (black t) (count t) (order t) (goals t) s ever ∙ moves-is t K s ever (goals t) e ∙ sym (append-nil (moved t K s (goals t)))
+  rest-steps (i ∷ l) =
+      repairFrom-cons (act t) (actions t) (black t) (count t) (order t) (goals t) i l s ever
+      ∙ ap (λ (j : List ℕ). let k : List ℕ = j ++ (i ∷ []) in k ++ allSteps (restOf t l (run (act t) (black t) k s) (everAfter (act t) (black t) k s ever))) (moves-is t K s ever (act t i .pre) e)
+
+  rest-searches : (l : List ℕ) → allSearches (restOf t l s ever) ≡ stageSearches t K s l + allSearches (later l)
+  unfolding stageOf stageSearches behind allSearches stagesFrom stageSteps
+  rest-searches [] = ap (λ (n : ℕ). n + 0) (searches-is t K s ever (goals t) e)
+  rest-searches (i ∷ l) =
+      let n : ℕ = moveSearches (act t) (actions t) (black t) (count t) (order t) s ever (act t i .pre) in
+      ap (λ (j : List ℕ). let k : List ℕ = j ++ (i ∷ []) in n + allSearches (restOf t l (run (act t) (black t) k s) (everAfter (act t) (black t) k s ever))) (moves-is t K s ever (act t i .pre) e)
+      ∙ ap (λ (x : ℕ). x + allSearches (later (i ∷ l))) (searches-is t K s ever (act t i .pre) e)
 
 module _ (t : Task) (l : List ℕ) (j : ℕ) (s ever : State) where
   left-here : j ≤ length l → leftOf t l j s ever ≡ restOf t (drop j l) s ever
@@ -82,7 +104,7 @@ module _ (t : Task) (l : List ℕ) (j : ℕ) (s ever : State) where
 abbrev shown : Task → List ℕ → Values → State
 shown t sets f = redBlackOf (black t) (setsOf sets) f
 
-pub record Repairing (t : Task) (l₀ plan₀ plan memo sets : List ℕ) (f : Values) (c : Counts) (a j : ℕ) : Type 0 where
+pub record Repairing (t : Task) (l₀ plan₀ plan memo sets : List ℕ) (f : Values) (c : Counts) (n a j : ℕ) : Type 0 where
   pub held : State
   pub within : a ≤ length plan₀
   pub long : length plan ≡ length plan₀
@@ -93,12 +115,13 @@ pub record Repairing (t : Task) (l₀ plan₀ plan memo sets : List ℕ) (f : Va
   pub below : shown t sets f ⊆ held
   pub knows : known (black t) (shown t sets f) held ≡ setsOf sets
   pub counts : Counted t (take (c .steps) plan) f c
-  pub so-far :
-      repaired t l₀ ≡ take a plan ++ leftOf t l₀ j (run (act t) (black t) (slice (c .steps) a plan) (shown t sets f)) (everAfter (act t) (black t) (slice (c .steps) a plan) (shown t sets f) held)
+  pub so-far : repaired t l₀ ≡ take a plan ++ allSteps (leftAfter t l₀ j (slice (c .steps) a plan) (shown t sets f) held)
+  pub searched : searches t l₀ ≡ n + allSearches (leftAfter t l₀ j (slice (c .steps) a plan) (shown t sets f) held)
+  pub modest : n ≤ 64 * (a + (j - length l₀))
 
 pub repairing-start : (t : Task) (l₀ plan memo sets : List ℕ) (f : Values) → Blank memo → setsOf sets ≡ initial t → f ≡ initialValues t
-    → Repairing t l₀ plan plan memo sets f (record { steps = 0; runs = 0; cost = 0 }) 0 0
-unfolding repaired stages leftOf runBy everAfter
+    → Repairing t l₀ plan plan memo sets f noCounts 0 0 0
+unfolding repaired searches stages leftOf runBy everAfter
 repairing-start t l₀ plan memo sets f B es ef =
     let e : shown t sets f ≡ initial t = rw (es, ef) (redBlack-initial t) in
     record {
@@ -113,14 +136,19 @@ repairing-start t l₀ plan memo sets f B es ef =
       knows = rw (e, es) (sym (same-facts (initial t) (known (black t) (initial t) (initial t)) (known-start (black t) (initial t))));
       counts = counted-none t f ef;
       so-far = rw e refl;
+      searched = rw e (omega arith);
+      modest = omega arith;
     }
 
-module _ {t : Task} {l₀ plan₀ plan memo sets : List ℕ} {f : Values} {c : Counts} {a j : ℕ} (G : Repairing t l₀ plan₀ plan memo sets f c a j) where
+module _ {t : Task} {l₀ plan₀ plan memo sets : List ℕ} {f : Values} {c : Counts} {n a j : ℕ} (G : Repairing t l₀ plan₀ plan memo sets f c n a j) where
   pub repairing-within : a ≤ length plan
   repairing-within = omega (arith, G .within, G .long)
 
   pub repairing-few : Formed t → length plan₀ ≤ 32768 → Few c
   repairing-few F h = counted-few F (G .counts) (omega (arith, length-take-le (c .steps) plan (omega (arith, G .taken, G .within, G .long)), G .taken, G .within))
+
+  pub repairing-searches : length plan₀ ≤ 32768 → n ≤ 64 * 32769
+  repairing-searches h = omega (arith, G .modest, G .place, G .within)
 
   whole-length : (l : List ℕ) → repaired t l₀ ≡ take a plan ++ l → length (repaired t l₀) ≡ a + length l
   whole-length l e =
@@ -129,13 +157,22 @@ module _ {t : Task} {l₀ plan₀ plan memo sets : List ℕ} {f : Values} {c : C
 
   -- every step placed is taken
   module _ (k : c .steps ≡ a) where
-    so-far′ : repaired t l₀ ≡ take a plan ++ leftOf t l₀ j (shown t sets f) (G .held)
+    so-far′ : repaired t l₀ ≡ take a plan ++ allSteps (leftOf t l₀ j (shown t sets f) (G .held))
     unfolding runBy everAfter
     so-far′ = G .so-far ∙ rw (k, slice-empty a plan) refl
 
+    searched′ : searches t l₀ ≡ n + allSearches (leftOf t l₀ j (shown t sets f) (G .held))
+    unfolding runBy everAfter
+    searched′ = G .searched ∙ rw (k, slice-empty a plan) refl
+
     -- and every stage placed
     pub repairing-whole : length l₀ < j → take a plan ≡ repaired t l₀
-    repairing-whole h = sym (so-far′ ∙ ap (λ (l : List ℕ). take a plan ++ l) (left-none t l₀ j (shown t sets f) (G .held) h (G .place)) ∙ append-nil (take a plan))
+    unfolding allSteps
+    repairing-whole h = sym (so-far′ ∙ ap (λ (l : List Stage). take a plan ++ allSteps l) (left-none t l₀ j (shown t sets f) (G .held) h (G .place)) ∙ append-nil (take a plan))
+
+    pub repairing-searched : length l₀ < j → n ≡ searches t l₀
+    unfolding allSearches
+    repairing-searched h = omega (arith, searched′, ap allSearches (left-none t l₀ j (shown t sets f) (G .held) h (G .place)))
 
   -- a step is left: it is the action i
   module _ (k : c .steps < a) (i : ℕ) (ei : i ≡ getD plan (c .steps) 0) where
@@ -146,7 +183,7 @@ module _ {t : Task} {l₀ plan₀ plan memo sets : List ℕ} {f : Values} {c : C
     repairing-small F h = record { few = repairing-few F h; more = omega (arith, k, G .within) }
 
     pub repairing-step : Formed t → (memo′ sets′ : List ℕ) (f′ : Values) (c′ : Counts) → Memo t (setsOf sets′) memo′
-        → setsOf sets′ ≡ step relaxed (act t i) (setsOf sets) → Onward (act t i) f c c′ → f′ ≡ newer (act t i) f → Repairing t l₀ plan₀ plan memo′ sets′ f′ c′ a j
+        → setsOf sets′ ≡ step relaxed (act t i) (setsOf sets) → Onward (act t i) f c c′ → f′ ≡ newer (act t i) f → Repairing t l₀ plan₀ plan memo′ sets′ f′ c′ n a j
     unfolding runBy everAfter
     repairing-step F memo′ sets′ f′ c′ rows′ es O ef =
         let effects = eff-func t F i in
@@ -168,40 +205,48 @@ module _ {t : Task} {l₀ plan₀ plan memo sets : List ℕ} {f : Values} {c : C
           knows = rw now (sym same ∙ rw (G .knows) (sym es));
           counts = subst (λ (l : List ℕ). Counted t l f′ c′) (sym (ap (λ (n : ℕ). take n plan) (O .steps) ∙ more)) (counted-behind F (G .counts) i c′ f′ O ef);
           so-far = G .so-far ∙ rw (O .steps, cut, now) refl;
+          searched = G .searched ∙ rw (O .steps, cut, now) refl;
+          modest = G .modest;
         }
 
 -- the steps of stage j were written; of the relaxed plan the part `rest` was handed on
-pub record Arranged (t : Task) (l₀ plan₀ plan memo sets : List ℕ) (f : Values) (c : Counts) (a j : ℕ) (rest plan′ : List ℕ) (r : Written) : Type 0 where
-  pub start : Repairing t l₀ plan₀ plan memo sets f c a j
+pub record Arranged (t : Task) (l₀ plan₀ plan memo sets : List ℕ) (f : Values) (c : Counts) (n a j : ℕ) (rest plan′ : List ℕ) (r : Inserted) : Type 0 where
+  pub start : Repairing t l₀ plan₀ plan memo sets f c n a j
   pub taken : c .steps ≡ a
   pub here : j ≤ length l₀
   pub part : rest ≡ drop j l₀
   pub long : length plan′ ≡ length plan
-  pub put : Put plan plan′ a (stageOf t (setsOf sets) (shown t sets f) rest) r
+  pub put : Put plan plan′ a (stageOf t (setsOf sets) (shown t sets f) rest) (writtenIn r)
+  pub counts : Searched (stageSearches t (setsOf sets) (shown t sets f) rest) r
 
-module _ {t : Task} {l₀ plan₀ plan memo sets : List ℕ} {f : Values} {c : Counts} {a j : ℕ} {rest plan′ : List ℕ} {r : Written}
-    (R : Arranged t l₀ plan₀ plan memo sets f c a j rest plan′ r) where
-  abbrev G : Repairing t l₀ plan₀ plan memo sets f c a j
+module _ {t : Task} {l₀ plan₀ plan memo sets : List ℕ} {f : Values} {c : Counts} {n a j : ℕ} {rest plan′ : List ℕ} {r : Inserted}
+    (R : Arranged t l₀ plan₀ plan memo sets f c n a j rest plan′ r) where
+  abbrev G : Repairing t l₀ plan₀ plan memo sets f c n a j
   G = R .start
 
   abbrev steps : List ℕ
   steps = stageOf t (setsOf sets) (shown t sets f) rest
 
-  abbrev next : List ℕ
+  abbrev next : List Stage
   next = behind t rest (run (act t) (black t) steps (shown t sets f)) (everAfter (act t) (black t) steps (shown t sets f) (G .held))
 
-  so-far″ : repaired t l₀ ≡ take a plan ++ (steps ++ next)
-  so-far″ = so-far′ G (R .taken) ∙ ap (λ (l : List ℕ). take a plan ++ l)
-      (left-here t l₀ j (shown t sets f) (G .held) (R .here) ∙ rw (← (R .part)) (rest-stage t (setsOf sets) (shown t sets f) (G .held) (G .knows) rest))
+  here-is : leftOf t l₀ j (shown t sets f) (G .held) ≡ restOf t rest (shown t sets f) (G .held)
+  here-is = left-here t l₀ j (shown t sets f) (G .held) (R .here) ∙ rw (← (R .part)) refl
+
+  so-far″ : repaired t l₀ ≡ take a plan ++ (steps ++ allSteps next)
+  so-far″ = so-far′ G (R .taken) ∙ ap (λ (l : List ℕ). take a plan ++ l) (ap allSteps here-is ∙ rest-steps t (setsOf sets) (shown t sets f) (G .held) (G .knows) rest)
 
   pub repairing-long : r ≡ Long → length plan₀ < length (repaired t l₀)
   repairing-long q =
-      let z = put-as plan plan′ a steps r Long q (R .put) in
-      omega (arith, z, G .long, whole-length G (steps ++ next) so-far″, length-append steps next)
+      let z = told-as plan plan′ a steps r Long q (R .put) in
+      omega (arith, z, G .long, whole-length G (steps ++ allSteps next) so-far″, length-append steps (allSteps next))
 
-  module _ (x : ℕ) (q : r ≡ Upto x) where
-    told : Put plan plan′ a steps (Upto x)
-    told = put-as plan plan′ a steps r (Upto x) q (R .put)
+  module _ (x k : ℕ) (q : r ≡ Upto x k) where
+    told : Put plan plan′ a steps (written.Upto x)
+    told = told-as plan plan′ a steps r (Upto x k) q (R .put)
+
+    searches-here : k ≡ stageSearches t (setsOf sets) (shown t sets f) rest
+    searches-here = counts-as (stageSearches t (setsOf sets) (shown t sets f) rest) r x k q (R .counts)
 
     bounds : (a ≤ x) × (x ≤ length plan′)
     bounds = (omega (arith, told .0), omega (arith, told .1, R .long))
@@ -218,8 +263,8 @@ module _ {t : Task} {l₀ plan₀ plan memo sets : List ℕ} {f : Values} {c : C
     front-same : take (c .steps) plan ≡ take (c .steps) plan′
     front-same = ap (λ (n : ℕ). take n plan) (R .taken) ∙ sym front-is ∙ ap (λ (n : ℕ). take n plan′) (sym (R .taken))
 
-    abbrev left : List ℕ → List ℕ
-    left k = leftOf t l₀ (j + 1) (run (act t) (black t) k (shown t sets f)) (everAfter (act t) (black t) k (shown t sets f) (G .held))
+    abbrev left : List ℕ → List Stage
+    left l = leftAfter t l₀ (j + 1) l (shown t sets f) (G .held)
 
     left-is : left (slice (c .steps) x plan′) ≡ next
     left-is =
@@ -230,8 +275,13 @@ module _ {t : Task} {l₀ plan₀ plan memo sets : List ℕ} {f : Values} {c : C
     pub repairing-fits : x ≤ length plan₀
     repairing-fits = omega (arith, told .1, G .long)
 
-    pub repairing-turn : Entries t rest → (memo′ : List ℕ) → Memo t (setsOf sets) memo′ → Repairing t l₀ plan₀ plan′ memo′ sets f c x (j + 1)
-    repairing-turn en memo′ rows′ = record {
+    pub repairing-modest : Formed t → n + k ≤ 64 * (x + (j + 1 - length l₀))
+    repairing-modest F =
+        let few = stage-searches t F (setsOf sets) (shown t sets f) rest in
+        omega (arith, few, searches-here, told .0, G .modest, ap length (R .part), length-drop j l₀, R .here)
+
+    pub repairing-turn : Formed t → Entries t rest → (memo′ : List ℕ) → Memo t (setsOf sets) memo′ → Repairing t l₀ plan₀ plan′ memo′ sets f c (n + k) x (j + 1)
+    repairing-turn F en memo′ rows′ = record {
       held = G .held;
       within = repairing-fits;
       long = R .long ∙ G .long;
@@ -243,7 +293,12 @@ module _ {t : Task} {l₀ plan₀ plan memo sets : List ℕ} {f : Values} {c : C
       knows = G .knows;
       counts = subst (λ (l : List ℕ). Counted t l f c) front-same (G .counts);
       so-far =
-          so-far″ ∙ sym (append-assoc (take a plan) steps next) ∙ sym (ap (λ (l : List ℕ). l ++ left (slice (c .steps) x plan′)) (told .2) ∙ ap (λ (l : List ℕ). (take a plan ++ steps) ++ l) left-is);
+          so-far″ ∙ sym (append-assoc (take a plan) steps (allSteps next))
+          ∙ sym (ap (λ (l : List ℕ). l ++ allSteps (left (slice (c .steps) x plan′))) (told .2) ∙ ap (λ (l : List Stage). (take a plan ++ steps) ++ allSteps l) left-is);
+      searched =
+          let rest-is = searched′ G (R .taken) ∙ ap (λ (l : List Stage). n + allSearches l) here-is in
+          omega (arith, rest-is, rest-searches t (setsOf sets) (shown t sets f) (G .held) (G .knows) rest, searches-here, ap allSearches left-is);
+      modest = repairing-modest F;
     }
 
 -- stages left, and steps of the last one: each turn takes one of them

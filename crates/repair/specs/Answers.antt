@@ -5,6 +5,7 @@ use Prim.Native.Nat.{ℕ, _≤_}
 use lib.ListN.{length, take}
 use Rattle.planning.specs.Basics.{answer}
 use Rattle.planning.specs.Record.{Task}
+use Rattle.planning.specs.Repair.{repaired}
 use Rattle.planning.specs.Calls.{capacityOf, planned, roomCheck}
 use Rattle.answers.specs.declared.Planned.{Planned}
 use Rattle.answers.specs.Plans.{answerOf}
@@ -13,7 +14,7 @@ use Rattle.answers.specs.Plans.{answerOf}
 abbrev pub roomIn : List ℕ → List ℕ → ℕ
 roomIn plan work = capacityOf (length plan) (length work)
 
--- the answer r for the list l, if there is room for it, or 11; where it fits it fills the front of d
-pub record Held (t : Task) (l d : List ℕ) (room : ℕ) (r : Planned) : Type 0 where
-  pub says : answerOf r ≡ answer (roomCheck (length l) room) (planned t l)
-  pub fills : length l ≤ room → take (length l) d ≡ l
+-- the answer r for the repair of the list k, if there is room for it, or 11; where it fits it fills the front of d
+pub record Held (t : Task) (k d : List ℕ) (room : ℕ) (r : Planned) : Type 0 where
+  pub says : answerOf r ≡ answer (roomCheck (length (repaired t k)) room) (planned t k)
+  pub fills : length (repaired t k) ≤ room → take (length (repaired t k)) d ≡ repaired t k

@@ -10,6 +10,10 @@ use Rattle.planning.specs.Calls.{Planned}
 use Rattle.state.specs.Sets.{further}
 use Rattle.repair.specs.declared.Counts.{Counts}
 
+-- nothing is counted
+abbrev pub noCounts : Counts
+noCounts = record { steps = 0; runs = 0; cost = 0 }
+
 -- the counts r are those of c with the action a behind, where f are the newest values
 pub record Onward (a : Action) (f : Values) (c r : Counts) : Type 0 where
   pub steps : r .steps ≡ c .steps + 1
@@ -27,6 +31,6 @@ pub record Small (c : Counts) : Type 0 where
   pub few : Few c
   pub more : c .steps < 32768
 
--- the verdict, by the test whether the goals are met
-abbrev pub judgedBy : Bool → Counts → Planned
-judgedBy met c = record { steps = c .steps; cost = c .cost; real′ = eqb (c .runs) (c .steps) && met; runs = c .runs }
+-- the verdict, by the test whether the goals are met, with n searches
+abbrev pub judgedBy : Bool → Counts → ℕ → Planned
+judgedBy met c n = record { steps = c .steps; cost = c .cost; real′ = eqb (c .runs) (c .steps) && met; runs = c .runs; searches′ = n }

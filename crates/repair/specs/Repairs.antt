@@ -6,7 +6,7 @@ use Prim.Native.Nat.{ℕ, _/_, _%_, _<_}
 use lib.ListN.{length, getD}
 use Rattle.planning.specs.Record.{Fact, Task}
 use Rattle.planning.specs.Runs.{State, variables, count, act, black, goals}
-use Rattle.planning.specs.Repair.{order, fill, value, blackMet}
+use Rattle.planning.specs.Repair.{order, fill, value, blackMet, fillSearches}
 use Rattle.task.specs.Task.{taskIn}
 use Rattle.state.specs.Sets.{setsOf, valuesOf, redBlackOf}
 use Rattle.paths.specs.Paths.{pathsOf}
@@ -48,6 +48,20 @@ unfoldable pub stageOf : Task → State → State → List ℕ → List ℕ
 stageOf t K s [] = lastMoves t K s
 stageOf t K s (i ∷ l) = stepsFor t K s i
 
+-- the searches for these
+abbrev pub searchesOver : Task → State → State → List ℕ → List ℕ → List Fact → ℕ
+searchesOver t K s vs l w = fillSearches (act t) (pathsOf t K) (value (count t) s) vs l w
+
+unfoldable pub filledSearches : Task → State → State → List Fact → ℕ
+filledSearches t K s w = searchesOver t K s (order t) [] w
+
+unfoldable pub movedSearches : Task → State → State → List Fact → ℕ
+movedSearches t K s w = elim (blackMet (black t) s w) [ true ↦ 0 | false ↦ filledSearches t K s w ]
+
+unfoldable pub stageSearches : Task → State → State → List ℕ → ℕ
+stageSearches t K s [] = movedSearches t K s (goals t)
+stageSearches t K s (i ∷ l) = movedSearches t K s (act t i .pre)
+
 -- the same by the lists that the code has: the task, the facts held ever, the newest values, from which the state is shown
 abbrev pub shownBy : List ℕ → List ℕ → List ℕ → State
 shownBy task ever newest = redBlackOf (black (taskIn task)) (setsOf ever) (valuesOf newest)
@@ -66,3 +80,18 @@ lastIn task ever newest = lastMoves (taskIn task) (setsOf ever) (shownBy task ev
 
 abbrev pub stageIn : List ℕ → List ℕ → List ℕ → List ℕ → List ℕ
 stageIn task ever newest left = stageOf (taskIn task) (setsOf ever) (shownBy task ever newest) left
+
+abbrev pub filledSearchesIn : List ℕ → List ℕ → List ℕ → List ℕ → ℕ
+filledSearchesIn task ever newest wanted = filledSearches (taskIn task) (setsOf ever) (shownBy task ever newest) (factsOf wanted)
+
+abbrev pub movedSearchesIn : List ℕ → List ℕ → List ℕ → List ℕ → ℕ
+movedSearchesIn task ever newest wanted = movedSearches (taskIn task) (setsOf ever) (shownBy task ever newest) (factsOf wanted)
+
+abbrev pub stepsSearchesIn : List ℕ → List ℕ → List ℕ → ℕ → ℕ
+stepsSearchesIn task ever newest i = movedSearches (taskIn task) (setsOf ever) (shownBy task ever newest) (act (taskIn task) i .pre)
+
+abbrev pub lastSearchesIn : List ℕ → List ℕ → List ℕ → ℕ
+lastSearchesIn task ever newest = movedSearches (taskIn task) (setsOf ever) (shownBy task ever newest) (goals (taskIn task))
+
+abbrev pub stageSearchesIn : List ℕ → List ℕ → List ℕ → List ℕ → ℕ
+stageSearchesIn task ever newest left = stageSearches (taskIn task) (setsOf ever) (shownBy task ever newest) left

@@ -2,26 +2,27 @@
 // works in the same place. Passes only insert and applying only appends, so as soon as steps and moves do not fit, the whole plan does not.
 use answers::Planned;
 use answers::Refusal;
-use paths::Written;
+use passes::Inserted;
 use state::Goals;
 use state::State;
 ghost use mathlib.Core.Path.{_≡_};
 ghost use mathlib.Core.Bool.{not, _&&_};
-ghost use Prim.Native.Nat.{_/_, _%_, _<_, _≤_};
+ghost use Prim.Native.Nat.{_*_, _/_, _%_, _<_, _≤_};
 ghost use lib.ListN.{length};
 ghost use Rattle.planning.specs.Basics.{done, refused};
 ghost use Rattle.planning.specs.Runs.{holds, variables, actions, act, black, goals};
 ghost use Rattle.planning.specs.Newest.{alone};
-ghost use Rattle.planning.specs.Repair.{blackMet, repaired};
+ghost use Rattle.planning.specs.Repair.{blackMet};
 ghost use Rattle.task.specs.Task.{taskIn, Loaded};
 ghost use Rattle.task.specs.Links.{Prepared};
 ghost use Rattle.state.specs.Sets.{setsOf, valuesOf};
 ghost use Rattle.paths.specs.Paths.{Memo, Put};
-ghost use Rattle.passes.specs.Passes.{factsOf, Entries, Blank};
+ghost use Rattle.passes.specs.Passes.{factsOf, Entries, Blank, writtenIn, Searched};
 ghost use Rattle.answers.specs.Plans.{answerOf};
 ghost use Rattle.repair.specs.Answers.{roomIn, Held};
-ghost use Rattle.repair.specs.Counting.{Small, Few, Onward, judgedBy};
+ghost use Rattle.repair.specs.Counting.{Small, Few, noCounts, Onward, judgedBy};
 ghost use Rattle.repair.specs.Repairs.{Present, Wanted, filledIn, movedIn, stepsIn, lastIn, stageIn};
+ghost use Rattle.repair.specs.Repairs.{filledSearchesIn, movedSearchesIn, stepsSearchesIn, lastSearchesIn, stageSearchesIn};
 
 // A byte as an index.
 fn byte(x: u8) -> usize
@@ -78,26 +79,32 @@ fn fill(
     memo: &mut [u16],
     wanted: &[u16],
     plan: &mut [u16],
-) -> Written
-    requires { ⌜ Prepared (now task) × Wanted (taskIn (now task)) (now wanted) ⌝ }
+) -> Inserted
+    requires { ⌜ Prepared (now task) × Wanted (taskIn (now task)) (now wanted) × (length (now plan) ≤ 32768) ⌝ }
     requires { ⌜ Memo (taskIn (now task)) (setsOf (now ever)) (now memo) ⌝ }
-    ensures { λ r. ⌜ Put (now (plan .entry)) (now (plan .exit)) 0 (filledIn (now (task .entry)) (now (ever .entry)) (now (newest .entry)) (now (wanted .entry))) r ⌝ }
+    ensures { λ r. ⌜ Put (now (plan .entry)) (now (plan .exit)) 0 (filledIn (now (task .entry)) (now (ever .entry)) (now (newest .entry)) (now (wanted .entry))) (writtenIn r) ⌝ }
     ensures { λ _. ⌜ Memo (taskIn (now (task .entry))) (setsOf (now (ever .entry))) (now (memo .exit)) ⌝ }
+    ensures { λ r. ⌜ Searched (filledSearchesIn (now (task .entry)) (now (ever .entry)) (now (newest .entry)) (now (wanted .entry))) r ⌝ }
 {
     let n = task::ordered(task);
     let mut e: usize = 0;
+    let mut k: usize = 0;
     let mut p: usize = 0;
     while p < n {
         let v = task::order_at(task, p);
         let f = present(task, newest, v);
         let w = passes::serve(task, ever, memo, f, wanted, plan, e);
-        let Written::Upto(x) = w else {
-            return Written::Long;
+        let Inserted::Upto { end, searches } = w else {
+            return Inserted::Long;
         };
-        e = x;
+        e = end;
+        k += searches;
         p += 1;
     }
-    Written::Upto(e)
+    Inserted::Upto {
+        end: e,
+        searches: k,
+    }
 }
 
 // The moves for the wanted facts, none if the black ones are met: from place `at` on.
@@ -109,20 +116,27 @@ fn moves(
     wanted: &[u16],
     plan: &mut [u16],
     at: usize,
-) -> Written
-    requires { ⌜ Prepared (now task) × Wanted (taskIn (now task)) (now wanted) × (at ≤ length (now plan)) ⌝ }
+) -> Inserted
+    requires { ⌜ Prepared (now task) × Wanted (taskIn (now task)) (now wanted) × (at ≤ length (now plan)) × (length (now plan) ≤ 32768) ⌝ }
     requires { ⌜ Memo (taskIn (now task)) (setsOf (now ever)) (now memo) ⌝ }
-    ensures { λ r. ⌜ Put (now (plan .entry)) (now (plan .exit)) at (movedIn (now (task .entry)) (now (ever .entry)) (now (newest .entry)) (now (wanted .entry))) r ⌝ }
+    ensures { λ r. ⌜ Put (now (plan .entry)) (now (plan .exit)) at (movedIn (now (task .entry)) (now (ever .entry)) (now (newest .entry)) (now (wanted .entry))) (writtenIn r) ⌝ }
     ensures { λ _. ⌜ Memo (taskIn (now (task .entry))) (setsOf (now (ever .entry))) (now (memo .exit)) ⌝ }
+    ensures { λ r. ⌜ Searched (movedSearchesIn (now (task .entry)) (now (ever .entry)) (now (newest .entry)) (now (wanted .entry))) r ⌝ }
 {
     if black_met(task, newest, wanted) {
-        return Written::Upto(at);
+        return Inserted::Upto {
+            end: at,
+            searches: 0,
+        };
     }
     let w = fill(task, newest, ever, memo, wanted, &mut plan[at..]);
-    let Written::Upto(n) = w else {
-        return Written::Long;
+    let Inserted::Upto { end, searches } = w else {
+        return Inserted::Long;
     };
-    Written::Upto(at + n)
+    Inserted::Upto {
+        end: at + end,
+        searches,
+    }
 }
 
 // The moves for action i, and the action behind them.
@@ -134,11 +148,12 @@ fn arrange(
     i: u16,
     plan: &mut [u16],
     at: usize,
-) -> Written
-    requires { ⌜ Prepared (now task) × (i < actions (taskIn (now task))) × (at ≤ length (now plan)) ⌝ }
+) -> Inserted
+    requires { ⌜ Prepared (now task) × (i < actions (taskIn (now task))) × (at ≤ length (now plan)) × (length (now plan) ≤ 32768) ⌝ }
     requires { ⌜ Memo (taskIn (now task)) (setsOf (now ever)) (now memo) ⌝ }
-    ensures { λ r. ⌜ Put (now (plan .entry)) (now (plan .exit)) at (stepsIn (now (task .entry)) (now (ever .entry)) (now (newest .entry)) i) r ⌝ }
+    ensures { λ r. ⌜ Put (now (plan .entry)) (now (plan .exit)) at (stepsIn (now (task .entry)) (now (ever .entry)) (now (newest .entry)) i) (writtenIn r) ⌝ }
     ensures { λ _. ⌜ Memo (taskIn (now (task .entry))) (setsOf (now (ever .entry))) (now (memo .exit)) ⌝ }
+    ensures { λ r. ⌜ Searched (stepsSearchesIn (now (task .entry)) (now (ever .entry)) (now (newest .entry)) i) r ⌝ }
 {
     let k = lists::wide(i);
     let from = task::pre_start(task, k);
@@ -155,11 +170,12 @@ fn finish(
     memo: &mut [u16],
     plan: &mut [u16],
     at: usize,
-) -> Written
-    requires { ⌜ Prepared (now task) × (at ≤ length (now plan)) ⌝ }
+) -> Inserted
+    requires { ⌜ Prepared (now task) × (at ≤ length (now plan)) × (length (now plan) ≤ 32768) ⌝ }
     requires { ⌜ Memo (taskIn (now task)) (setsOf (now ever)) (now memo) ⌝ }
-    ensures { λ r. ⌜ Put (now (plan .entry)) (now (plan .exit)) at (lastIn (now (task .entry)) (now (ever .entry)) (now (newest .entry))) r ⌝ }
+    ensures { λ r. ⌜ Put (now (plan .entry)) (now (plan .exit)) at (lastIn (now (task .entry)) (now (ever .entry)) (now (newest .entry))) (writtenIn r) ⌝ }
     ensures { λ _. ⌜ Memo (taskIn (now (task .entry))) (setsOf (now (ever .entry))) (now (memo .exit)) ⌝ }
+    ensures { λ r. ⌜ Searched (lastSearchesIn (now (task .entry)) (now (ever .entry)) (now (newest .entry))) r ⌝ }
 {
     let goals = Goals::load(task);
     let facts = goals.facts;
@@ -176,11 +192,12 @@ fn stage<'a>(
     left: &[u16],
     plan: &mut [u16],
     at: usize,
-) -> Written
-    requires { ⌜ Prepared (now task) × Entries (taskIn (now task)) (now left) × (at ≤ length (now plan)) ⌝ }
+) -> Inserted
+    requires { ⌜ Prepared (now task) × Entries (taskIn (now task)) (now left) × (at ≤ length (now plan)) × (length (now plan) ≤ 32768) ⌝ }
     requires { ⌜ Memo (taskIn (now task)) (setsOf (now ever)) (now memo) ⌝ }
-    ensures { λ r. ⌜ Put (now (plan .entry)) (now (plan .exit)) at (stageIn (now (task .entry)) (now (ever .entry)) (now (newest .entry)) (now (left .entry))) r ⌝ }
+    ensures { λ r. ⌜ Put (now (plan .entry)) (now (plan .exit)) at (stageIn (now (task .entry)) (now (ever .entry)) (now (newest .entry)) (now (left .entry))) (writtenIn r) ⌝ }
     ensures { λ _. ⌜ Memo (taskIn (now (task .entry))) (setsOf (now (ever .entry))) (now (memo .exit)) ⌝ }
+    ensures { λ r. ⌜ Searched (stageSearchesIn (now (task .entry)) (now (ever .entry)) (now (newest .entry)) (now (left .entry))) r ⌝ }
 {
     if left.len() == 0 {
         return finish(task, newest, ever, memo, plan, at);
@@ -193,6 +210,17 @@ struct Counts {
     steps: usize,
     runs: usize,
     cost: usize,
+}
+
+// Nothing is counted.
+fn uncounted() -> Counts
+    ensures { λ r. ⌜ r ≡ noCounts ⌝ }
+{
+    Counts {
+        steps: 0,
+        runs: 0,
+        cost: 0,
+    }
 }
 
 // The counts of a list with action i behind it.
@@ -218,10 +246,10 @@ fn at_goals(task: &[u16], newest: &[u8; 64]) -> bool
     state::all_newest(newest, &facts, 0, count)
 }
 
-// The answer for a list with these counts and newest values.
-fn verdict(task: &[u16], newest: &[u8; 64], c: Counts) -> Planned
-    requires { ⌜ Loaded (now task) × Few c ⌝ }
-    ensures { λ r. ⌜ answerOf r ≡ done (judgedBy (holds (alone (valuesOf (now (newest .entry)))) (goals (taskIn (now (task .entry))))) c) ⌝ }
+// The answer for a list with these counts, newest values and searches.
+fn verdict(task: &[u16], newest: &[u8; 64], c: Counts, searches: usize) -> Planned
+    requires { ⌜ Loaded (now task) × Few c × (searches ≤ 64 * 32769) ⌝ }
+    ensures { λ r. ⌜ answerOf r ≡ done (judgedBy (holds (alone (valuesOf (now (newest .entry)))) (goals (taskIn (now (task .entry))))) c searches) ⌝ }
 {
     let met = at_goals(task, newest);
     let all = c.runs == c.steps;
@@ -229,6 +257,7 @@ fn verdict(task: &[u16], newest: &[u8; 64], c: Counts) -> Planned
         steps: c.steps as u32,
         cost: c.cost as u32,
         runs: c.runs as u32,
+        searches: searches as u32,
         real: all && met,
     }
 }
@@ -248,28 +277,26 @@ fn too_long(room: usize) -> Planned
 // step is taken. Where the effects of its action are held the next state has the same sets.
 fn repair_from(task: &[u16], memo: &mut [u16], list: &[u16], plan: &mut [u16]) -> Planned
     requires { ⌜ Prepared (now task) × Entries (taskIn (now task)) (now list) × Blank (now memo) × (length (now plan) ≤ 32768) ⌝ }
-    ensures { λ r. ⌜ Held (taskIn (now (task .entry))) (repaired (taskIn (now (task .entry))) (now (list .entry))) (now (plan .exit)) (length (now (plan .entry))) r ⌝ }
+    ensures { λ r. ⌜ Held (taskIn (now (task .entry))) (now (list .entry)) (now (plan .exit)) (length (now (plan .entry))) r ⌝ }
 {
     let needs = paths::needs(task);
     let mut s = State::initial(task);
-    let mut c = Counts {
-        steps: 0,
-        runs: 0,
-        cost: 0,
-    };
+    let mut c = uncounted();
+    let mut searched: usize = 0;
     let mut at: usize = 0;
     let mut j: usize = 0;
     loop {
         let k = c.steps;
         if k == at {
             if j > list.len() {
-                return verdict(task, &s.newest.values, c);
+                return verdict(task, &s.newest.values, c, searched);
             }
             let w = stage(task, &s.newest.values, &s.sets, memo, &list[j..], plan, at);
-            let Written::Upto(x) = w else {
+            let Inserted::Upto { end, searches } = w else {
                 return too_long(plan.len());
             };
-            at = x;
+            at = end;
+            searched += searches;
             j += 1;
             continue;
         }
@@ -291,7 +318,7 @@ fn repair_from(task: &[u16], memo: &mut [u16], list: &[u16], plan: &mut [u16]) -
 // real run; 11 if it is longer than the capacity.
 pub fn repair(task: &[u16], relaxed: &[u16], plan: &mut [u16], work: &[u16]) -> Planned
     requires { ⌜ Prepared (now task) × Entries (taskIn (now task)) (now relaxed) ⌝ }
-    ensures { λ r. ⌜ Held (taskIn (now (task .entry))) (repaired (taskIn (now (task .entry))) (now (relaxed .entry))) (now (plan .exit)) (roomIn (now (plan .entry)) (now (work .entry))) r ⌝ }
+    ensures { λ r. ⌜ Held (taskIn (now (task .entry))) (now (relaxed .entry)) (now (plan .exit)) (roomIn (now (plan .entry)) (now (work .entry))) r ⌝ }
 {
     let room = lists::capacity(lists::lesser(plan.len(), work.len()));
     let mut memo = [0u16; paths::MEMO];

@@ -49,8 +49,8 @@ written-refusal s plan r A g f er ef P =
     rw (← listing-refused s (g .number) (g .place) (sym (A .called) ∙ ap answerOf er), ← q) P
 
 -- with a plan
-module _ (s plan : List ℕ) (r : Planned) (A : Told s r plan) (n c x : ℕ) (v : Bool) (e : r ≡ Plan n c x v) where
-  answered : planCall s 16384 16384 ≡ done (record { steps = n; cost = c; real′ = v; runs = x })
+module _ (s plan : List ℕ) (r : Planned) (A : Told s r plan) (n c x y : ℕ) (v : Bool) (e : r ≡ Plan n c x y v) where
+  answered : planCall s 16384 16384 ≡ done (record { steps = n; cost = c; real′ = v; runs = x; searches′ = y })
   answered = sym (A .called) ∙ ap answerOf e
 
   pub kept-few : stepsIn (relaxCall s 16384) ≤ 4032
@@ -62,11 +62,11 @@ module _ (s plan : List ℕ) (r : Planned) (A : Told s r plan) (n c x : ℕ) (v 
 
   -- with the cost, the list and the steps that run as they were handed to the text
   pub written : {o o′ o″ : List ℕ} {a b : ℕ} (w c′ k : ℕ) (l : List ℕ) → Put o 0 (runsText s w) o′ a → Put o′ a (line planWord (length l ∷ c′ ∷ l) ++ line (verdictWord v) (k ∷ [])) o″ b
-      → w ≡ 16384 → c′ ≡ c → l ≡ take n plan → k ≡ length (runnable (answerOf (Plan n c x v)) plan) → Put o 0 (listingOf s) o″ b
+      → w ≡ 16384 → c′ ≡ c → l ≡ take n plan → k ≡ length (runnable (answerOf (Plan n c x y v)) plan) → Put o 0 (listingOf s) o″ b
   written w c′ k l P Q ew ec el ek =
       let m : l ≡ planOf (taskOf s) = el ∙ ap (take n) (A .list) ∙ plan-front s _ answered in
-      let j : k ≡ length (runnable (done (record { steps = n; cost = c; real′ = v; runs = x })) (planOf (taskOf s))) =
-      ek ∙ ap (λ y. length (runnable (done (record { steps = n; cost = c; real′ = v; runs = x })) y)) (A .list) ∙ ap length (runs-front s _ answered) in
+      let j : k ≡ length (runnable (done (record { steps = n; cost = c; real′ = v; runs = x; searches′ = y })) (planOf (taskOf s))) =
+      ek ∙ ap (λ m. length (runnable (done (record { steps = n; cost = c; real′ = v; runs = x; searches′ = y })) m)) (A .list) ∙ ap length (runs-front s _ answered) in
       put-then
       (ap (λ y. y ++ (line planWord (length l ∷ c′ ∷ l) ++ line (verdictWord v) (k ∷ []))) (ap (runsText s) ew ∙ runsText-is)
       ∙ append-assoc (line reachedWord (factsReached (taskOf s) ∷ [])) (line relaxedWord (length (relaxedPlan (taskOf s)) ∷ relaxedPlan (taskOf s))) _

@@ -11,7 +11,7 @@ use Rattle.answers.specs.declared.Planned.the-variants.{Plan, Refused}
 
 -- the refusal, zeros where there is none
 abbrev pub refusalOf : Planned → Refusal
-refusalOf (Plan s c n v) = record { number = 0; place = 0 }
+refusalOf (Plan s c n k v) = record { number = 0; place = 0 }
 refusalOf (Refused f) = f
 
 -- the facts reached, and the steps; 0 after a refusal

@@ -118,6 +118,7 @@ fn write(bytes: &[u8], out: &mut [u8]) -> usize
         steps,
         cost,
         runs: _,
+        searches: _,
         real,
     } = answer
     else {

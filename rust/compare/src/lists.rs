@@ -92,10 +92,15 @@ fn forward_run(record: &[u8]) -> Vec<u16> {
     front(list)
 }
 
-fn relaxed_plan(record: &[u8]) -> Vec<u16> {
+pub fn relaxed_plan(record: &[u8]) -> Vec<u16> {
     let mut list = vec![0; 1024];
     let _ = entry::relax(record, &mut list);
     front(list)
+}
+
+/// The relaxed plan again and again.
+pub fn rounds(record: &[u8], len: usize) -> Vec<u16> {
+    relaxed_plan(record).into_iter().cycle().take(len).collect()
 }
 
 fn plan(record: &[u8]) -> Vec<u16> {

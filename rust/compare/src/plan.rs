@@ -3,11 +3,13 @@
 use compare::guard::Guarded;
 use compare::lent::Lent;
 use compare::lists;
-use compare::suite::{hex, list_hex, same, same_lent, Options};
+use compare::suite::{hex, list_hex, require, same, same_lent, same_of, Options};
 use generate::repair::{self, OTHERS};
-use generate::{gates, mixture, Random};
+use generate::searches::{Asked, Count, OTHERS as OTHER_COUNTS};
+use generate::{extremes, gates, mixture, Random};
 use mardiskos::lent::PlanResult;
 use reference::{entry, examples, record, search, Refusal, Task};
+use std::fmt::Debug;
 
 const COUNT: usize = 100_000;
 const MOST_ENTRIES: usize = 41_000;
@@ -18,9 +20,14 @@ const SEARCHED_STATES: usize = 500;
 const LEAST_GAINED: usize = 16;
 /// By each of the rules that come close to 6.7 one record in so many must have another plan.
 const LEAST_OTHERS: [usize; OTHERS.len()] = [8, 16, 80];
-/// Records with more actions or longer plans are left out of that count.
+/// By each of the counts that come close to 6.9 one record in so many must have another number.
+const LEAST_COUNTS: [usize; OTHER_COUNTS.len()] = [10, 60, 10, 5];
+/// Records with more actions or longer plans are left out of both.
 const COUNTED_ACTIONS: usize = 60;
 const COUNTED_STEPS: usize = 100;
+/// Two repairs must have more searches than 16 bits count; one is of a caller's list with so many entries.
+const MANY_SEARCHES: usize = 1 << 16;
+const MANY_ENTRIES: usize = 16_384;
 
 pub fn run(options: &Options) -> Result<String, String> {
     let mut plans = Plans {
@@ -31,13 +38,16 @@ pub fn run(options: &Options) -> Result<String, String> {
         work: Lent::new(MOST_ENTRIES),
         room: vec![0; MAX_STEPS],
         calls: 0,
+        most_searches: 0,
         planned: 0,
         searched: 0,
         gated: 0,
         gained: 0,
         others: [0; OTHERS.len()],
+        counts: [0; OTHER_COUNTS.len()],
     };
     plans.examples()?;
+    plans.many_searches()?;
     let records = options.count.unwrap_or(COUNT);
     for _ in 0..records {
         plans.compare_record()?;
@@ -54,6 +64,8 @@ struct Plans {
     /// Room for the longest plan.
     room: Vec<u16>,
     calls: usize,
+    /// Of one call.
+    most_searches: u32,
     planned: usize,
     searched: usize,
     /// Records in which an action that changes a black variable sets again a fact of another that it
@@ -62,6 +74,8 @@ struct Plans {
     gained: usize,
     /// Records whose plan would be another one by each of the rules that come close to 6.7.
     others: [usize; OTHERS.len()],
+    /// Records whose path searches would be another number by each of the counts that come close to 6.9.
+    counts: [usize; OTHER_COUNTS.len()],
 }
 
 impl Plans {
@@ -80,12 +94,34 @@ impl Plans {
         Ok(())
     }
 
+    /// Two served towers: one for the planner, with an insertion that alone has many searches, and one for
+    /// a caller's list with many insertions.
+    fn many_searches(&mut self) -> Result<(), String> {
+        let tower = extremes::served_tower(&mut self.random, 3, 22);
+        self.searched_often(&tower, None)?;
+        let tower = extremes::served_tower(&mut self.random, 2, 2);
+        let rounds = lists::rounds(&record::write(&tower), MANY_ENTRIES);
+        self.searched_often(&tower, Some(&rounds))
+    }
+
+    fn searched_often(&mut self, task: &Task, relaxed: Option<&[u16]>) -> Result<(), String> {
+        let bytes = record::write(task);
+        let answer = self.longest_plan(&bytes, relaxed);
+        let own = lists::relaxed_plan(&bytes);
+        let asked = repair::asked(task, relaxed.unwrap_or(&own)).unwrap();
+        let many = asked.searches(Count::Places) >= MANY_SEARCHES;
+        require(many, "too few searches", || input(&bytes, relaxed))?;
+        let searches = answer.map_or(0, |result| result.searches);
+        same_searches(&asked, searches, || input(&bytes, relaxed))?;
+        self.around(&bytes, relaxed, answer)
+    }
+
     fn compare_record(&mut self) -> Result<(), String> {
         let bytes = mixture::record(&mut self.random);
         let answer = self.longest_plan(&bytes, None);
         if let Ok(task) = record::read(&bytes) {
             self.count_gates(&task, answer);
-            self.count_rules(&bytes, &task, answer);
+            self.count_rules(&bytes, &task, answer)?;
             self.check_reference(&bytes, &task, answer)?;
             self.repairs(&bytes, &task)?;
         }
@@ -98,16 +134,18 @@ impl Plans {
         self.gained += usize::from(passes && gates::was_cyclic(task));
     }
 
+    /// Where something is inserted: what other rules for paths and other counts of searches give.
     fn count_rules(
         &mut self,
         bytes: &[u8],
         task: &Task,
         answer: Result<entry::PlanResult, Refusal>,
-    ) {
-        let steps = answer.map_or(0, |result| result.steps as usize);
-        let relaxed = entry::relax(bytes, &mut self.room).map_or(0, |steps| steps as usize);
-        if steps <= relaxed || steps > COUNTED_STEPS || task.action_count() > COUNTED_ACTIONS {
-            return;
+    ) -> Result<(), String> {
+        let Ok(entry::PlanResult { steps, searches, .. }) = answer else { return Ok(()) };
+        let steps = steps as usize;
+        let relaxed = entry::relax(bytes, &mut self.room).unwrap() as usize;
+        if steps == relaxed || steps > COUNTED_STEPS || task.action_count() > COUNTED_ACTIONS {
+            return Ok(());
         }
         let relaxed = self.room[..relaxed].to_vec();
         let mut plan = vec![0; steps];
@@ -116,22 +154,33 @@ impl Plans {
             let other = repair::repaired(task, &relaxed, rule).unwrap();
             *count += usize::from(other != plan);
         }
+        let asked = repair::asked(task, &relaxed).unwrap();
+        for (count, other) in self.counts.iter_mut().zip(OTHER_COUNTS) {
+            *count += usize::from(asked.searches(other) != searches as usize);
+        }
+        same_searches(&asked, searches, || input(bytes, None))
     }
 
-    /// What was compared, or that too few records have gates or tell the rules for paths apart.
+    /// What was compared, or that too few records have gates or tell rules and counts apart.
     fn summary(self, records: usize) -> Result<String, String> {
-        let Plans { calls, planned, searched, gated, gained, others, .. } = self;
+        let Plans { calls, most_searches, planned, searched, .. } = self;
+        let Plans { gated, gained, others, counts, .. } = self;
         let gates =
             format!("{gated} with gates set again, {gained} pass 7 only since that is no arc");
-        let counts: Vec<String> =
-            others.iter().zip(OTHERS).map(|(count, rule)| format!("{count} {rule:?}")).collect();
-        let rules = format!("other plans by other rules: {}", counts.join(", "));
-        let few = others.iter().zip(LEAST_OTHERS).any(|(&count, least)| count < records / least);
-        if few || gained < records / LEAST_GAINED {
-            return Err(format!("too few of {records} records: {gates}; {rules}"));
+        let rules = format!("other plans by other rules: {}", listed(&others, &OTHERS));
+        let numbers = format!("other searches by other counts: {}", listed(&counts, &OTHER_COUNTS));
+        let few = |counts: &[usize], least: &[usize]| {
+            counts.iter().zip(least).any(|(&count, least)| count < records / least)
+        };
+        if few(&others, &LEAST_OTHERS)
+            || few(&counts, &LEAST_COUNTS)
+            || few(&[gained], &[LEAST_GAINED])
+        {
+            return Err(format!("too few of {records} records: {gates}; {rules}; {numbers}"));
         }
         let answers = format!("{planned} with a plan, {searched} searched");
-        Ok(format!("{records} records ({answers}; {gates}; {rules}), {calls} calls"))
+        let calls = format!("{calls} calls with up to {most_searches} searches");
+        Ok(format!("{records} records ({answers}; {gates}; {rules}; {numbers}), {calls}"))
     }
 
     /// The reference's answer with all the room that counts.
@@ -153,6 +202,10 @@ impl Plans {
     fn repairs(&mut self, bytes: &[u8], task: &Task) -> Result<(), String> {
         let relaxed = lists::relaxed(&mut self.random, task, bytes);
         let answer = self.longest_plan(bytes, Some(&relaxed));
+        let within = answer.is_ok_and(|result| is_within(task, relaxed.len(), result));
+        require(within || answer.is_err(), "repair of the reference beyond its ceilings", || {
+            input(bytes, Some(&relaxed))
+        })?;
         self.around(bytes, Some(&relaxed), answer)
     }
 
@@ -190,10 +243,8 @@ impl Plans {
         self.work.refill(&mut self.random, work);
         let library = self.library(bytes, relaxed);
         let reference = plan_result(self.reference(bytes, relaxed));
-        let input = || {
-            let list = relaxed.map_or("own".to_string(), list_hex);
-            format!("record: {}\nrelaxed plan: {list}\nlent: {plan} and {work}", hex(bytes))
-        };
+        self.most_searches = self.most_searches.max(library.searches);
+        let input = || format!("{}\nlent: {plan} and {work}", input(bytes, relaxed));
         same(library, reference, input)?;
         same_lent("plan list", self.plan.difference(), input)?;
         same_lent("work list", self.work.difference(), input)
@@ -222,7 +273,7 @@ impl Plans {
         }
     }
 
-    /// The reference's own answer: a red-black plan within n × P steps, or none by search.
+    /// The reference's own answer: a red-black plan within its ceilings, or none by search.
     fn check_reference(
         &mut self,
         bytes: &[u8],
@@ -240,9 +291,7 @@ impl Plans {
         };
         let searched = search::has_red_black_plan(task, SEARCHED_STATES);
         self.searched += usize::from(searched.is_some());
-        same(searched.unwrap_or(found), found, || {
-            format!("search (first) and reference differ\nrecord: {}", hex(bytes))
-        })
+        same_of(["search", "reference"], [searched.unwrap_or(found), found], || input(bytes, None))
     }
 
     fn check_plan(
@@ -255,19 +304,43 @@ impl Plans {
         entry::plan(bytes, &mut plan, &mut self.room).unwrap();
         let judged = entry::judge(bytes, &plan).unwrap();
         let relaxed = entry::relax(bytes, &mut self.room).unwrap();
-        let bound = u128::from(relaxed) * black_states(task);
         let sound = judged.red_black.plan
             && judged.real.plan == result.real
             && judged.real.steps == result.runs
-            && u128::from(result.steps) <= bound;
-        same(sound, true, || format!("unsound plan of the reference\nrecord: {}", hex(bytes)))
+            && is_within(task, relaxed as usize, result);
+        require(sound, "unsound plan of the reference", || input(bytes, None))
     }
 }
 
-/// P: the product of the black variables' counts of values.
-fn black_states(task: &Task) -> u128 {
-    let black = task.variables.iter().filter(|variable| variable.black);
-    black.fold(1, |product: u128, variable| product.saturating_mul(u128::from(variable.values)))
+/// Record and relaxed plan, if it is a caller's.
+fn input(bytes: &[u8], relaxed: Option<&[u16]>) -> String {
+    let list = relaxed.map_or("own".to_string(), list_hex);
+    format!("record: {}\nrelaxed plan: {list}", hex(bytes))
+}
+
+/// The searches of the reference are to be those of the repair done word by word.
+fn same_searches(
+    asked: &Asked,
+    searches: u32,
+    input: impl FnOnce() -> String,
+) -> Result<(), String> {
+    let answers = [asked.searches(Count::Places), searches as usize];
+    same_of(["searches word by word", "searches of the reference"], answers, input)
+}
+
+/// Whether a repair of so many actions has at most n × P steps and n × P × m searches.
+fn is_within(task: &Task, actions: usize, result: entry::PlanResult) -> bool {
+    let black = || task.variables.iter().filter(|variable| variable.black);
+    let times = |product: u128, factor: u128| product.saturating_mul(factor);
+    let steps = black().map(|variable| variable.values.into()).fold(actions as u128, times);
+    let searches = times(steps, black().count() as u128);
+    u128::from(result.steps) <= steps && u128::from(result.searches) <= searches
+}
+
+/// Each count with its name.
+fn listed(counts: &[usize], names: &[impl Debug]) -> String {
+    let named = counts.iter().zip(names).map(|(count, name)| format!("{count} {name:?}"));
+    named.collect::<Vec<_>>().join(", ")
 }
 
 fn capacities(random: &mut Random, steps: usize) -> [(usize, usize); 5] {
@@ -290,6 +363,7 @@ fn plan_result(answer: Result<entry::PlanResult, Refusal>) -> PlanResult {
             steps: result.steps,
             cost: result.cost,
             runs: result.runs,
+            searches: result.searches,
             real: result.real,
         },
     }

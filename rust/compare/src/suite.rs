@@ -1,3 +1,4 @@
+use std::fmt::Debug;
 use std::time::{SystemTime, UNIX_EPOCH};
 
 /// A suite answers what it compared, or the first fault.
@@ -42,15 +43,33 @@ pub fn list_hex(list: &[u16]) -> String {
 }
 
 /// Fails with both answers and the input if they differ.
-pub fn same<T: PartialEq + std::fmt::Debug>(
+pub fn same<T: PartialEq + Debug>(
     library: T,
     reference: T,
     input: impl FnOnce() -> String,
 ) -> Result<(), String> {
-    if library == reference {
+    same_of(["library", "reference"], [library, reference], input)
+}
+
+/// The same for the answers of any two.
+pub fn same_of<T: PartialEq + Debug>(
+    names: [&str; 2],
+    answers: [T; 2],
+    input: impl FnOnce() -> String,
+) -> Result<(), String> {
+    let ([one, other], [first, second]) = (names, &answers);
+    if first == second {
         return Ok(());
     }
-    Err(format!("difference\nlibrary: {library:?}\nreference: {reference:?}\n{}", input()))
+    Err(format!("difference\n{one}: {first:?}\n{other}: {second:?}\n{}", input()))
+}
+
+/// Fails with the fault and the input unless what is asked of our own side holds.
+pub fn require(holds: bool, fault: &str, input: impl FnOnce() -> String) -> Result<(), String> {
+    if holds {
+        return Ok(());
+    }
+    Err(format!("{fault}\n{}", input()))
 }
 
 /// Fails with the first entry in which something lent differs afterwards.

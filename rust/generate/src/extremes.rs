@@ -2,6 +2,7 @@
 
 use crate::random::Random;
 use crate::records::cost;
+use crate::stores;
 use reference::{Fact, Task, Variable};
 
 const VARIABLES: usize = 64;
@@ -223,6 +224,23 @@ pub fn gates(random: &mut Random, actions: usize) -> Task {
             [Fact::new(mover, value)].into_iter().chain(gates.clone()).chain([own]).collect()
         };
         task.push(cost(random), &facts(back), &facts(1 - back));
+    }
+    task
+}
+
+/// A tower with two boxes and 14 black servants that never move. Every action needs as many of them as it
+/// has room for and asks for a path of each, so that there are many times more searches than steps.
+pub fn served_tower(random: &mut Random, movers: usize, places: usize) -> Task {
+    let tower = stores::tower(random, movers, places, 2);
+    let mut variables = tower.variables.clone();
+    let servants: Vec<Fact> =
+        (variables.len()..).map(|v| Fact::new(v, 0)).take(FACTS - 1).collect();
+    let still = |values| Variable { values, ..variable(true, None) };
+    variables.extend([1, 2].into_iter().cycle().map(still).take(servants.len()));
+    let mut task = Task::new(variables);
+    for action in tower.actions() {
+        let needs = action.preconditions.iter().chain(&servants).copied().take(FACTS);
+        task.push(action.cost, &needs.collect::<Vec<_>>(), action.effects);
     }
     task
 }

@@ -11,6 +11,7 @@ pub mod random;
 pub mod records;
 pub mod repair;
 pub mod ring;
+pub mod searches;
 pub mod stores;
 
 pub use random::Random;

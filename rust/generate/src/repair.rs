@@ -1,6 +1,7 @@
 //! The repair as the specification words it: variable by variable through the list built so far, with each
 //! path searched anew, by the rule of 6.7 or by one that comes close to it.
 
+use crate::searches::{Asked, Place, Stop};
 use reference::painting::painting;
 use reference::{Fact, Task};
 use std::cmp::Ordering;
@@ -70,13 +71,22 @@ fn value(facts: &[Fact], v: usize) -> Option<usize> {
 
 /// The repair of a relaxed plan, if the painting is accepted.
 pub fn repaired(task: &Task, relaxed: &[u16], rule: Rule) -> Option<Vec<u16>> {
+    Some(repair(task, relaxed, rule)?.plan)
+}
+
+/// Where the repair of a relaxed plan asks for paths, if the painting is accepted.
+pub fn asked(task: &Task, relaxed: &[u16]) -> Option<Asked> {
+    Some(repair(task, relaxed, Rule::Cheapest)?.asked)
+}
+
+fn repair<'a>(task: &'a Task, relaxed: &[u16], rule: Rule) -> Option<Repair<'a>> {
     let mut repair = Repair::new(task, painting(task).ok()?.order, rule);
     for &number in relaxed {
         repair.restore(task.preconditions(number.into()));
         repair.apply(number);
     }
     repair.restore(&task.goals().collect::<Vec<_>>());
-    Some(repair.plan)
+    Some(repair)
 }
 
 struct Repair<'a> {
@@ -88,13 +98,15 @@ struct Repair<'a> {
     /// Red facts held, and black facts held at any time.
     held: Vec<u64>,
     plan: Vec<u16>,
+    asked: Asked,
 }
 
 impl<'a> Repair<'a> {
     fn new(task: &'a Task, order: Vec<usize>, rule: Rule) -> Self {
         let current: Vec<usize> = task.variables.iter().map(|v| v.initial.into()).collect();
         let held = current.iter().map(|&value| 1 << value).collect();
-        Repair { task, rule, order, current, held, plan: Vec::new() }
+        let asked = Asked::new(order.len());
+        Repair { task, rule, order, current, held, plan: Vec::new(), asked }
     }
 
     fn apply(&mut self, number: u16) {
@@ -108,30 +120,33 @@ impl<'a> Repair<'a> {
     fn restore(&mut self, wanted: &[Fact]) {
         let black = |fact: &Fact| self.task.variables[fact.variable()].black;
         let unmet = |fact: &Fact| black(fact) && self.current[fact.variable()] != fact.value();
-        if wanted.iter().any(unmet) {
-            let moves = self.moves(wanted);
-            moves.into_iter().for_each(|number| self.apply(number));
-        }
+        let unmet = wanted.iter().any(unmet);
+        let (moves, places) = self.moves(wanted);
+        self.asked.stops.push(Stop { unmet, places });
+        moves.into_iter().for_each(|number| self.apply(number));
     }
 
-    fn moves(&self, wanted: &[Fact]) -> Vec<u16> {
-        let mut list: Vec<u16> = Vec::new();
+    /// The moves to what is wanted, none if nothing is unmet, and the places where a path is asked for.
+    fn moves(&self, wanted: &[Fact]) -> (Vec<u16>, Vec<Place>) {
+        let (mut list, mut places): (Vec<u16>, Vec<Place>) = Default::default();
         for &v in &self.order {
             let mut at = self.current[v];
             let mut next = Vec::new();
             for &entry in &list {
                 if let Some(needed) = value(self.task.preconditions(entry.into()), v) {
+                    places.push(Place { from: at, to: Fact::new(v, needed) });
                     next.extend_from_slice(self.path(v, at, needed).actions());
                     at = needed;
                 }
                 next.push(entry);
             }
             if let Some(needed) = value(wanted, v) {
+                places.push(Place { from: at, to: Fact::new(v, needed) });
                 next.extend_from_slice(self.path(v, at, needed).actions());
             }
             list = next;
         }
-        list
+        (list, places)
     }
 
     fn usable(&self, number: usize) -> bool {
@@ -141,10 +156,13 @@ impl<'a> Repair<'a> {
 
     /// Paths to all values grow until none is bettered.
     fn path(&self, v: usize, from: usize, to: usize) -> Path {
+        if from == to {
+            return Path::empty(from);
+        }
         let arcs = self.arcs(v);
         let mut best = vec![None; self.task.variables[v].values.into()];
         best[from] = Some(Path::empty(from));
-        let mut bettered = from != to;
+        let mut bettered = true;
         while std::mem::take(&mut bettered) {
             for at in 0..best.len() {
                 let Some(path): Option<Path> = best[at] else { continue };

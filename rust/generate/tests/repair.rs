@@ -1,17 +1,24 @@
-//! The reference's repair is the one that the specification words.
+//! The reference's repair is the one that the specification words, and its searches are those asked for there.
 
-use generate::repair::{repaired, Rule};
-use generate::{mixture, prices, Random};
-use reference::entry::{self, MAX_STEPS};
-use reference::{record, Task};
+use generate::repair::{asked, repaired, Rule};
+use generate::searches::{Count, OTHERS};
+use generate::{extremes, mixture, prices, Random};
+use reference::entry::{self, PlanResult, MAX_STEPS};
+use reference::{examples, record, Task};
 
 /// Plan and relaxed plan, where the plan has some steps and not too many.
 fn planned(task: &Task) -> Option<(Vec<u16>, Vec<u16>)> {
+    let (result, plan, relaxed) = answer(task)?;
+    (result.steps > 0).then_some((plan, relaxed))
+}
+
+/// The planner's answer, plan and relaxed plan, where the plan has not too many steps.
+fn answer(task: &Task) -> Option<(PlanResult, Vec<u16>, Vec<u16>)> {
     let bytes = record::write(task);
     let (mut plan, mut work, mut relaxed) = ([0; 400], [0; 400], [0; 1024]);
-    let steps = entry::plan(&bytes, &mut plan, &mut work).ok()?.steps as usize;
+    let result = entry::plan(&bytes, &mut plan, &mut work).ok()?;
     let kept = entry::relax(&bytes, &mut relaxed).unwrap() as usize;
-    (steps > 0).then(|| (plan[..steps].to_vec(), relaxed[..kept].to_vec()))
+    Some((result, plan[..result.steps as usize].to_vec(), relaxed[..kept].to_vec()))
 }
 
 #[test]
@@ -59,4 +66,94 @@ fn without_costs_moves_are_counted() {
         others += usize::from(fewest != Some(cheapest));
     }
     assert!(compared > 2000 && others > 500, "{compared} {others}");
+}
+
+/// n × P × m.
+fn ceiling(task: &Task, relaxed: &[u16]) -> u128 {
+    let black: Vec<u128> =
+        task.variables.iter().filter(|v| v.black).map(|v| v.values.into()).collect();
+    let states = black.iter().fold(1, |product: u128, &values| product.saturating_mul(values));
+    states.saturating_mul((relaxed.len() * black.len()) as u128)
+}
+
+#[test]
+fn searches_are_as_worded() {
+    let random = &mut Random::new(53);
+    let (mut compared, mut others) = (0, [0; OTHERS.len()]);
+    for _ in 0..10_000 {
+        let task = mixture::task(random);
+        if task.action_count() > 200 {
+            continue;
+        }
+        let Some((result, _, relaxed)) = answer(&task) else { continue };
+        let (asked, searches) = (asked(&task, &relaxed).unwrap(), result.searches as usize);
+        assert_eq!(asked.searches(Count::Places), searches);
+        assert!(searches as u128 <= ceiling(&task, &relaxed));
+        for (count, other) in others.iter_mut().zip(OTHERS) {
+            *count += usize::from(asked.searches(other) != searches);
+        }
+        compared += 1;
+    }
+    assert!(compared > 5000 && others.iter().all(|&count| count > 200), "{compared} {others:?}");
+}
+
+/// A caller's list: the relaxed plan, and behind it actions of it again.
+#[test]
+fn searches_of_callers_lists_are_as_worded() {
+    let random = &mut Random::new(54);
+    let (mut plan, mut work) = (vec![0; MAX_STEPS], vec![0; MAX_STEPS]);
+    let (mut compared, mut more) = (0, 0);
+    for _ in 0..3000 {
+        let task = mixture::small_task(random);
+        let Some((planned, _, mut list)) = answer(&task) else { continue };
+        let again: Vec<u16> = list.iter().copied().filter(|_| random.chance(1, 2)).collect();
+        list.extend(again.iter().rev());
+        let bytes = record::write(&task);
+        let result = entry::repair(&bytes, &list, &mut plan, &mut work).unwrap();
+        let asked = asked(&task, &list).unwrap();
+        assert_eq!(asked.searches(Count::Places), result.searches as usize);
+        assert!(u128::from(result.searches) <= ceiling(&task, &list));
+        compared += 1;
+        more += usize::from(result.searches > planned.searches);
+    }
+    assert!(compared > 1500 && more > 300, "{compared} {more}");
+}
+
+/// More than 16 bits count: in one insertion, and in many of a caller's list.
+#[test]
+fn many_searches_are_as_worded() {
+    let random = &mut Random::new(55);
+    let (mut plan, mut work) = (vec![0; MAX_STEPS], vec![0; MAX_STEPS]);
+    let mut searched = |task: &Task, rounds: usize| {
+        let bytes = record::write(task);
+        let kept = entry::relax(&bytes, &mut plan).unwrap() as usize;
+        let list = plan[..kept].repeat(rounds);
+        let result = entry::repair(&bytes, &list, &mut plan, &mut work).unwrap();
+        let asked = asked(task, &list).unwrap();
+        assert_eq!(asked.searches(Count::Places), result.searches as usize);
+        let most = asked.stops.iter().map(|stop| stop.places.len()).max().unwrap();
+        (list.len(), result.steps, result.searches, most)
+    };
+    let own = searched(&extremes::served_tower(random, 3, 22), 1);
+    assert_eq!(own, (65, 26_987, 377_522, 123_787));
+    let callers = searched(&extremes::served_tower(random, 2, 2), 4096);
+    assert_eq!(callers, (16_384, 24_576, 229_362, 29));
+}
+
+#[test]
+fn the_lift_tells_counts_apart() {
+    let task = examples::lift();
+    let asked = asked(&task, &[0, 2, 4]).unwrap();
+    assert_eq!(asked.searches(Count::Places), 6);
+    assert_eq!(OTHERS.map(|count| asked.searches(count)), [3, 5, 4, 7]);
+    assert_eq!(ceiling(&task, &[0, 2, 4]), 24);
+}
+
+/// Without relaxed actions there is no search, whatever the goals.
+#[test]
+fn nothing_to_do_nothing_to_search() {
+    let task = examples::goal_met();
+    let asked = asked(&task, &[]).unwrap();
+    assert_eq!(asked.searches(Count::Places), 0);
+    assert_eq!(asked.searches(Count::WithoutInsertion), 1);
 }

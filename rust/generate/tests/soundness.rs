@@ -58,7 +58,7 @@ fn repair_is_stable() {
         let (Ok(result), list) = plan(&task) else { continue };
         let (mut again, mut work) = (list.clone(), list.clone());
         let answer = entry::repair(&record::write(&task), &list, &mut again, &mut work);
-        assert_eq!((answer, again), (Ok(result), list));
+        assert_eq!((answer, again), (Ok(PlanResult { searches: 0, ..result }), list));
     }
 }
 

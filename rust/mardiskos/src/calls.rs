@@ -51,6 +51,10 @@ pub struct Plan {
     pub cost: u32,
     /// How many steps run for real until one does not apply.
     pub runs: usize,
+    /// How many path searches the repair made: the places where it asked for a path, also where that has no moves
+    /// or was found before. At most n × P × m, with n actions in the relaxed plan, P the product of the black variables'
+    /// counts of values, and m black variables.
+    pub searches: u32,
     /// Whether it is a plan in a real run.
     pub real: bool,
 }
@@ -180,6 +184,9 @@ pub fn relax(record: &[u8]) -> Result<Vec<u16>, Refusal> {
 ///
 /// let record = std::fs::read("../../examples/detour.record")?;
 /// assert_eq!(mardiskos::plan(&record)?.steps, [1, 2, 6, 3, 4]);
+///
+/// let record = std::fs::read("../../examples/lift.record")?;
+/// assert_eq!(mardiskos::plan(&record)?.searches, 6);
 /// # Ok(())
 /// # }
 /// ```
@@ -274,6 +281,7 @@ fn plan_of(result: lent::PlanResult, list: Vec<u16>) -> Result<Plan, Refusal> {
         steps: front(list, result.steps),
         cost: result.cost,
         runs: result.runs as usize,
+        searches: result.searches,
         real: result.real,
     })
 }

@@ -8,7 +8,7 @@ use crate::newest::newest_values;
 use crate::painting::Painting;
 use crate::record;
 use crate::refusal::Refusal;
-use crate::repair::Repair;
+use crate::repair::{Repair, Repaired};
 use crate::state::State;
 use crate::task::Task;
 use std::cell::RefCell;
@@ -30,6 +30,8 @@ pub struct PlanResult {
     pub cost: u32,
     /// The steps that run for real, from the front (7.8).
     pub runs: u32,
+    /// The path searches of the repair (6.9).
+    pub searches: u32,
     pub real: bool,
 }
 
@@ -131,8 +133,8 @@ pub fn repair(
         painting.check(task)?;
         check_length(relaxed)?;
         check_relaxed_plan(task, relaxed)?;
-        let steps = repair.run(task, painting, relaxed, &mut plan[..capacity])?;
-        Ok(verdict(task, painting.black, &plan[..steps]))
+        let repaired = repair.run(task, painting, relaxed, &mut plan[..capacity])?;
+        Ok(verdict(task, painting.black, plan, repaired))
     });
     fill_rest(plan, answer.map_or(0, |result| result.steps));
     work.fill(NO_ENTRY);
@@ -146,8 +148,8 @@ pub fn plan(record: &[u8], plan: &mut [u16], work: &mut [u16]) -> Result<PlanRes
         painting.check(task)?;
         forward.run(task)?;
         forward.keep_needed(task);
-        let steps = repair.run(task, painting, &forward.actions, &mut plan[..capacity])?;
-        Ok(verdict(task, painting.black, &plan[..steps]))
+        let repaired = repair.run(task, painting, &forward.actions, &mut plan[..capacity])?;
+        Ok(verdict(task, painting.black, plan, repaired))
     });
     fill_rest(plan, answer.map_or(0, |result| result.steps));
     work.fill(NO_ENTRY);
@@ -201,9 +203,11 @@ fn fit(list: &[u16], plan: &mut [u16]) -> Result<u32, Refusal> {
     Ok(list.len() as u32)
 }
 
-fn verdict(task: &Task, black: u64, plan: &[u16]) -> PlanResult {
-    let (real, cost) = real_run(task, plan, black);
-    PlanResult { steps: plan.len() as u32, cost, runs: real.steps, real: real.plan }
+fn verdict(task: &Task, black: u64, plan: &[u16], repaired: Repaired) -> PlanResult {
+    let Repaired { steps, searches } = repaired;
+    let (real, cost) = real_run(task, &plan[..steps], black);
+    let (steps, searches) = (steps as u32, searches as u32);
+    PlanResult { steps, cost, runs: real.steps, searches, real: real.plan }
 }
 
 /// 7.4 and 7.5: after success 65,535 stands behind the plan; after a refusal everywhere.

@@ -148,6 +148,18 @@ pub fn diamond() -> Task {
     errand(4, &[&out[..], &back, &returns].concat(), 3)
 }
 
+/// A lift, variable 1, that moves and is loaded only while its switch, variable 0, is on.
+pub fn lift() -> Task {
+    let (switch, lift) = (variable(2, true, 0, Some(0)), variable(2, true, 0, Some(1)));
+    let mut task = Task::new(vec![switch, lift, variable(2, false, 0, Some(1))]);
+    push(&mut task, 1, &[], &[(0, 1)]);
+    push(&mut task, 1, &[], &[(0, 0)]);
+    push(&mut task, 2, &[(0, 1)], &[(1, 1)]);
+    push(&mut task, 2, &[(0, 1)], &[(1, 0)]);
+    push(&mut task, 3, &[(0, 1), (1, 0)], &[(2, 1)]);
+    task
+}
+
 /// One action with two effects on one variable, which no record may have.
 pub fn repeated_variable() -> Task {
     let mut task = Task::new(vec![variable(2, false, 0, None)]);
@@ -188,6 +200,7 @@ pub fn files() -> Vec<(&'static str, Vec<u8>)> {
         ("detour", detour()),
         ("ring", ring()),
         ("diamond", diamond()),
+        ("lift", lift()),
         ("repeated-variable", repeated_variable()),
         ("variables-64", sized(64, 0, 0)),
         ("variables-65", sized(65, 0, 0)),

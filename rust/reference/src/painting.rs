@@ -149,6 +149,12 @@ impl Move {
         Fact::new(self.variable as usize, self.to as usize)
     }
 
+    /// The fact that it needs of its variable.
+    #[inline(always)]
+    pub fn source(self) -> Option<Fact> {
+        (self.from != ANYWHERE).then(|| Fact::new(self.variable as usize, self.from as usize))
+    }
+
     #[inline(always)]
     pub fn leaves(self, value: u8) -> bool {
         self.from == value || self.from == ANYWHERE

@@ -1,13 +1,14 @@
 //! Relaxed plan repair (SPECIFICATION, Repair).
 
 use crate::index::{Numbers, Waiting, ACTIONS};
-use crate::painting::{Move, Painting, ANYWHERE};
+use crate::painting::{Move, Painting};
 use crate::paths::Paths;
 use crate::refusal::Refusal;
 use crate::room::{table, Table};
 use crate::set::contains;
 use crate::state::State;
 use crate::task::{Fact, Task};
+use std::ops::Range;
 
 /// Room for repairs.
 pub struct Repair {
@@ -18,6 +19,14 @@ pub struct Repair {
     held: State,
     /// Actions of the plan applied for the first time, whose effects are not held yet.
     fresh: Vec<u16>,
+}
+
+/// What a repair made.
+#[derive(Default)]
+pub struct Repaired {
+    pub steps: usize,
+    /// The path searches (6.9).
+    pub searches: usize,
 }
 
 impl Repair {
@@ -31,15 +40,15 @@ impl Repair {
         }
     }
 
-    /// Repairs a relaxed plan into the list, whose length is the capacity; answers the steps, or 11
-    /// as soon as they do not fit: steps are only added, never taken away.
+    /// Repairs a relaxed plan into the list, whose length is the capacity; answers 11 as soon as the
+    /// steps do not fit: they are only added, never taken away.
     pub fn run(
         &mut self,
         task: &Task,
         painting: &Painting,
         relaxed: &[u16],
         plan: &mut [u16],
-    ) -> Result<usize, Refusal> {
+    ) -> Result<Repaired, Refusal> {
         let capacity = plan.len();
         let full = |_: Full| Refusal::new(11, capacity);
         if painting.black == 0 {
@@ -48,13 +57,13 @@ impl Repair {
         let mut course = Course::start(self, task, painting, plan);
         relaxed.iter().try_for_each(|&number| course.take(number)).map_err(full)?;
         course.finish().map_err(full)?;
-        Ok(course.steps)
+        Ok(course.done)
     }
 }
 
-fn copy(relaxed: &[u16], plan: &mut [u16]) -> Result<usize, Full> {
+fn copy(relaxed: &[u16], plan: &mut [u16]) -> Result<Repaired, Full> {
     plan.get_mut(..relaxed.len()).ok_or(Full)?.copy_from_slice(relaxed);
-    Ok(relaxed.len())
+    Ok(Repaired { steps: relaxed.len(), searches: 0 })
 }
 
 /// For each action its black preconditions on other variables than the moved one, in the order of
@@ -88,7 +97,7 @@ impl Supports {
     }
 
     #[inline(always)]
-    fn places(&self, number: u16) -> std::ops::Range<usize> {
+    fn places(&self, number: u16) -> Range<usize> {
         let number = number as usize % ACTIONS;
         self.first[number] as usize..self.first[number + 1] as usize
     }
@@ -100,7 +109,7 @@ struct Course<'a> {
     painting: &'a Painting,
     room: &'a mut Repair,
     plan: &'a mut [u16],
-    steps: usize,
+    done: Repaired,
     /// The value of each black variable.
     current: [u8; 64],
     /// Actions of the plan so far. One that was applied before adds nothing to what is held.
@@ -125,7 +134,8 @@ impl<'a> Course<'a> {
         let mut current = [0; 64];
         task.variables.iter().zip(&mut current).for_each(|(v, now)| *now = v.initial);
         let applied = Numbers::default();
-        Course { task, painting, room, plan, steps: 0, current, applied, prepared: false }
+        let done = Repaired::default();
+        Course { task, painting, room, plan, done, current, applied, prepared: false }
     }
 
     #[cold]
@@ -153,13 +163,12 @@ impl<'a> Course<'a> {
     #[inline(always)]
     fn take(&mut self, number: u16) -> Result<(), Full> {
         let moved = self.painting.moves[number as usize % ACTIONS];
-        if let Some(Move { variable, from, .. }) = moved {
-            let source = Fact::new(variable as usize, from as usize);
-            if from != ANYWHERE && !self.is_at(source) {
-                self.reach(source)?;
-            }
+        let source = moved.and_then(Move::source);
+        let supports = &self.room.supports.facts[self.room.supports.places(number)];
+        let unmet = |fact: Fact| !self.is_at(fact);
+        if source.is_some_and(unmet) || supports.iter().copied().any(unmet) {
+            self.insert(source, number)?;
         }
-        self.support(number)?;
         self.push(number)?;
         if let Some(moved) = moved {
             self.current[moved.variable as usize % 64] = moved.to;
@@ -170,21 +179,39 @@ impl<'a> Course<'a> {
         Ok(())
     }
 
+    /// Moves to all that an action wants.
+    #[inline(never)]
+    fn insert(&mut self, source: Option<Fact>, number: u16) -> Result<(), Full> {
+        let places = self.room.supports.places(number);
+        self.done.searches += places.len() + usize::from(source.is_some());
+        if let Some(source) = source.filter(|&source| !self.is_at(source)) {
+            self.reach(source)?;
+        }
+        self.support(places)
+    }
+
     /// Moves to the black goals.
     fn finish(&mut self) -> Result<(), Full> {
+        let (before, mut goals) = (self.done.steps, 0);
         for &v in &self.painting.order {
             let Some(goal) = self.task.variables[v].goal else { continue };
             let goal = Fact::new(v, goal as usize);
+            goals += 1;
             if !self.is_at(goal) {
                 self.reach(goal)?;
             }
+        }
+        if self.done.steps > before {
+            self.done.searches += goals;
         }
         Ok(())
     }
 
     /// Appends the path of a black variable to a value, before each move the paths of what it needs.
     /// Variables come clients first and no path needs what a client moves, so the list is the one
-    /// that going through it variable by variable gives.
+    /// that going through it variable by variable gives. That way each move is met once for each
+    /// black variable that it needs beside its own, and these are the searches counted here; to them come
+    /// those for what the insertion wants.
     fn reach(&mut self, to: Fact) -> Result<(), Full> {
         if !self.prepared {
             self.prepare();
@@ -193,7 +220,9 @@ impl<'a> Course<'a> {
         let row = self.room.paths.row(self.current[v] as usize, to);
         while !self.is_at(to) {
             let (number, value) = self.room.paths.next(row, self.current[v] as usize);
-            self.support(number)?;
+            let places = self.room.supports.places(number);
+            self.done.searches += places.len();
+            self.support(places)?;
             self.push(number)?;
             self.current[v] = value as u8;
         }
@@ -201,8 +230,8 @@ impl<'a> Course<'a> {
     }
 
     #[inline(always)]
-    fn support(&mut self, number: u16) -> Result<(), Full> {
-        for place in self.room.supports.places(number) {
+    fn support(&mut self, places: Range<usize>) -> Result<(), Full> {
+        for place in places {
             let fact = self.room.supports.facts[place];
             if !self.is_at(fact) {
                 self.reach(fact)?;
@@ -213,8 +242,8 @@ impl<'a> Course<'a> {
 
     #[inline(always)]
     fn push(&mut self, number: u16) -> Result<(), Full> {
-        *self.plan.get_mut(self.steps).ok_or(Full)? = number;
-        self.steps += 1;
+        *self.plan.get_mut(self.done.steps).ok_or(Full)? = number;
+        self.done.steps += 1;
         if self.applied.insert(number as usize) {
             self.room.fresh.push(number);
         }

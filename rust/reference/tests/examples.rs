@@ -27,7 +27,7 @@ fn refused(task: &Task) -> (u8, u32) {
 
 #[test]
 fn two_shelves() {
-    let expected = PlanResult { steps: 4, cost: 10, runs: 4, real: true };
+    let expected = PlanResult { steps: 4, cost: 10, runs: 4, searches: 1, real: true };
     let (answer, list) = plan(&examples::two_shelves(), 6, 5);
     assert_eq!(answer, Ok(expected));
     assert_eq!(list, [0, 2, 1, 3, REST, REST]);
@@ -51,7 +51,7 @@ fn two_shelves_with_an_action_missing() {
 
 #[test]
 fn lamp() {
-    let none = PlanResult { steps: 0, cost: 0, runs: 0, real: true };
+    let none = PlanResult { steps: 0, cost: 0, runs: 0, searches: 0, real: true };
     assert_eq!(plan(&examples::lamp(1), 1, 1).0, Ok(none));
     assert_eq!(refused(&examples::lamp(2)), (8, 0));
 }
@@ -71,28 +71,28 @@ fn no_bytes() {
 
 #[test]
 fn goal_met_at_the_start() {
-    let none = PlanResult { steps: 0, cost: 0, runs: 0, real: true };
+    let none = PlanResult { steps: 0, cost: 0, runs: 0, searches: 0, real: true };
     assert_eq!(plan(&examples::goal_met(), 0, 0), (Ok(none), vec![]));
 }
 
 #[test]
 fn tray() {
     let (answer, list) = plan(&examples::tray(), 3, 3);
-    assert_eq!(answer, Ok(PlanResult { steps: 2, cost: 2, runs: 1, real: false }));
+    assert_eq!(answer, Ok(PlanResult { steps: 2, cost: 2, runs: 1, searches: 0, real: false }));
     assert_eq!(list, [0, 1, REST]);
 }
 
 #[test]
 fn clients_come_before_their_servants() {
     let (answer, list) = plan(&examples::door(), 8, 8);
-    assert_eq!(answer, Ok(PlanResult { steps: 7, cost: 14, runs: 7, real: true }));
+    assert_eq!(answer, Ok(PlanResult { steps: 7, cost: 14, runs: 7, searches: 5, real: true }));
     assert_eq!(list, [0, 2, 1, 4, 0, 3, 1, REST]);
 }
 
 #[test]
 fn inserted_moves_add_red_facts() {
     let (answer, list) = plan(&examples::lit_return(), 6, 6);
-    assert_eq!(answer, Ok(PlanResult { steps: 5, cost: 13, runs: 5, real: true }));
+    assert_eq!(answer, Ok(PlanResult { steps: 5, cost: 13, runs: 5, searches: 2, real: true }));
     assert_eq!(list, [1, 3, 2, 4, 0, REST]);
 }
 
@@ -100,7 +100,7 @@ fn inserted_moves_add_red_facts() {
 fn cheap_comes_before_low_numbered() {
     let task = examples::two_shelves_with_4();
     let (answer, list) = plan(&task, 5, 5);
-    assert_eq!(answer, Ok(PlanResult { steps: 4, cost: 9, runs: 4, real: true }));
+    assert_eq!(answer, Ok(PlanResult { steps: 4, cost: 9, runs: 4, searches: 1, real: true }));
     assert_eq!(list, [4, 2, 1, 3, REST]);
     let expected = "reached 5\nrelaxed 3 4 2 3\nplan 4 9 4 2 1 3\nreal 4\n";
     assert_eq!(listing::listing(&record::write(&task)), expected);
@@ -110,7 +110,7 @@ fn cheap_comes_before_low_numbered() {
 fn a_gate_that_is_needed_and_set_again_is_accepted() {
     let task = examples::gate();
     let (answer, list) = plan(&task, 8, 8);
-    assert_eq!(answer, Ok(PlanResult { steps: 7, cost: 14, runs: 7, real: true }));
+    assert_eq!(answer, Ok(PlanResult { steps: 7, cost: 14, runs: 7, searches: 5, real: true }));
     assert_eq!(list, [0, 2, 1, 4, 0, 3, 1, REST]);
     assert_eq!(plan(&task, 6, 8).0, Err(Refusal::new(11, 6)));
     assert_eq!(refused(&task.without(3)), (8, 2));
@@ -130,7 +130,7 @@ fn listed(reached: usize, relaxed: &[u16], cost: u32, steps: &[u16]) -> String {
 fn the_cheaper_way_back_is_taken_though_it_is_longer() {
     let task = examples::detour();
     let (answer, list) = plan(&task, 6, 5);
-    assert_eq!(answer, Ok(PlanResult { steps: 5, cost: 5, runs: 5, real: true }));
+    assert_eq!(answer, Ok(PlanResult { steps: 5, cost: 5, runs: 5, searches: 1, real: true }));
     assert_eq!(list, [1, 2, 6, 3, 4, REST]);
     assert_eq!(plan(&task, 4, 6).0, Err(Refusal::new(11, 4)));
     let expected = listed(5, &[1, 2, 6], 5, &[1, 2, 6, 3, 4]);
@@ -147,6 +147,37 @@ fn of_ways_at_the_same_cost_the_one_of_fewest_moves_is_taken() {
 fn of_ways_as_long_the_one_that_begins_with_the_lower_action_is_taken() {
     let expected = listed(6, &[0, 1, 2, 10], 7, &[0, 1, 2, 10, 3, 6]);
     assert_eq!(listing::listing(&record::write(&examples::diamond())), expected);
+}
+
+/// The examples with a plan in which something is inserted, and the searches of the repair.
+#[test]
+fn searches() {
+    let tasks = [
+        (examples::two_shelves(), 1),
+        (examples::door(), 5),
+        (examples::lit_return(), 2),
+        (examples::newest(), 1),
+        (examples::two_shelves_with_4(), 1),
+        (examples::gate(), 5),
+        (examples::detour(), 1),
+        (examples::ring(), 1),
+        (examples::diamond(), 1),
+        (examples::lift(), 6),
+    ];
+    for (task, searches) in tasks {
+        assert_eq!(plan(&task, 8, 8).0.unwrap().searches, searches);
+    }
+}
+
+#[test]
+fn searches_with_nothing_to_find_count_too() {
+    let task = examples::lift();
+    let (answer, list) = plan(&task, 7, 6);
+    assert_eq!(answer, Ok(PlanResult { steps: 6, cost: 11, runs: 6, searches: 6, real: true }));
+    assert_eq!(list, [0, 2, 3, 4, 2, 1, REST]);
+    assert_eq!(plan(&task, 5, 6).0, Err(Refusal::new(11, 5)));
+    let expected = listed(6, &[0, 2, 4], 11, &[0, 2, 3, 4, 2, 1]);
+    assert_eq!(listing::listing(&record::write(&task)), expected);
 }
 
 #[test]
@@ -194,7 +225,7 @@ fn proved_records_are_the_files() {
     let table = root().join("crates/planning/proofs/Acceptance.antt");
     let text = fs::read_to_string(table).unwrap();
     let records: Vec<_> = text.split("\n\n").filter_map(proved).collect();
-    assert_eq!(records.len(), 17);
+    assert_eq!(records.len(), 18);
     for (name, bytes) in records {
         assert_eq!(file(name), bytes, "{name}");
     }
@@ -274,7 +305,7 @@ fn repair_of_a_callers_relaxed_plan() {
         (answer, plan)
     };
     let (answer, plan) = repair(&[0, 0, 2, 3]);
-    assert_eq!(answer, Ok(PlanResult { steps: 6, cost: 18, runs: 6, real: true }));
+    assert_eq!(answer, Ok(PlanResult { steps: 6, cost: 18, runs: 6, searches: 2, real: true }));
     assert_eq!(plan, [0, 1, 0, 2, 1, 3, REST, REST]);
     let faulty: [(&[u16], usize); 5] =
         [(&[2], 0), (&[0, 3, 9], 1), (&[0, 9, 3], 1), (&[0, 2], 2), (&[], 0)];

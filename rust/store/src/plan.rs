@@ -11,6 +11,8 @@ use crate::store::Store;
 pub struct Plan {
     pub steps: Vec<u16>,
     pub relaxed: Option<Vec<u16>>,
+    /// The path searches of the repair, where it was made here.
+    pub searches: Option<u32>,
 }
 
 impl Plan {
@@ -18,20 +20,30 @@ impl Plan {
     pub fn find(store: &Store) -> Result<Plan, Refusal> {
         let record = store.record();
         let planned = library::plan(&record, MAX_STEPS)?;
-        Ok(Plan { steps: planned.steps, relaxed: Some(library::relax(&record)?) })
+        Ok(Plan::of(planned, library::relax(&record)?))
     }
 
     /// The proved library's repair of a relaxed plan.
     pub fn repair(store: &Store, relaxed: Vec<u16>) -> Result<Plan, Refusal> {
         let planned = library::repair(&store.record(), &relaxed, MAX_STEPS)?;
-        Ok(Plan { steps: planned.steps, relaxed: Some(relaxed) })
+        Ok(Plan::of(planned, relaxed))
+    }
+
+    fn of(planned: mardiskos::Plan, relaxed: Vec<u16>) -> Plan {
+        let searches = Some(planned.searches);
+        Plan { steps: planned.steps, relaxed: Some(relaxed), searches }
+    }
+
+    /// A list of which nothing more is known.
+    pub fn list(steps: Vec<u16>) -> Plan {
+        Plan { steps, ..Plan::default() }
     }
 
     /// A list of steps, with its relaxed plan if it is the plan that the library finds.
     pub fn known(store: &Store, steps: Vec<u16>) -> Plan {
         match Plan::find(store) {
             Ok(plan) if plan.steps == steps => plan,
-            _ => Plan { steps, relaxed: None },
+            _ => Plan::list(steps),
         }
     }
 

@@ -15,12 +15,15 @@ pub struct Shown {
     pub fault: Option<String>,
 }
 
-/// The plan, one step a line, behind a line of its count, cost and verdict.
+/// The plan, one step a line, behind a line of its count, cost and verdict, and of the path searches if it
+/// was repaired here.
 pub fn plan(store: &Store, plan: &Plan) -> Result<Shown, Refusal> {
     let judged = judge(&store.record(), &plan.steps)?;
     let (verdict, runs) = (verdict(judged.real.is_plan), running(judged.real.steps));
     let (count, cost) = (steps(plan.steps.len()), plan.cost(store));
-    let mut text = format!("{count}, cost {cost}, {verdict}: {runs}\n");
+    let searches = plan.searches.map(|count| format!(", {}", path_searches(count)));
+    let mut text =
+        format!("{count}, cost {cost}, {verdict}: {runs}{}\n", searches.unwrap_or_default());
     let fault = red_black_fault(store, plan, &judged);
     text += &fault.iter().map(|fault| format!("{fault}\n")).collect::<String>();
     text += &step_lines(store, plan);
@@ -82,7 +85,7 @@ pub fn sheet_in(store: &Store, sheet: &Sheet) -> Result<Shown, Refusal> {
 
 /// Where the sheet says something else than the judge.
 fn contradiction(store: &Store, sheet: &Sheet, judged: &Judgement) -> Option<String> {
-    let cost = Plan { steps: sheet.steps.clone(), relaxed: None }.cost(store);
+    let cost = Plan::list(sheet.steps.clone()).cost(store);
     if u64::from(sheet.cost) != cost {
         return Some(format!("the sheet says cost {}, its steps cost {cost}", sheet.cost));
     }
@@ -133,6 +136,10 @@ pub fn steps(count: usize) -> String {
 /// A count with its word.
 pub fn counted(count: usize, word: &str) -> String {
     format!("{count} {word}{}", if count == 1 { "" } else { "s" })
+}
+
+fn path_searches(count: u32) -> String {
+    format!("{count} path search{}", if count == 1 { "" } else { "es" })
 }
 
 fn running(count: usize) -> String {

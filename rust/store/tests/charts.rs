@@ -61,13 +61,13 @@ fn the_real_run_stops() {
 #[test]
 fn lists_that_are_no_plans() {
     let store = example("two-shelves");
-    let plan = Plan { steps: vec![0, 2, 3, 1], relaxed: None };
+    let plan = Plan::list(vec![0, 2, 3, 1]);
     let shown = chart_of(&store, &plan);
     let kinds: Vec<Kind> = shown.bands[0].columns.iter().map(|column| column.kind).collect();
     assert_eq!(kinds[3..], [Kind::NotRun, Kind::NotRun]);
     assert_eq!(shown.bands[0].stop, Some(3));
     assert!(shown.notes[0].starts_with("Not a red-black plan: step 2, put-down, needs"));
-    let missed = chart_of(&store, &Plan { steps: vec![0, 1], relaxed: None });
+    let missed = chart_of(&store, &Plan::list(vec![0, 1]));
     assert_eq!(missed.bands[0].stop, Some(3), "behind the last step for a goal missed");
     assert_eq!(missed.bands[0].rows[1].goal, Some(("shelf-0".to_owned(), false)));
     well_formed(&chart(&store, &plan));
@@ -77,7 +77,7 @@ fn lists_that_are_no_plans() {
 #[test]
 fn long_plans_are_cut_into_bands() {
     let store = example("two-shelves");
-    let plan = Plan { steps: [0, 1].repeat(100), relaxed: None };
+    let plan = Plan::list([0, 1].repeat(100));
     let shown = chart_of(&store, &plan);
     let counts: Vec<usize> = shown.bands.iter().map(|band| band.columns.len()).collect();
     assert_eq!(counts, [21; 6]);

@@ -29,7 +29,7 @@ fn two_shelves_shows_its_inserted_move() {
     let store = example("two-shelves");
     let plan = Plan::find(&store).unwrap();
     let expected = "\
-4 steps, cost 10, real: 4 steps run
+4 steps, cost 10, real: 4 steps run, 1 path search
 0  drive-out   carriage = shelf-1
 1  pick-up     box = on-carriage
 2  drive-back  carriage = shelf-0  (inserted)
@@ -43,7 +43,7 @@ fn the_cheaper_way_out_is_taken() {
     let store = example("two-shelves-with-4");
     let plan = Plan::find(&store).unwrap();
     let expected = "\
-4 steps, cost 9, real: 4 steps run
+4 steps, cost 9, real: 4 steps run, 1 path search
 0  slip-out    carriage = shelf-1
 1  pick-up     box = on-carriage
 2  drive-back  carriage = shelf-0  (inserted)
@@ -57,7 +57,7 @@ fn drives_set_the_gate_shut_again() {
     let store = example("gate");
     let plan = Plan::find(&store).unwrap();
     let expected = "\
-7 steps, cost 14, real: 7 steps run
+7 steps, cost 14, real: 7 steps run, 5 path searches
 0  shut        gate = shut
 1  drive-out   gate = shut, carriage = shelf
 2  open        gate = open  (inserted)
@@ -74,7 +74,7 @@ fn the_cheaper_way_back_is_taken() {
     let store = example("detour");
     let plan = Plan::find(&store).unwrap();
     let expected = "\
-5 steps, cost 5, real: 5 steps run
+5 steps, cost 5, real: 5 steps run, 1 path search
 0  enter  carriage = ramp
 1  down   carriage = cellar
 2  fetch  box = fetched
@@ -85,11 +85,29 @@ fn the_cheaper_way_back_is_taken() {
 }
 
 #[test]
+fn path_searches_are_told() {
+    let store = example("lift");
+    let plan = Plan::find(&store).unwrap();
+    let expected = "\
+6 steps, cost 11, real: 6 steps run, 6 path searches
+0  switch-on   switch = on
+1  go-up       lift = up
+2  go-down     lift = down  (inserted)
+3  load        crate = loaded
+4  go-up       lift = up  (inserted)
+5  switch-off  switch = off  (inserted)
+";
+    assert_eq!(show::plan(&store, &plan).unwrap().text, expected);
+    let list = show::plan(&store, &Plan::list(plan.steps)).unwrap().text;
+    assert!(list.starts_with("6 steps, cost 11, real: 6 steps run\n"), "{list}");
+}
+
+#[test]
 fn tray_says_why_it_is_unreal() {
     let store = example("tray");
     let plan = Plan::find(&store).unwrap();
     let expected = "\
-2 steps, cost 2, unreal: 1 step runs
+2 steps, cost 2, unreal: 1 step runs, 0 path searches
 0  load-1  tray = taken, box-1 = tray
 1  load-2  tray = taken, box-2 = tray
 real run: step 1, load-2, needs tray = free
@@ -102,6 +120,6 @@ fn goal_met_has_no_steps() {
     let store = example("goal-met");
     let plan = Plan::find(&store).unwrap();
     let shown = show::plan(&store, &plan).unwrap();
-    assert_eq!(shown.text, "0 steps, cost 0, real: 0 steps run\n");
+    assert_eq!(shown.text, "0 steps, cost 0, real: 0 steps run, 0 path searches\n");
     assert_eq!(shown.fault, None);
 }

@@ -25,7 +25,9 @@ fn a_record_is_known_by_its_content() {
     let folder = Folder::with(&["tray.store", "tray.record"]);
     let (from_text, from_record) =
         (folder.run("store plan tray.store"), folder.run("store plan tray.record"));
-    assert!(from_record.1.starts_with("2 steps, cost 2, unreal: 1 step runs\n0  a0  v0 = v0.1"));
+    assert!(from_record
+        .1
+        .starts_with("2 steps, cost 2, unreal: 1 step runs, 0 path searches\n0  a0  v0 = v0.1"));
     folder.run("mv tray.store t; mv tray.record tray.store; mv t tray.record");
     assert_eq!(folder.run("store plan tray.record"), from_text);
     assert_eq!(folder.run("store plan tray.store"), from_record);

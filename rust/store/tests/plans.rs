@@ -8,7 +8,7 @@ use store::plan::Plan;
 
 #[test]
 fn a_relaxed_plan_of_another_plan() {
-    let plan = Plan { steps: vec![0, 2, 1, 3], relaxed: Some(vec![0, 3, 2]) };
+    let plan = Plan { relaxed: Some(vec![0, 3, 2]), ..Plan::list(vec![0, 2, 1, 3]) };
     assert_eq!(plan.inserted(), None);
 }
 

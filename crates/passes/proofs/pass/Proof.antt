@@ -8,23 +8,26 @@ use Prim.Native.Nat.{ℕ, _/_, _-_, _<_, _≤_}
 use native.Mathlib.Omega.{arith}
 use lib.ListN.{length, drop}
 use lib.Seq.{length-take-le}
+use Rattle.planning.specs.Runs.{act}
+use Rattle.planning.specs.Repair.{passSearches}
+use Rattle.planning.proofs.Fill.{askedFor-one}
 use Rattle.planning.proofs.Formed.{Formed}
 use Rattle.task.specs.Task.{taskIn}
 use Rattle.state.specs.Sets.{setsOf}
-use Rattle.passes.specs.Passes.{served, factsOf}
-use Rattle.passes.proofs.Putting.{asked-as, asked-fits, pre-fitting}
-use Rattle.passes.proofs.Passing.{Passing, passing-start, passing-entry, passing-end, Led, led-length, led-long, led-fits, led-turn}
+use Rattle.passes.specs.Passes.{askedBy, served, factsOf}
+use Rattle.passes.proofs.Putting.{asked-as, asked-fits, pre-fitting, inserted-put, inserted-counts}
+use Rattle.passes.proofs.Passing.{Passing, passing-start, passing-entry, passing-end, Tally, tally-start, tally-end, Led, led-length, led-long, led-fits, led-turn, led-tally}
 use Rattle.passes.proofs.pass.Statement.{statement}
 use Rattle.passes.proofs.pass.Tie as tie
 
 abbrev Inv-loop : tie.InvT-loop
-Inv-loop task ever memo₀ f want plan₀ at v c₀ e₀ j₀ memo plan c e j =
+Inv-loop task ever memo₀ f want plan₀ at v c₀ e₀ k₀ j₀ memo plan c e k j =
     let t = taskIn task in
     let w = factsOf want in
-    Passing t (setsOf ever) v w (served t (setsOf ever) f (drop at plan₀) w) plan₀ plan memo c e j
+    Passing t (setsOf ever) v w (served t (setsOf ever) f (drop at plan₀) w) plan₀ plan memo c e j × Tally t v w (passSearches (act t) v (drop at plan₀) w) plan k j
 
 abbrev μ-loop : tie.MeasureT-loop
-μ-loop task ever memo₀ f want plan₀ at v c₀ e₀ j₀ memo plan c e j = length plan₀ - j
+μ-loop task ever memo₀ f want plan₀ at v c₀ e₀ k₀ j₀ memo plan c e k j = length plan₀ - j
 
 -- the points of a turn, from the last to the first
 abbrev plan-of : tie.After-known-told Inv-loop μ-loop → tie.After-plan Inv-loop μ-loop
@@ -41,6 +44,16 @@ in-of c = c .before .before .before
 
 abbrev start-of : tie.At-loop Inv-loop μ-loop → tie.Start Inv-loop μ-loop
 start-of h = h .before .before .before .before .before
+
+-- the points behind the loop
+abbrev last-of : tie.After-asked-for2 Inv-loop μ-loop → tie.After-lead-to2 Inv-loop μ-loop
+last-of c = c .before .before .before .before .before
+
+abbrev asked-of : tie.After-lead-to2 Inv-loop μ-loop → tie.After-asked Inv-loop μ-loop
+asked-of c = c .before .before .before
+
+abbrev head-of : tie.After-lead-to2 Inv-loop μ-loop → tie.At-loop Inv-loop μ-loop
+head-of c = asked-of c .before .before
 
 formed : (s : tie.Start Inv-loop μ-loop) → Formed (taskIn (s .args .task .now))
 formed s = s .pre .0 .0 .loaded .formed
@@ -59,7 +72,7 @@ led c =
     let n = need-of l in
     let b = in-of n in
     record {
-      start = b .before .loop .inv;
+      start = b .before .loop .inv .0;
       here = b .loop-test .taken;
       asks = asked-as _ _ _ _ _ (n .before .wide .ensures) (n .need .ensures);
       long = c .plan .given .0;
@@ -78,7 +91,7 @@ stored c =
 loop-holds : tie.Need-loop-holds Inv-loop μ-loop
 loop-holds c =
     let p = c .before .before .before .before .pre in
-    passing-start _ _ _ _ _ _ _ _ (p .1 .0 .0) (p .1 .1 .0) (p .1 .1 .1) (p .0 .2)
+    (passing-start _ _ _ _ _ _ _ _ (p .1 .0 .0) (p .1 .1 .0) (p .1 .1 .1) (p .0 .2), tally-start)
 
 mul-i : tie.Need-mul-i Inv-loop μ-loop
 mul-i c = search needs
@@ -92,7 +105,7 @@ wide-requires c κs = search needs
 need-requires : tie.Need-need-requires Inv-loop μ-loop
 need-requires c κs =
     let b = c .before .before in
-    (start-of (b .before) .pre .0 .0 .loaded, omega (arith, passing-entry (b .before .loop .inv) (b .loop-test .taken), c .wide .ensures))
+    (start-of (b .before) .pre .0 .0 .loaded, omega (arith, passing-entry (b .before .loop .inv .0) (b .loop-test .taken), c .wide .ensures))
 
 slice-relend-prefix-lead-to : tie.Need-slice-relend-prefix-lead-to Inv-loop μ-loop
 slice-relend-prefix-lead-to c = before-length (in-of (c .before))
@@ -105,7 +118,7 @@ lead-to-requires c κs =
     let n = c .before .before in
     let h = in-of n .before in
     let s = start-of h in
-    let i = h .loop .inv in
+    let i = h .loop .inv .0 in
     let fits = asked-fits _ _ (pre-fitting _ (formed s) _) _ _ (n .need .ensures) in
     ((s .pre .0 .0, s .pre .0 .1, i .rows), (i .inside, fits, omega (arith, i .within, length-take-le (h .loop .j) (h .loop .plan) (before-length (in-of n)))))
 
@@ -126,7 +139,7 @@ same-length-2 c = led-length (led (c .before .before .before))
 returns : tie.Need-returns Inv-loop μ-loop
 returns c =
     let l = c .before .before .before in
-    (led-long (led l) (c .enum-told .given .1), lead-of l .lead-to .ensures .1)
+    (led-long (led l) (c .enum-told .given .1), (lead-of l .lead-to .ensures .1, tt))
 
 mul-plan : tie.Need-mul-plan Inv-loop μ-loop
 mul-plan c = omega (arith, stored c, start-of (turn-of c .before) .good)
@@ -140,17 +153,30 @@ add-e c = omega (arith, stored c, start-of (turn-of c .before) .good)
 next-value-requires : tie.Need-next-value-requires Inv-loop μ-loop
 next-value-requires c κs = search needs
 
+asked-for-requires : tie.Need-asked-for-requires Inv-loop μ-loop
+asked-for-requires c κs = search needs
+
+add-searches : tie.Need-add-searches Inv-loop μ-loop
+add-searches c =
+    let b = turn-of (c .before .before) in
+    let h = b .before in
+    let one = askedFor-one (askedBy (need-of (lead-of (plan-of (c .before .before))) .need .result)) in
+    omega (arith, h .loop .inv .1 .few, c .asked-for .ensures, one, b .loop-test .taken, h .loop .inv .0 .long, start-of h .good)
+
 add-j : tie.Need-add-j Inv-loop μ-loop
-add-j c = let b = turn-of (c .before) in omega (arith, b .loop-test .taken, b .before .loop .inv .long, start-of (b .before) .good)
+add-j c = let b = turn-of (c .before .before) in omega (arith, b .loop-test .taken, b .before .loop .inv .0 .long, start-of (b .before) .good)
 
 loop-less : tie.Need-loop-less Inv-loop μ-loop
-loop-less c = let b = turn-of (c .before) in omega (arith, b .loop-test .taken, b .before .loop .inv .long)
+loop-less c = let b = turn-of (c .before .before) in omega (arith, b .loop-test .taken, b .before .loop .inv .0 .long)
 
 loop-again : tie.Need-loop-again Inv-loop μ-loop
 loop-again c =
-    let k = c .before in
+    let k = c .before .before in
     let l = plan-of k in
-    led-turn (led l) _ (k .before .w .given .1) (formed (start-of (in-of (need-of (lead-of l)) .before))) _ _ (lead-of l .lead-to .ensures .1) (c .next-value .ensures)
+    let h = in-of (need-of (lead-of l)) .before in (
+      led-turn (led l) _ (k .before .w .given .1) (formed (start-of h)) _ _ (lead-of l .lead-to .ensures .1) (c .before .next-value .ensures),
+      led-tally (led l) _ (k .before .w .given .1) _ _ (h .loop .inv .1) _ (c .asked-for .ensures),
+    )
 
 asked-requires : tie.Need-asked-requires Inv-loop μ-loop
 asked-requires c κs = search needs
@@ -160,26 +186,37 @@ lead-to-requires-2 c κs =
     let n = c .before .before in
     let h = n .before .before in
     let s = start-of h in
-    let i = h .loop .inv in
+    let i = h .loop .inv .0 in
     ((s .pre .0 .0, s .pre .0 .1, i .rows), (i .inside, asked-fits _ _ (s .pre .1 .0 .1) _ _ (n .asked .ensures), omega (arith, i .within, i .at, i .long)))
+
+asked-for-requires-2 : tie.Need-asked-for-requires-2 Inv-loop μ-loop
+asked-for-requires-2 c κs = search needs
+
+add-with-searches : tie.Need-add-with-searches Inv-loop μ-loop
+add-with-searches c =
+    let h = head-of (last-of c) in
+    omega (arith, h .loop .inv .1 .few, h .loop .inv .0 .at, c .asked-for2 .ensures, askedFor-one (askedBy (asked-of (last-of c) .asked .result)), start-of h .good)
+
+with-searches-requires : tie.Need-with-searches-requires Inv-loop μ-loop
+with-searches-requires c κs = search needs
 
 same-length-3 : tie.Need-same-length-3 Inv-loop μ-loop
 same-length-3 c =
-    let l = c .before .before .before .before in
-    let h = l .before .before .before .before .before in
-    l .lead-to2 .ensures .1 .long ∙ sym (start-of h .pre .0 .2 .long)
+    let l = last-of (c .before) in
+    l .lead-to2 .ensures .1 .long ∙ sym (start-of (head-of l) .pre .0 .2 .long)
 
 same-length-4 : tie.Need-same-length-4 Inv-loop μ-loop
-same-length-4 c =
-    let h = c .before .before .before .before .before .before .before .before .before in
-    c .before .plan2 .given ∙ h .loop .inv .long
+same-length-4 c = c .before .before .before .plan2 .given ∙ head-of (last-of (c .before)) .loop .inv .0 .long
 
 returns-2 : tie.Need-returns-2 Inv-loop μ-loop
 returns-2 c =
-    let l = c .before .before .before .before in
-    let n = l .before .before .before in
-    let h = n .before .before in
-    (passing-end (h .loop .inv) (n .before .loop-test .left) _ (n .asked .ensures) _ (l .lead-to2 .result) (l .lead-to2 .ensures .0), l .lead-to2 .ensures .1)
+    let k = c .before in
+    let l = last-of k in
+    let n = asked-of l in
+    let h = head-of l in
+    let put = passing-end (h .loop .inv .0) (n .before .loop-test .left) _ (n .asked .ensures) _ (l .lead-to2 .result) (l .lead-to2 .ensures .0) in
+    let sum = tally-end (h .loop .inv .0) (n .before .loop-test .left) _ (n .asked .ensures) _ _ (h .loop .inv .1) _ (k .asked-for2 .ensures) in
+    (inserted-put _ _ _ _ (l .lead-to2 .result) _ _ (c .with-searches .ensures) put, (l .lead-to2 .ensures .1, inserted-counts _ (l .lead-to2 .result) _ _ (c .with-searches .ensures) sum))
 
 pub pass-spec : {M : Type 1} → statement M
 pass-spec =
@@ -204,11 +241,16 @@ pass-spec =
     slice-write-plan
     add-e
     next-value-requires
+    asked-for-requires
+    add-searches
     add-j
     loop-less
     loop-again
     asked-requires
     lead-to-requires-2
+    asked-for-requires-2
+    add-with-searches
+    with-searches-requires
     same-length-3
     same-length-4
     returns-2)

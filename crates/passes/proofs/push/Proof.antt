@@ -13,7 +13,7 @@ returns : tie.Need-returns
 returns c = push-long _ _ _ (c .enum-told .given .1)
 
 returns-2 : tie.Need-returns-2
-returns-2 c = push-full _ _ _ _ (c .before .before .w .given .1) (c .if1 .taken)
+returns-2 c = push-full _ _ _ _ _ (c .before .before .w .given .1) (c .if1 .taken)
 
 mul-list : tie.Need-mul-list
 mul-list c = search needs
@@ -21,14 +21,14 @@ mul-list c = search needs
 slice-write-list : tie.Need-slice-write-list
 slice-write-list c = search needs
 
-add-t5 : tie.Need-add-t5
-add-t5 c = search needs
+add-t6 : tie.Need-add-t6
+add-t6 c = search needs
 
 same-length : tie.Need-same-length
 same-length c = search needs
 
 returns-3 : tie.Need-returns-3
-returns-3 c = push-more _ _ _ _ (c .before .before .w .given .1) (c .if1 .left)
+returns-3 c = push-more _ _ _ _ _ (c .before .before .w .given .1) (c .if1 .left)
 
 pub push-spec : {M : Type 1} → statement M
 push-spec =
@@ -40,6 +40,6 @@ push-spec =
     returns-2
     mul-list
     slice-write-list
-    add-t5
+    add-t6
     same-length
     returns-3)

@@ -31,7 +31,7 @@ returns c =
     let D = plan-called (a .bytes .now) [] n w _ _ (k .plan-checked .ensures) in
     let E = f .finish .ensures in
     let S = plan-settled (a .bytes .now) n w _ (f .before .before .before .before .plan .given) _ D _ (E .0) in
-    (D .answer, (S .0, (E .1, (S .1, S .2))))
+    (D .answer, (S .0, (E .1, (S .1, (S .2, S .3)))))
 
 pub plan-spec : {M : Type 1} → statement M
 plan-spec =

@@ -27,7 +27,7 @@ returns c =
     let D = repair-called (a .bytes .now) (a .list .now) n w _ _ (k .plan-checked .ensures) in
     let E = f .finish .ensures in
     let S = repair-settled (a .bytes .now) (a .list .now) n w _ (f .before .before .before .before .plan .given) _ D _ (E .0) in
-    (D .answer, (S .0, (E .1, S .1)))
+    (D .answer, (S .0, (E .1, (S .1, S .2))))
 
 pub repair-spec : {M : Type 1} → statement M
 repair-spec =

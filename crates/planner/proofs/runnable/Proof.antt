@@ -27,10 +27,10 @@ slice-aggregate-result-2 : tie.Need-slice-aggregate-result-2
 slice-aggregate-result-2 c = sym (length-take-le _ _ (omega arith))
 
 returns-2 : tie.Need-returns-2
-returns-2 c = runnable-front _ _ _ _ _ (c .before .before .before .answer .given .1) _
+returns-2 c = runnable-front _ _ _ _ _ _ (c .before .before .before .answer .given .1) _
 
 returns-3 : tie.Need-returns-3
-returns-3 c = runnable-whole _ _ _ _ _ (c .before .before .answer .given .1) _ (omega arith)
+returns-3 c = runnable-whole _ _ _ _ _ _ (c .before .before .answer .given .1) _ (omega arith)
 
 pub runnable-spec : {M : Type 1} → statement M
 runnable-spec =

@@ -5,8 +5,9 @@ use lib.ListN.{length}
 use Rattle.planning.specs.Runs.{act}
 use Rattle.task.specs.Task.{taskIn}
 use Rattle.state.specs.Sets.{setsOf}
+use Rattle.passes.specs.Passes.{writtenIn}
 use Rattle.repair.specs.Repairs.{moved, shownBy}
-use Rattle.repair.proofs.Arranging.{pre-bounds, part-wanted, moves-pre}
+use Rattle.repair.proofs.Arranging.{pre-bounds, part-wanted, moves-pre, searches-pre}
 use Rattle.repair.proofs.arrange.Statement.{statement}
 use Rattle.repair.proofs.arrange.Tie as tie
 
@@ -48,7 +49,7 @@ moves-requires c κs =
     let e = c .before .before .before in
     let k = wide-of e in
     let p = start-of k .pre in
-    ((p .0 .0, part-wanted _ (p .0 .0 .loaded) _ _ _ _ (k .wide .ensures) (p .0 .1) (e .before .pre-start .ensures) (e .eff-start .ensures), p .0 .2), p .1)
+    ((p .0 .0, part-wanted _ (p .0 .0 .loaded) _ _ _ _ (k .wide .ensures) (p .0 .1) (e .before .pre-start .ensures) (e .eff-start .ensures), p .0 .2, p .0 .3), p .1)
 
 push-requires : tie.Need-push-requires
 push-requires c κs = search needs
@@ -68,10 +69,12 @@ returns c =
     let a = s .args in
     let t = taskIn (a .task .now) in
     let put = moves-pre (a .task .now) (s .pre .0 .0 .loaded) _ _ _ _ (k .wide .ensures) (s .pre .0 .1) (e .before .pre-start .ensures) (e .eff-start .ensures)
-    (setsOf (a .ever .now)) (shownBy (a .task .now) (a .ever .now) (a .newest .now)) (a .plan .now) _ (a .at) (m .moves .result) (m .moves .ensures .0) in (
-      c .before .before .push .ensures (a .plan .now) (a .at) (moved t (setsOf (a .ever .now)) (shownBy (a .task .now) (a .ever .now) (a .newest .now)) (act t (a .i) .pre))
+    (setsOf (a .ever .now)) (shownBy (a .task .now) (a .ever .now) (a .newest .now)) (a .plan .now) _ (a .at) (writtenIn (m .moves .result)) (m .moves .ensures .0) in
+    let n = searches-pre (a .task .now) (s .pre .0 .0 .loaded) _ _ _ _ (k .wide .ensures) (s .pre .0 .1) (e .before .pre-start .ensures) (e .eff-start .ensures)
+    (setsOf (a .ever .now)) (shownBy (a .task .now) (a .ever .now) (a .newest .now)) (m .moves .result) (m .moves .ensures .1 .1) in (
+      c .before .before .push .ensures .0 (a .plan .now) (a .at) (moved t (setsOf (a .ever .now)) (shownBy (a .task .now) (a .ever .now) (a .newest .now)) (act t (a .i) .pre))
           (c .before .before .before .before .before .plan .given) put,
-      m .moves .ensures .1,
+      (m .moves .ensures .1 .0, c .before .before .push .ensures .1 _ n),
     )
 
 pub arrange-spec : {M : Type 1} → statement M

@@ -3,7 +3,7 @@
 use borrow.Author.Needs.{needs}
 use mathlib.Core.List.{List}
 use mathlib.Core.Path.{sym, _∙_}
-use Prim.Native.Nat.{ℕ, _-_, _<_}
+use Prim.Native.Nat.{ℕ, _-_, _<_, _≤_}
 use native.Mathlib.Omega.{arith}
 use lib.Dec.{T}
 use lib.ListN.{length}
@@ -15,15 +15,16 @@ use Rattle.state.specs.Sets.{setsOf}
 use Rattle.passes.specs.Passes.{factsOf}
 use Rattle.repair.specs.Repairs.{Present, shownBy}
 use Rattle.repair.proofs.Values.{present-shown}
-use Rattle.repair.proofs.Filling.{Filling, filling-start, filling-long, filling-turn, filling-end, order-black}
+use Rattle.repair.proofs.Filling.{Filling, filling-start, filling-long, filling-modest, filling-turn, filling-end, filling-searched, order-black}
 use Rattle.repair.proofs.fill.Statement.{statement}
 use Rattle.repair.proofs.fill.Tie as tie
 
 abbrev Inv-loop : tie.InvT-loop
-Inv-loop task newest ever memo₀ wanted plan₀ n e₀ p₀ memo plan e p = Filling (taskIn task) (setsOf ever) (shownBy task ever newest) (orderIn task) (factsOf wanted) plan₀ plan memo e p
+Inv-loop task newest ever memo₀ wanted plan₀ n e₀ k₀ p₀ memo plan e k p =
+    Filling (taskIn task) (setsOf ever) (shownBy task ever newest) (orderIn task) (factsOf wanted) plan₀ plan memo e k p
 
 abbrev μ-loop : tie.MeasureT-loop
-μ-loop task newest ever memo₀ wanted plan₀ n e₀ p₀ memo plan e p = n - p
+μ-loop task newest ever memo₀ wanted plan₀ n e₀ k₀ p₀ memo plan e k p = n - p
 
 -- the points of a turn, from the last to the first
 abbrev serve-of : tie.After-known-told Inv-loop μ-loop → tie.After-serve Inv-loop μ-loop
@@ -85,7 +86,7 @@ enum-told c = search needs
 same-length : tie.Need-same-length Inv-loop μ-loop
 same-length c =
     let d = c .before .before .before .before .before .before in
-    d .serve .ensures .1 .long ∙ sym (start-of (head-of (present-of d)) .pre .1 .long)
+    d .serve .ensures .1 .0 .long ∙ sym (start-of (head-of (present-of d)) .pre .1 .long)
 
 same-length-2 : tie.Need-same-length-2 Inv-loop μ-loop
 same-length-2 c =
@@ -99,8 +100,18 @@ returns c =
     let h = head-of v in (
       filling-long (h .loop .inv) (within (v .before .before)) _ _ (v .before .order-at .ensures) (shown v) (left-by d) (d .serve .result) (d .serve .ensures .0) (c .enum-told .given .1)
           (start-of h .pre .0 .0 .ordered),
-      d .serve .ensures .1,
+      (d .serve .ensures .1 .0, tt),
     )
+
+add-k : tie.Need-add-k Inv-loop μ-loop
+add-k c =
+    let d = serve-of c in
+    let v = present-of d in
+    let h = head-of v in
+    let P = start-of h .pre .0 .0 in
+    let few = filling-modest (h .loop .inv) (within (v .before .before)) _ _ (v .before .order-at .ensures) (shown v) (left-by d) (d .serve .result) (d .serve .ensures .0)
+    _ _ (c .before .w .given .1) (d .serve .ensures .1 .1) (start-of h .pre .0 .2) in
+    omega (arith, few, within (v .before .before), order-length _ P, P .few)
 
 add-p : tie.Need-add-p Inv-loop μ-loop
 add-p c =
@@ -116,7 +127,7 @@ loop-again c =
     let d = serve-of c in
     let v = present-of d in
     filling-turn (head-of v .loop .inv) (within (v .before .before)) _ _ (v .before .order-at .ensures) (shown v) (left-by d) (d .serve .result) (d .serve .ensures .0)
-    _ _ (c .before .w .given .1) (c .before .before .before .before .plan .given) (d .serve .ensures .1)
+    _ _ (c .before .w .given .1) (d .serve .ensures .1 .1) (start-of (head-of v) .pre .0 .2) _ (c .before .before .before .before .plan .given) (d .serve .ensures .1 .0)
 
 same-length-3 : tie.Need-same-length-3 Inv-loop μ-loop
 same-length-3 c = let h = c .before in h .loop .inv .rows .long ∙ sym (start-of h .pre .1 .long)
@@ -127,7 +138,9 @@ same-length-4 c = c .before .loop .inv .long
 returns-2 : tie.Need-returns-2 Inv-loop μ-loop
 returns-2 c =
     let h = c .before in
-    (filling-end (h .loop .inv) (omega (arith, h .before .ordered .ensures)) (start-of h .pre .0 .0 .ordered), h .loop .inv .rows)
+    let all : length (orderIn (start-of h .args .task .now)) ≤ h .loop .p = omega (arith, h .before .ordered .ensures) in
+    let o = start-of h .pre .0 .0 .ordered in
+    (filling-end (h .loop .inv) all o, (h .loop .inv .rows, filling-searched (h .loop .inv) all o))
 
 pub fill-spec : {M : Type 1} → statement M
 fill-spec =
@@ -145,6 +158,7 @@ fill-spec =
     same-length
     same-length-2
     returns
+    add-k
     add-p
     loop-less
     loop-again

@@ -6,8 +6,9 @@ use lib.ListN.{length}
 use lib.Seq.{length-take-le}
 use Rattle.task.specs.Task.{taskIn}
 use Rattle.state.specs.Sets.{setsOf}
+use Rattle.passes.specs.Passes.{writtenIn}
 use Rattle.repair.specs.Repairs.{shownBy}
-use Rattle.repair.proofs.Ending.{goals-wanted, goals-moves}
+use Rattle.repair.proofs.Ending.{goals-wanted, goals-moves, goals-searches}
 use Rattle.repair.proofs.finish.Statement.{statement}
 use Rattle.repair.proofs.finish.Tie as tie
 
@@ -32,7 +33,7 @@ moves-requires : tie.Need-moves-requires
 moves-requires c κs =
     let l = c .before .before .before .before in
     let p = start-of l .pre in
-    ((p .0 .0, goals-wanted (taskIn (start-of l .args .task .now)) (p .0 .0 .loaded .formed) (l .load .result) (l .load .ensures) (few l), p .0 .1), p .1)
+    ((p .0 .0, goals-wanted (taskIn (start-of l .args .task .now)) (p .0 .0 .loaded .formed) (l .load .result) (l .load .ensures) (few l), p .0 .1, p .0 .2), p .1)
 
 same-length : tie.Need-same-length
 same-length c = search needs
@@ -47,8 +48,12 @@ returns c =
     let s = start-of l in
     let a = s .args in (
       goals-moves (taskIn (a .task .now)) (s .pre .0 .0 .loaded .formed) (l .load .result) (l .load .ensures) (few l)
-          (setsOf (a .ever .now)) (shownBy (a .task .now) (a .ever .now) (a .newest .now)) (a .plan .now) _ (a .at) (m .moves .result) (m .moves .ensures .0),
-      m .moves .ensures .1,
+          (setsOf (a .ever .now)) (shownBy (a .task .now) (a .ever .now) (a .newest .now)) (a .plan .now) _ (a .at) (writtenIn (m .moves .result)) (m .moves .ensures .0),
+      (
+        m .moves .ensures .1 .0,
+        goals-searches (taskIn (a .task .now)) (s .pre .0 .0 .loaded .formed) (l .load .result) (l .load .ensures) (few l)
+            (setsOf (a .ever .now)) (shownBy (a .task .now) (a .ever .now) (a .newest .now)) (m .moves .result) (m .moves .ensures .1 .1),
+      ),
     )
 
 pub finish-spec : {M : Type 1} → statement M

@@ -8,7 +8,7 @@ use Rattle.state.specs.Sets.{setsOf}
 use Rattle.passes.specs.Passes.{factsOf}
 use Rattle.repair.specs.Repairs.{shownBy}
 use Rattle.repair.proofs.Values.{met-shown}
-use Rattle.repair.proofs.Arranging.{Passed, moves-none, moves-long, moves-some, moves-fit}
+use Rattle.repair.proofs.Arranging.{Passed, moves-none, moves-long, moves-some, moves-fit, searches-none, searches-some}
 use Rattle.repair.proofs.moves.Statement.{statement}
 use Rattle.repair.proofs.moves.Tie as tie
 
@@ -40,7 +40,7 @@ returns c =
     let a = s .args in
     let met = sym (c .before .black-met .ensures ∙ met-shown _ _ _ _) ∙ c .if1 .taken in (
       moves-none (taskIn (a .task .now)) (setsOf (a .ever .now)) (shownBy (a .task .now) (a .ever .now) (a .newest .now)) (factsOf (a .wanted .now)) (a .plan .now) (a .at) met (s .pre .0 .2),
-      s .pre .1,
+      (s .pre .1, searches-none (taskIn (a .task .now)) (setsOf (a .ever .now)) (shownBy (a .task .now) (a .ever .now) (a .newest .now)) (factsOf (a .wanted .now)) met),
     )
 
 mul-fill : tie.Need-mul-fill
@@ -58,7 +58,7 @@ part-fill-end c = search needs
 fill-requires : tie.Need-fill-requires
 fill-requires c κs =
     let p = start-of (c .before .before) .pre in
-    ((p .0 .0, p .0 .1), p .1)
+    ((p .0 .0, p .0 .1, omega (arith, p .0 .3)), p .1)
 
 enum-known-w : tie.Need-enum-known-w
 enum-known-w c = search needs
@@ -75,12 +75,12 @@ same-length-2 c = search needs
 returns-2 : tie.Need-returns-2
 returns-2 c =
     let p = c .before .before .before in
-    (moves-long (passed p) (c .enum-told .given .1), fill-of p .fill .ensures .1)
+    (moves-long (passed p) (c .enum-told .given .1), (fill-of p .fill .ensures .1 .0, tt))
 
-add-t13 : tie.Need-add-t13
-add-t13 c =
+add-t14 : tie.Need-add-t14
+add-t14 c =
     let p = c .before .before .before .before in
-    omega (arith, start-of (met-of (fill-of p)) .good, moves-fit (passed p) _ (c .before .w .given .1))
+    omega (arith, start-of (met-of (fill-of p)) .good, moves-fit (passed p) _ _ (c .before .w .given .1))
 
 same-length-3 : tie.Need-same-length-3
 same-length-3 c = search needs
@@ -91,7 +91,9 @@ same-length-4 c = search needs
 returns-3 : tie.Need-returns-3
 returns-3 c =
     let p = c .before .before .before .before in
-    (moves-some (passed p) _ (c .before .w .given .1), fill-of p .fill .ensures .1)
+    let f = fill-of p in
+    let q = c .before .w .given .1 in
+    (moves-some (passed p) _ _ q, (f .fill .ensures .1 .0, searches-some _ _ _ _ (passed p .unmet) (f .fill .result) _ _ q (f .fill .ensures .1 .1)))
 
 pub moves-spec : {M : Type 1} → statement M
 moves-spec =
@@ -109,7 +111,7 @@ moves-spec =
     same-length
     same-length-2
     returns-2
-    add-t13
+    add-t14
     same-length-3
     same-length-4
     returns-3)

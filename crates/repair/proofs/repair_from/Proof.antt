@@ -11,21 +11,21 @@ use Rattle.planning.specs.Runs.{actions}
 use Rattle.task.specs.Task.{taskIn}
 use Rattle.state.specs.Sets.{valuesOf}
 use Rattle.state.proofs.RedBlack.{step-held}
-use Rattle.repair.proofs.Repairing.{Repairing, repairing-start, repairing-within, repairing-few, repairing-small, repairing-below, repairing-step}
-use Rattle.repair.proofs.Repairing.{Arranged, repairing-long, repairing-fits, repairing-turn, stages-fewer, steps-fewer, rest-is, rest-entries}
+use Rattle.repair.proofs.Repairing.{Repairing, repairing-start, repairing-within, repairing-few, repairing-searches, repairing-small, repairing-below, repairing-step}
+use Rattle.repair.proofs.Repairing.{Arranged, repairing-long, repairing-fits, repairing-modest, repairing-turn, stages-fewer, steps-fewer, rest-is, rest-entries}
 use Rattle.repair.proofs.Ending.{repairing-held, held-long}
 use Rattle.repair.proofs.repair_from.Statement.{statement}
 use Rattle.repair.proofs.repair_from.Tie as tie
 
 abbrev Inv-loop : tie.InvT-loop
-Inv-loop task memo₀ list plan₀ needs s₀ c₀ at₀ j₀ memo plan s c at j = Repairing (taskIn task) list plan₀ plan memo (s .sets) (valuesOf (s .newest .values)) c at j
+Inv-loop task memo₀ list plan₀ needs s₀ c₀ n₀ at₀ j₀ memo plan s c n at j = Repairing (taskIn task) list plan₀ plan memo (s .sets) (valuesOf (s .newest .values)) c n at j
 
 abbrev μ-loop : tie.MeasureT-loop
-μ-loop task memo₀ list plan₀ needs s₀ c₀ at₀ j₀ memo plan s c at j = (length list + 1 - j) * (length plan₀ + 1) + (at - c .steps)
+μ-loop task memo₀ list plan₀ needs s₀ c₀ n₀ at₀ j₀ memo plan s c n at j = (length list + 1 - j) * (length plan₀ + 1) + (at - c .steps)
 
 -- the points of a turn, from the last to the first
 abbrev start-of : tie.At-loop Inv-loop μ-loop → tie.Start Inv-loop μ-loop
-start-of h = h .before .before .before .before .before .before .before
+start-of h = h .before .before .before .before .before .before .before .before
 
 abbrev stage-of : tie.After-plan Inv-loop μ-loop → tie.After-stage Inv-loop μ-loop
 stage-of c = c .before .before .before
@@ -49,7 +49,7 @@ abbrev head-of : tie.After-wide Inv-loop μ-loop → tie.At-loop Inv-loop μ-loo
 head-of c = c .before .before .before
 
 arranged : (c : tie.After-plan Inv-loop μ-loop) → let d = stage-of c in let e = again-of d in let h = e .before .before in let a = start-of h .args in let l = h .loop in
-    Arranged (taskIn (a .task .now)) (a .list .now) (a .plan .now) (l .plan) (l .memo) (l .s .sets) (valuesOf (l .s .newest .values)) (l .c) (l .at) (l .j)
+    Arranged (taskIn (a .task .now)) (a .list .now) (a .plan .now) (l .plan) (l .memo) (l .s .sets) (valuesOf (l .s .newest .values)) (l .c) (l .searched) (l .at) (l .j)
     (take (length (a .list .now) - l .j) (drop (l .j) (a .list .now))) (left-by d) (d .stage .result)
 arranged c =
     let d = stage-of c in
@@ -62,6 +62,7 @@ arranged c =
       part = rest-is (start-of h .args .list .now) (h .loop .j) (omega (arith, e .if2 .left));
       long = c .plan .given;
       put = d .stage .ensures .0;
+      counts = d .stage .ensures .1 .1;
     }
 
 -- a step is left
@@ -77,16 +78,20 @@ needs-requires c κs = c .before .before .before .before .pre .0 .loaded
 initial-requires : tie.Need-initial-requires Inv-loop μ-loop
 initial-requires c κs = c .before .before .before .before .before .pre .0 .loaded
 
+uncounted-requires : tie.Need-uncounted-requires Inv-loop μ-loop
+uncounted-requires c κs = search needs
+
 loop-holds : tie.Need-loop-holds Inv-loop μ-loop
 loop-holds c =
-    let e = c .initial .ensures in
-    repairing-start _ _ _ _ _ _ (c .before .before .before .before .before .before .pre .2) (e .0) (e .1)
+    let i = c .before in
+    let e = i .initial .ensures in
+    rw (c .uncounted .ensures) (repairing-start _ _ _ _ _ _ (i .before .before .before .before .before .before .pre .2) (e .0) (e .1))
 
 verdict-requires : tie.Need-verdict-requires Inv-loop μ-loop
 verdict-requires c κs =
     let h = c .before .before .before .before in
     let p = start-of h .pre in
-    (p .0 .loaded, repairing-few (h .loop .inv) (p .0 .loaded .formed) (p .3))
+    (p .0 .loaded, repairing-few (h .loop .inv) (p .0 .loaded .formed) (p .3), repairing-searches (h .loop .inv) (p .3))
 
 same-length : tie.Need-same-length Inv-loop μ-loop
 same-length c =
@@ -121,7 +126,8 @@ stage-requires c κs =
     let e = c .before .before .before .before .before .before in
     let h = e .before .before in
     let p = start-of h .pre in
-    ((p .0, rest-entries (start-of h .args .list .now) (h .loop .j) (omega (arith, e .if2 .left)) (taskIn (start-of h .args .task .now)) (p .1), repairing-within (h .loop .inv)), h .loop .inv .rows)
+    let entries = rest-entries (start-of h .args .list .now) (h .loop .j) (omega (arith, e .if2 .left)) (taskIn (start-of h .args .task .now)) (p .1) in
+    ((p .0, entries, repairing-within (h .loop .inv), omega (arith, h .loop .inv .long, p .3)), h .loop .inv .rows)
 
 enum-known-w : tie.Need-enum-known-w Inv-loop μ-loop
 enum-known-w c = search needs
@@ -138,7 +144,7 @@ too-long-requires c κs =
 same-length-3 : tie.Need-same-length-3 Inv-loop μ-loop
 same-length-3 c =
     let d = stage-of (c .before .before .before .before) in
-    d .stage .ensures .1 .long ∙ sym (start-of (again-of d .before .before) .pre .2 .long)
+    d .stage .ensures .1 .0 .long ∙ sym (start-of (again-of d .before .before) .pre .2 .long)
 
 same-length-4 : tie.Need-same-length-4 Inv-loop μ-loop
 same-length-4 c =
@@ -151,6 +157,14 @@ returns-2 c =
     let h = again-of (stage-of p) .before .before in
     held-long _ _ _ _ _ (c .too-long .ensures ∙ ap (refused 11) (p .plan .given ∙ h .loop .inv .long)) (repairing-long (arranged p) (c .before .enum-told .given .1))
 
+add-searched : tie.Need-add-searched Inv-loop μ-loop
+add-searched c =
+    let p = c .before .before .before .before in
+    let h = again-of (stage-of p) .before .before in
+    let s = start-of h in
+    let R = arranged p in
+    omega (arith, repairing-modest R _ _ (c .before .w .given .1) (s .pre .0 .loaded .formed), repairing-fits R _ _ (c .before .w .given .1), R .here, s .pre .3)
+
 add-j : tie.Need-add-j Inv-loop μ-loop
 add-j c =
     let e = again-of (stage-of (c .before .before .before .before)) in
@@ -160,7 +174,7 @@ loop-less : tie.Need-loop-less Inv-loop μ-loop
 loop-less c =
     let p = c .before .before .before .before in
     let e = again-of (stage-of p) in
-    stages-fewer _ _ _ _ _ _ (omega (arith, e .if2 .left)) (repairing-fits (arranged p) _ (c .before .w .given .1))
+    stages-fewer _ _ _ _ _ _ (omega (arith, e .if2 .left)) (repairing-fits (arranged p) _ _ (c .before .w .given .1))
 
 loop-again : tie.Need-loop-again Inv-loop μ-loop
 loop-again c =
@@ -169,8 +183,8 @@ loop-again c =
     let e = again-of d in
     let h = e .before .before in
     let a = start-of h in
-    repairing-turn (arranged p) _ (c .before .w .given .1) (rest-entries (a .args .list .now) (h .loop .j) (omega (arith, e .if2 .left)) (taskIn (a .args .task .now)) (a .pre .1)) _
-    (d .stage .ensures .1)
+    let entries = rest-entries (a .args .list .now) (h .loop .j) (omega (arith, e .if2 .left)) (taskIn (a .args .task .now)) (a .pre .1) in
+    repairing-turn (arranged p) _ _ (c .before .w .given .1) (a .pre .0 .loaded .formed) entries _ (d .stage .ensures .1 .0)
 
 mul-wide : tie.Need-mul-wide Inv-loop μ-loop
 mul-wide c =
@@ -216,7 +230,7 @@ refresh-requires : tie.Need-refresh-requires Inv-loop μ-loop
 refresh-requires c κs =
     let w = wide-of (counted-of (c .before .before .before .before)) in
     let h = head-of w in
-    ((start-of h .pre .0 .loaded, below w, h .before .before .needs .ensures), h .loop .inv .rows)
+    ((start-of h .pre .0 .loaded, below w, h .before .before .before .needs .ensures), h .loop .inv .rows)
 
 step-requires-2 : tie.Need-step-requires-2 Inv-loop μ-loop
 step-requires-2 c κs = let w = wide-of (counted-of (effects-of (c .before .before))) in (start-of (head-of w) .pre .0 .loaded, below w)
@@ -241,6 +255,7 @@ repair-from-spec =
     μ-loop
     needs-requires
     initial-requires
+    uncounted-requires
     loop-holds
     verdict-requires
     same-length
@@ -257,6 +272,7 @@ repair-from-spec =
     same-length-3
     same-length-4
     returns-2
+    add-searched
     add-j
     loop-less
     loop-again

@@ -73,7 +73,7 @@ put-runs-requires : tie.Need-put-runs-requires
 put-runs-requires c κs =
     let d = c .before .before .before in
     let p = to-plan d in
-    let w = work-length p in (kept-le _ 16384 _ _ w refl (kept-few _ _ _ (asked p) _ _ _ _ (d .answer .given .1)), omega arith)
+    let w = work-length p in (kept-le _ 16384 _ _ w refl (kept-few _ _ _ (asked p) _ _ _ _ _ (d .answer .given .1)), omega arith)
 
 slice-aggregate-running : tie.Need-slice-aggregate-running
 slice-aggregate-running c = search needs
@@ -101,7 +101,7 @@ returns-2 c =
     let at-runs = running-to-runs at-running in
     let at-answer = runs-to-answer at-runs in
     let p = to-plan at-answer in
-    written _ _ _ (asked p) _ _ _ _ (at-answer .answer .given .1) _ _ _ _ (at-runs .put-runs .ensures .0) (c .before .before .put-result .ensures) (work-length p) refl
+    written _ _ _ (asked p) _ _ _ _ _ (at-answer .answer .given .1) _ _ _ _ (at-runs .put-runs .ensures .0) (c .before .before .put-result .ensures) (work-length p) refl
     (at-front .front .ensures .0) (at-running .running .ensures)
 
 pub write-spec : {M : Type 1} → statement M

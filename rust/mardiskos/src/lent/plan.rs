@@ -8,6 +8,8 @@ pub struct PlanResult {
     pub cost: u32,
     /// The steps that run for real, from the front of the plan.
     pub runs: u32,
+    /// The path searches of the repair.
+    pub searches: u32,
     pub real: bool,
 }
 

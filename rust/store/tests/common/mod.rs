@@ -9,7 +9,7 @@ use std::sync::atomic::{AtomicUsize, Ordering};
 use reference::{Fact, Task, Variable};
 use store::{parse, Store};
 
-pub const EXAMPLES: [&str; 16] = [
+pub const EXAMPLES: [&str; 17] = [
     "two-shelves",
     "two-shelves-without-1",
     "two-shelves-without-2",
@@ -26,6 +26,7 @@ pub const EXAMPLES: [&str; 16] = [
     "detour",
     "ring",
     "diamond",
+    "lift",
 ];
 
 pub fn path(name: &str, extension: &str) -> PathBuf {

@@ -1,7 +1,7 @@
 use mathlib.Core.Path.{sym, ap, _∙_, subst}
 use lib.ListN.{length}
 use Rattle.planning.specs.Calls.{planIn}
-use Rattle.planning.specs.Existence.{Demand3, Bounded}
+use Rattle.planning.specs.Existence.{Demand3, Bounded, Ceiling}
 use Rattle.mardiskos.specs.Plans.{planResultOf, answerIn}
 use Rattle.mardiskos.proofs.Numbers.{plan-read}
 use Rattle.planning.specs.Record.{taskOf}
@@ -37,7 +37,10 @@ returns c =
           E .1 .1 .0,
           (
             subst (λ x. Demand3 (a .bytes .now) (length (a .plan .now)) (length (a .work .now)) x (planIn x l)) same (E .1 .1 .1 .0),
-            subst (λ x. Bounded (a .bytes .now) (relaxedPlan (taskOf (a .bytes .now))) x (planIn x l)) same (E .1 .1 .1 .1),
+            (
+              subst (λ x. Bounded (a .bytes .now) (relaxedPlan (taskOf (a .bytes .now))) x (planIn x l)) same (E .1 .1 .1 .1 .0),
+              subst (Ceiling (a .bytes .now) (relaxedPlan (taskOf (a .bytes .now)))) same (E .1 .1 .1 .1 .1),
+            ),
           ),
         ),
       ),

@@ -1,7 +1,7 @@
 use mathlib.Core.Path.{sym, ap, _∙_, subst}
 use lib.ListN.{length}
 use Rattle.planning.specs.Calls.{planIn}
-use Rattle.planning.specs.Existence.{Bounded}
+use Rattle.planning.specs.Existence.{Bounded, Ceiling}
 use Rattle.mardiskos.specs.Plans.{planResultOf, answerIn}
 use Rattle.mardiskos.proofs.Numbers.{repair-read}
 use borrow.Author.Needs.{needs}
@@ -28,7 +28,8 @@ returns c =
     let l = f .repair .last .1 .1 .0 in
     let r = c .flat .ensures ∙ ap planResultOf (E .0) in
     let same = E .0 ∙ sym (ap answerIn r ∙ repair-read (a .bytes .now) (a .list .now) (length (a .plan .now)) (length (a .work .now))) in
-    (r, (E .1 .0, (E .1 .1 .0, subst (λ x. Bounded (a .bytes .now) (a .list .now) x (planIn x l)) same (E .1 .1 .1))))
+    let bounded = subst (λ x. Bounded (a .bytes .now) (a .list .now) x (planIn x l)) same (E .1 .1 .1 .0) in
+    (r, (E .1 .0, (E .1 .1 .0, (bounded, subst (Ceiling (a .bytes .now) (a .list .now)) same (E .1 .1 .1 .1)))))
 
 pub mardiskos-repair-spec : {M : Type 1} → statement M
 mardiskos-repair-spec =
