@@ -4,6 +4,7 @@
 use answers::Checked;
 use answers::Refusal;
 use state::Goals;
+use state::Relaxed;
 use state::State;
 ghost use mathlib.Core.Path.{_≡_};
 ghost use mathlib.Core.List.{[]};
@@ -233,7 +234,7 @@ fn settle_each(
 pub struct Ran {
     pub steps: usize,
     pub solved: bool,
-    pub state: State,
+    pub state: Relaxed,
 }
 
 // The forward run of a loaded task: the actions in the front of `plan`, and the first achiever of each fact, where `first` holds
@@ -245,7 +246,9 @@ pub fn run_forward(task: &[u16], first: &mut [u16; 4096], plan: &mut [u16; 1024]
 {
     let goals = Goals::load(task);
     let count = goals.count;
-    let mut s = State::initial(task);
+    let start = State::initial(task);
+    let sets = start.sets;
+    let mut s = Relaxed { sets };
     let mut order = [0u16; 1024];
     ranking::by_cost(task, &mut order);
     let mut work = [65535u16; ALL];

@@ -2,16 +2,16 @@
 -- value. No unsettled label is below a settled one, and a label by an arc is above that of the arc's end; so where the nearest value
 -- is settled next, what it gives to settled values is no less than what they have. Each settled value leaves one less to come, which
 -- bounds the keys.
-use mathlib.Core.Path.{_≡_, refl, sym, ap, _∙_, subst}
+use mathlib.Core.Path.{_≡_, refl, sym, _∙_, subst}
 use mathlib.Core.Logic.{_⊎_, inl, inr, _≢_}
 use mathlib.Core.Bool.{Bool, true, false, not, _&&_}
 use mathlib.Core.List.{List}
-use Prim.Native.Nat.{ℕ, zero, suc, _+_, _-_, _*_, _/_, _^_, _<_, _≤_}
+use Prim.Native.Nat.{ℕ, _+_, _-_, _*_, _/_, _^_, _<_, _≤_}
 use native.Mathlib.Omega.{arith}
 use native.Mathlib.Decide.{ℕ-discrete, decLt}
 use lib.Bits.{bitXor}
 use lib.Dec.{T, T-not, not-T, eqb, eqb→eq, eqb-refl, ltb, lt→ltb, ltb→lt}
-use lib.ListN.{length, getD, set, replicate, length-set}
+use lib.ListN.{length, getD, set, replicate, length-set, length-replicate, getD-replicate}
 use lib.Seq.{getD-set-same, getD-set-other}
 use lib.Pow.{high, ones-split, ones-lt}
 use Rattle.planning.specs.Basics.{tally}
@@ -286,22 +286,13 @@ all-ones n h =
     let o : 2 ^ (n + (64 - n)) - 1 ≡ 18446744073709551615 = rw e refl in
     rw (← o, ones-split n (64 - n)) (high (2 ^ n - 1) (64 - n) (ones-lt (64 - n)))
 
-getD-replicate : (k x c : ℕ) → c < k → getD (replicate k x) c 0 ≡ x
-getD-replicate zero x c h = absurd (omega arith)
-getD-replicate (suc k) x zero h = refl
-getD-replicate (suc k) x (suc c) h = getD-replicate k x c (omega arith)
-
-replicate-length : (k x : ℕ) → length {A = ℕ} (replicate k x) ≡ k
-replicate-length zero x = refl
-replicate-length (suc k) x = ap suc (replicate-length k x)
-
 pub started : (t : Task) (F : Formed t) (K : State) (v d n one : ℕ) → d < count t v → n ≡ count t v → one ≡ 2 ^ d
     → let labels = set (replicate 64 unreached) d d in Settling t K v d labels (18446744073709551615 / 2 ^ (64 - n)) one × Nearest labels one d
 started t F K v d n one db en eo = (
   settling-start t F K v d db labels (18446744073709551615 / 2 ^ (64 - n)) one
-      (length-set (replicate 64 unreached) d d ∙ replicate-length 64 unreached)
-      (getD-set-same (replicate 64 unreached) d d 0 (omega (arith, replicate-length 64 unreached, ds)))
-      (λ c b q. getD-set-other (replicate 64 unreached) d c d 0 q ∙ getD-replicate 64 unreached c b)
+      (length-set (replicate 64 unreached) d d ∙ length-replicate 64 unreached)
+      (getD-set-same (replicate 64 unreached) d d 0 (omega (arith, length-replicate 64 unreached, ds)))
+      (λ c b q. getD-set-other (replicate 64 unreached) d c d 0 q ∙ getD-replicate 64 c unreached 0 b)
       (λ c. rw (all-ones n (omega (arith, en, F .count-max v)), inSet-all n c, en) refl)
       front,
   record { within = omega (arith, ds); member = λ _. rw (front d) (eqb-refl d); least = λ c b h. rw (eqb→eq c d (rw (front c) at h)) (ds, omega arith) },

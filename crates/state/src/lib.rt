@@ -343,6 +343,43 @@ impl Newest {
     }
 }
 
+// The relaxed state: every value that a variable has had.
+pub struct Relaxed {
+    pub sets: [u64; 64],
+}
+
+impl Relaxed {
+    // The state after action i, whole.
+    pub fn step(mut self, task: &[u16], i: usize) -> Relaxed
+        requires { ⌜ Loaded (now task) × (i < actions (taskIn (now task))) ⌝ }
+        ensures { λ r. ⌜ setsOf (r .sets) ≡ step relaxed (act (taskIn (now (task .entry))) i) (setsOf (self .sets)) ⌝ }
+    {
+        let end = task::eff_end(task, i);
+        let mut k = task::eff_start(task, i);
+        while k < end {
+            let f = lists::wide(task[k]);
+            let v = f / 64;
+            self.sets[v] = self.sets[v] | single(f % 64);
+            k += 1;
+        }
+        self
+    }
+
+    // The facts reached: the summed counts of ones.
+    pub fn reached(self) -> u64
+        ensures { λ r. ⌜ r ≡ size 64 (λ _. 64) (setsOf (self .sets)) ⌝ }
+    {
+        let mut sum: u64 = 0;
+        let mut v: usize = 0;
+        while v < 64 {
+            sum += u64::count_ones(self.sets[v]) as u64;
+            v += 1;
+        }
+        sum
+    }
+}
+
+// The relaxed state's sets, and the newest value of each variable.
 pub struct State {
     pub sets: [u64; 64],
     pub newest: Newest,
@@ -370,34 +407,17 @@ impl State {
     }
 
     // The state after action i, whole. Beside the copies of the sets the newest values may be stored one by one.
-    pub fn step(mut self, task: &[u16], i: usize) -> State
+    pub fn step(self, task: &[u16], i: usize) -> State
         requires { ⌜ Loaded (now task) × (i < actions (taskIn (now task))) ⌝ }
         ensures { λ r. ⌜ setsOf (r .sets) ≡ step relaxed (act (taskIn (now (task .entry))) i) (setsOf (self .sets)) ⌝ }
         ensures { λ r. ⌜ valuesOf (r .newest .values) ≡ newer (act (taskIn (now (task .entry))) i) (valuesOf (self .newest .values)) ⌝ }
     {
-        let end = task::eff_end(task, i);
-        let mut k = task::eff_start(task, i);
-        while k < end {
-            let f = lists::wide(task[k]);
-            let v = f / 64;
-            self.sets[v] = self.sets[v] | single(f % 64);
-            k += 1;
-        }
-        let newest = self.newest;
-        self.newest = newest.stored(task, i);
-        self
-    }
-
-    // The facts reached: the summed counts of ones.
-    pub fn reached(self) -> u64
-        ensures { λ r. ⌜ r ≡ size 64 (λ _. 64) (setsOf (self .sets)) ⌝ }
-    {
-        let mut sum: u64 = 0;
-        let mut v: usize = 0;
-        while v < 64 {
-            sum += u64::count_ones(self.sets[v]) as u64;
-            v += 1;
-        }
-        sum
+        let sets = self.sets;
+        let held = Relaxed { sets };
+        let next = held.step(task, i);
+        let sets = next.sets;
+        let old = self.newest;
+        let newest = old.stored(task, i);
+        State { sets, newest }
     }
 }

@@ -38,6 +38,23 @@ pub fn forward(task: &Task) -> Case {
     Case::new(record::write(task), Lent::new(1024, 0, 0), library, reference)
 }
 
+/// Forward runs of one record after the other.
+pub fn forward_each(tasks: &[Task]) -> Case {
+    let library = |records: &Records, lent: &mut Lent| {
+        sum(records.iter().map(|bytes| {
+            let run = mardiskos::lent::forward(bytes, &mut lent.plan);
+            [run.code, run.steps.into(), run.reached.into(), 0]
+        }))
+    };
+    let reference = |records: &Records, lent: &mut Lent| {
+        sum(records.iter().map(|bytes| {
+            let run = entry::forward(bytes, &mut lent.plan).unwrap();
+            [0, run.steps.into(), run.reached.into(), 0]
+        }))
+    };
+    Case::new(records(tasks), Lent::new(1024, 0, 0), library, reference)
+}
+
 pub fn relax(task: &Task) -> Case {
     let library = |bytes: &Vec<u8>, lent: &mut Lent| {
         let plan = mardiskos::lent::relax(bytes, &mut lent.plan);

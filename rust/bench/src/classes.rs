@@ -1,6 +1,8 @@
 //! Every class: its name, and what it is at each size.
 
-use crate::calls::{check, forward, judge, newest, plan, read_sheet, relax, repair, write_sheet};
+use crate::calls::{
+    check, forward, forward_each, judge, newest, plan, read_sheet, relax, repair, write_sheet,
+};
 use bench::table::Class;
 use generate::{extremes, prices, records, ring, stores, Random};
 use reference::entry::MAX_STEPS;
@@ -27,6 +29,10 @@ fn runs() -> Vec<Class> {
         }),
         Class::new("forward run, all costs differ", |r, n| {
             forward(&extremes::different_chain(r, 256 * n))
+        }),
+        // 40 such records in turn, more than the processor's branch prediction can learn by heart.
+        Class::new("forward run, 40 records", |r, n| {
+            forward_each(&many(40, || extremes::different_chain(r, 256 * n)))
         }),
         // 256n actions of one precondition and one effect, no two costs the same, in four waves; those
         // of a wave apply at the same time.

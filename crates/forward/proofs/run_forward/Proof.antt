@@ -27,7 +27,7 @@ abbrev settle-each-to-by-cost : tie.After-settle-each Inv-loop μ-loop → tie.A
 settle-each-to-by-cost c = c .before .before .before .before .before .before
 
 abbrev settle-each-to-initial : tie.After-settle-each Inv-loop μ-loop → tie.After-initial Inv-loop μ-loop
-settle-each-to-initial c = settle-each-to-by-cost c .before .before
+settle-each-to-initial c = settle-each-to-by-cost c .before .before .before
 
 abbrev start : tie.At-loop Inv-loop μ-loop → tie.Start Inv-loop μ-loop
 start c = settle-each-to-initial (c .before) .before .before .before
@@ -184,7 +184,7 @@ loop-less c =
     let at-wake = unmet-to-wake at-unmet in
     take-less (wake-to-head at-wake .loop .inv) (at-wake .wake .ensures .0) (at-unmet .unmet .ensures) (at-unmark .before .before .before .if1 .left) (at-lowest .lowest .ensures) (below at-unmark)
     (at-wide .wide .ensures) (at-unmark .unmark .ensures) (step-to-note c .note .ensures .noted) (fresh (c .before .before .before))
-    _ (c .step .ensures .0) (c .before .before .eff-start .ensures) (c .before .eff-end .ensures)
+    _ (c .step .ensures) (c .before .before .eff-start .ensures) (c .before .eff-end .ensures)
 
 loop-again : tie.Need-loop-again Inv-loop μ-loop
 loop-again c =
@@ -195,7 +195,7 @@ loop-again c =
     let at-wake = unmet-to-wake at-unmet in
     looping-take (wake-to-head at-wake .loop .inv) (at-wake .wake .ensures .0) (at-unmet .unmet .ensures) (at-unmark .before .before .before .if1 .left) (at-lowest .lowest .ensures) (below at-unmark)
     (at-wide .wide .ensures) (at-unmark .unmark .ensures) (step-to-note c .note .ensures .noted) (fresh (c .before .before .before))
-    _ (c .step .ensures .0) (c .before .before .eff-start .ensures) (c .before .eff-end .ensures)
+    _ (c .step .ensures) (c .before .before .eff-start .ensures) (c .before .eff-end .ensures)
 
 loop-less-2 : tie.Need-loop-less-2 Inv-loop μ-loop
 loop-less-2 c =

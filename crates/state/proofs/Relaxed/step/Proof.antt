@@ -1,4 +1,4 @@
--- Effects are put into the sets one after the other; those from k on are left. Then newest values step by themselves.
+-- Effects are put into the sets one after the other; those from k on are left.
 use borrow.Author.Needs.{needs}
 use mathlib.Core.Path.{_≡_, refl, ap, _∙_}
 use mathlib.Core.List.{List}
@@ -11,11 +11,11 @@ use Rattle.state.specs.Sets.{valuesOf}
 use Rattle.state.proofs.Listed.{Listed}
 use Rattle.state.proofs.Listing.{loaded-listed}
 use Rattle.state.proofs.Effects.{Walking, walking-start, walking-inside, walking-small, walking-turn, Putting, putting-start, putting-turn, putting-end}
-use Rattle.state.proofs.State.step.Statement.{statement}
-use Rattle.state.proofs.State.step.Tie as tie
+use Rattle.state.proofs.Relaxed.step.Statement.{statement}
+use Rattle.state.proofs.Relaxed.step.Tie as tie
 
 abbrev Inv-loop : tie.InvT-loop
-Inv-loop task i self₀ end k₀ self k = Walking task i end k × Putting task i (self₀ .sets) (self .sets) k × (self .newest .values ≡ self₀ .newest .values)
+Inv-loop task i self₀ end k₀ self k = Walking task i end k × Putting task i (self₀ .sets) (self .sets) k
 
 abbrev μ-loop : tie.MeasureT-loop
 μ-loop task i self₀ end k₀ self k = end - k
@@ -36,7 +36,6 @@ loop-holds : tie.Need-loop-holds Inv-loop μ-loop
 loop-holds c = (
   walking-start _ _ (listed (c .before .before .before)) _ _ (c .before .eff-end .ensures) (c .eff-start .ensures),
   putting-start _ _ _ _ (c .eff-start .ensures) (search needs),
-  refl,
 )
 
 mul-wide : tie.Need-mul-wide Inv-loop μ-loop
@@ -81,20 +80,12 @@ loop-again c =
     let L = listed (start-of h) in (
       walking-turn _ _ L _ _ (I .0) (omega arith),
       putting-turn _ _ L _ _ _ _ (I .0) (I .1) (omega arith) _ _ _ _ (c .before .before .wide .ensures) refl refl (c .single .ensures),
-      I .2,
     )
-
-stored-requires : tie.Need-stored-requires Inv-loop μ-loop
-stored-requires c κs = search needs
 
 returns : tie.Need-returns Inv-loop μ-loop
 returns c =
-    let h = c .before .before .before in
-    let I = h .loop .inv in
-    let a = start-of h .args in (
-      putting-end _ _ (listed (start-of h)) _ _ _ _ (I .0) (I .1) (omega arith),
-      c .stored .ensures ∙ ap (λ (ns : List ℕ). newer (act (taskIn (a .task .now)) (a .i)) (valuesOf ns)) (I .2),
-    )
+    let h = c .before in
+    putting-end _ _ (listed (start-of h)) _ _ _ _ (h .loop .inv .0) (h .loop .inv .1) (omega arith)
 
 pub step-spec : {M : Type 1} → statement M
 step-spec =
@@ -116,5 +107,4 @@ step-spec =
     add-k
     loop-less
     loop-again
-    stored-requires
     returns)
