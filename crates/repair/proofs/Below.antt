@@ -1,4 +1,4 @@
--- Entries of the lists that passes build are actions; parts of a list that was written.
+-- Entries of the lists that passes build are actions, and their searches few; parts of a list that was written.
 use mathlib.Core.Bool.{Bool, true, false, _||_}
 use mathlib.Core.List.{List, [], _∷_, _++_}
 use mathlib.Core.Option.{Option, none, some}

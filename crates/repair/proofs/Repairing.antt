@@ -1,7 +1,7 @@
 -- The repair in the middle. Of the steps placed, the first ones are taken: state and counts are those behind them, and what is left is the
 -- repair of the rest of the relaxed plan from the state behind the others. The code keeps the facts held ever and the newest values, which
 -- show the red-black state; the facts held ever are those of R and B (`knows`): the definition's `ever` is whatever it is, and the code needs
--- only what is known of it.
+-- only what is known of it. Searches are those of the stages placed, at most 64 for each of their steps, and 64 for the goals.
 use mathlib.Core.Path.{_≡_, refl, sym, ap, _∙_, subst, fun-ext}
 use mathlib.Core.List.{List, [], _∷_, _++_, append-nil, append-assoc}
 use Prim.Native.Nat.{ℕ, zero, suc, _+_, _-_, _*_, _<_, _≤_}

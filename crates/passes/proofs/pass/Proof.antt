@@ -1,6 +1,7 @@
 -- What is written, and the pass over the unread entries from the present value on, are the whole pass: before each entry the path to
 -- the value that it needs, then the entry; at the end the path to the wanted value. Where a path does not fit before its entry, the list
--- written, the path and the entries that are unread are more than the list holds.
+-- written, the path and the entries that are unread are more than the list holds. The searches so far and those for the unread entries
+-- are all.
 use borrow.Author.Needs.{needs}
 use mathlib.Core.List.{List, _++_}
 use mathlib.Core.Path.{sym, _∙_}

@@ -1,4 +1,4 @@
--- The moves so far and the passes of the variables left in the order are all the passes. A pass that does not fit is no longer than
+-- The moves so far and the passes of the variables left in the order are all the passes, and so are their searches. A pass that does not fit is no longer than
 -- the whole, as passes only insert.
 use borrow.Author.Needs.{needs}
 use mathlib.Core.List.{List}

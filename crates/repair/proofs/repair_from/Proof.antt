@@ -1,5 +1,5 @@
 -- Where every step placed is taken, what is left begins with the steps of the next stage; else one more is taken, and state and counts are
--- those behind it. In the end nothing is left, and the counts are those of the whole repair.
+-- those behind it. In the end nothing is left, and counts and searches are those of the whole repair.
 use borrow.Author.Needs.{needs}
 use mathlib.Core.List.{List}
 use mathlib.Core.Path.{sym, ap, _∙_}

@@ -1,13 +1,8 @@
 -- Effects are put into the sets one after the other; those from k on are left.
 use borrow.Author.Needs.{needs}
-use mathlib.Core.Path.{_≡_, refl, ap, _∙_}
-use mathlib.Core.List.{List}
-use Prim.Native.Nat.{ℕ, _-_, _<_}
+use mathlib.Core.Path.{refl}
+use Prim.Native.Nat.{_-_, _<_}
 use native.Mathlib.Omega.{arith}
-use Rattle.planning.specs.Runs.{act}
-use Rattle.planning.specs.Newest.{newer}
-use Rattle.task.specs.Task.{taskIn}
-use Rattle.state.specs.Sets.{valuesOf}
 use Rattle.state.proofs.Listed.{Listed}
 use Rattle.state.proofs.Listing.{loaded-listed}
 use Rattle.state.proofs.Effects.{Walking, walking-start, walking-inside, walking-small, walking-turn, Putting, putting-start, putting-turn, putting-end}
