@@ -1,6 +1,7 @@
-/* A control program: hands over a record, gets a plan, writes its sheet, reads the sheet back, judges what
- * it read, and prints the steps that run for real and the value that each variable then has. Arguments are record files; without any it takes the
- * two-shelves record that is built in. A refused record prints its number and place, and what they mean.
+/* A control program: hands over a record, gets a plan with its marks, writes the sheet, reads it back and judges what
+ * it read. It prints the steps, inserted moves in brackets; the relaxed plan, which is the steps without these; the
+ * steps that run for real, and the value that each variable then has. Arguments are record files; without any it takes
+ * the two-shelves record that is built in. A refused record prints its number and place, and what they mean.
  * Ends with status 0 if every record has its plan, with 1 if a record was refused, with 2 if a file could not be
  * read or the output not be written, which a line on standard error says. */
 #include "mardiskos.h"
@@ -20,6 +21,7 @@ static const uint8_t two_shelves[35] = {
 static uint8_t record[MARDISKOS_LONGEST_RECORD + 1];
 static uint8_t sheet[MARDISKOS_LONGEST_SHEET];
 static uint16_t plan[MARDISKOS_MOST_STEPS], work[MARDISKOS_MOST_STEPS], steps_read[MARDISKOS_MOST_STEPS];
+static uint8_t marks[MARDISKOS_MOST_STEPS], marks_read[MARDISKOS_MOST_STEPS];
 static uint16_t values[MARDISKOS_MOST_VARIABLES];
 
 static int refuse(uint64_t code)
@@ -49,6 +51,22 @@ static void print_runs(const uint16_t *list, uint32_t runs)
     puts("");
 }
 
+/* The steps that were read, the marked ones in brackets; then the others alone. */
+static void print_marked(uint32_t steps)
+{
+    uint32_t inserted = 0;
+    for (uint32_t i = 0; i < steps; i++)
+        inserted += marks_read[i];
+    printf("steps %" PRIu32 ", inserted %" PRIu32 ":", steps, inserted);
+    for (uint32_t i = 0; i < steps; i++)
+        printf(marks_read[i] ? " (%u)" : " %u", (unsigned)steps_read[i]);
+    printf("\nrelaxed %" PRIu32 ":", steps - inserted);
+    for (uint32_t i = 0; i < steps; i++)
+        if (!marks_read[i])
+            printf(" %u", (unsigned)steps_read[i]);
+    puts("");
+}
+
 /* Of the steps that run for real, so that things are where they were put last. */
 static int print_newest(size_t len, uint32_t runs)
 {
@@ -66,11 +84,13 @@ static int print_newest(size_t len, uint32_t runs)
 /* The sheet as whoever opens it later reads it, with the record beside it. */
 static int open_sheet(size_t len, size_t sheet_len)
 {
-    mardiskos_sheet read = mardiskos_read_sheet(sheet, sheet_len, steps_read, MARDISKOS_MOST_STEPS);
+    mardiskos_sheet read = mardiskos_read_sheet(sheet, sheet_len, steps_read, MARDISKOS_MOST_STEPS, marks_read,
+                                                MARDISKOS_MOST_STEPS);
     if (read.code != 0)
         return refuse(read.code);
-    printf("read back: %" PRIu32 " steps, cost %" PRIu32 ", %s\n", read.steps, read.cost,
-           verdict(read.real));
+    printf("read back: %" PRIu32 " steps, cost %" PRIu32 ", edition %" PRIu32 ", %s\n", read.steps, read.cost,
+           read.edition, verdict(read.real));
+    print_marked(read.steps);
     mardiskos_judgement judged = mardiskos_judge(record, len, steps_read, read.steps);
     if (judged.code != 0)
         return refuse(judged.code);
@@ -85,13 +105,14 @@ static int control(const char *name, size_t len)
     uint64_t code = mardiskos_check(record, len);
     if (code != 0)
         return refuse(code);
-    mardiskos_plan_result planned = mardiskos_plan(record, len, plan, MARDISKOS_MOST_STEPS, work, MARDISKOS_MOST_STEPS);
+    mardiskos_plan_result planned = mardiskos_plan(record, len, plan, MARDISKOS_MOST_STEPS, work, MARDISKOS_MOST_STEPS,
+                                                   marks, MARDISKOS_MOST_STEPS);
     if (planned.code != 0)
         return refuse(planned.code);
     printf("plan: %" PRIu32 " steps, cost %" PRIu32 ", %s, %" PRIu32 " run, searches %" PRIu32 "\n", planned.steps, planned.cost,
            verdict(planned.real), planned.runs, planned.searches);
-    mardiskos_sheet_size written =
-        mardiskos_write_sheet(plan, planned.steps, planned.cost, planned.real, sheet, MARDISKOS_LONGEST_SHEET);
+    mardiskos_sheet_size written = mardiskos_write_sheet(plan, planned.steps, marks, planned.steps, 2, planned.cost,
+                                                         planned.real, sheet, MARDISKOS_LONGEST_SHEET);
     if (written.code != 0)
         return refuse(written.code);
     printf("sheet: %" PRIu32 " bytes\n", written.bytes);

@@ -21,14 +21,15 @@
  *   10      there is no plan                                    how many facts can be reached
  *   11      the result needs more room than was lent            the room: entries, or bytes
  *   12      a sheet that stops early, is of another edition     where the field starts; for the end,
- *           or has too many steps, or whose end is not as in 6  where the last step ends
+ *           than 1 and 2 or has too many steps, or whose end    where the last step ends
+ *           is not as in 6
  *   13      a list of more than 32,768 entries; for a sheet     32,768; the entry's position
  *           also an entry above 1,023
  *
  * Where something starts is told in bits, and the most significant bit of the first byte is bit 0. Entries, variables and
- * actions count from 0 too. Fields are looked at in their order, and the first fault is told. Room is the
- * length of the list lent, of the shorter one where two are lent, and never more than 32,768; for a list
- * of values it is that list's length.
+ * actions count from 0 too. Fields are looked at in their order, and the first fault is told. Room, or capacity, is
+ * the length of the list lent for the result, or of the work list or mark area lent with it if one of these is shorter,
+ * and never more than 32,768; for a list of values it is that list's length.
  *
  * A record and a sheet are unsigned numbers without gaps between them, most significant bit first. Zero bits fill the
  * last byte, and nothing follows. Their fields, with their bits:
@@ -49,14 +50,16 @@
  *           12  each precondition, then each effect: the variable in 6 bits, the value in 6. Among the
  *               preconditions each variable is above the one before it, and likewise among the effects.
  *
- *   sheet    4  the edition, 1
+ *   sheet    4  the edition, 1 or 2
  *            1  1 if the plan is one for real
  *           16  how many steps it has, up to 32,768
  *           32  its cost
- *           10  each step
+ *           for each step:
+ *            1  its mark, in edition 2 only
+ *           10  its action
  *
- * Anything may be handed over: any bytes as a record or a sheet, any numbers as a list, and all of it
- * may be empty, the lists lent for writing too. What stands in these before a call makes no difference.
+ * Anything may be handed over: any bytes as a record, a sheet or marks, any numbers as a list, and all of it
+ * may be empty, what is lent for writing too. What stands there before a call makes no difference.
  * A pointer may be null where its length is 0: nothing is read or written there.
  * What is lent stays the caller's: it is used only during the call, and no pointer to it is kept.
  * Areas lent for writing must not overlap with anything else lent to the same call. Nothing is
@@ -77,8 +80,8 @@ extern "C" {
 #endif
 
 /* The version, as text and as 10,000 * major + 100 * minor + patch. */
-#define MARDISKOS_VERSION "0.6.0"
-#define MARDISKOS_VERSION_NUMBER 600
+#define MARDISKOS_VERSION "0.7.0"
+#define MARDISKOS_VERSION_NUMBER 700
 
 #define MARDISKOS_NUMBER(code) ((unsigned)((code) % 32))
 #define MARDISKOS_PLACE(code) ((code) / 32)
@@ -123,12 +126,12 @@ static inline const char *mardiskos_words(unsigned number)
     return number < sizeof words / sizeof words[0] ? words[number] : "no such number";
 }
 
-/* The most variables and actions of a record, the longest record and the longest sheet in bytes, and the most
- * steps of a plan. */
+/* The most variables and actions of a record, the longest record and the longest sheet of either edition in bytes, and
+ * the most steps of a plan. */
 #define MARDISKOS_MOST_VARIABLES 64
 #define MARDISKOS_MOST_ACTIONS 1024
 #define MARDISKOS_LONGEST_RECORD 49315
-#define MARDISKOS_LONGEST_SHEET 40967
+#define MARDISKOS_LONGEST_SHEET 45063
 #define MARDISKOS_MOST_STEPS 32768
 
 /* Checks the len bytes at record, any bytes and any number of them. Answers 0 if they are a record,
@@ -211,8 +214,14 @@ typedef struct {
 } mardiskos_plan_result;
 
 /* The planner: the repair of the record's relaxed plan. The plan fills the front of the plan list and
- * 65,535 the rest. The length of the work list bounds the plan's as that of the plan list does; it holds
- * 65,535 throughout afterwards, always. Refuses with 1 to 8, 10, 11.
+ * 65,535 the rest. The lengths of the work list and of the mark area bound the plan's as that of the plan list
+ * does. The work list holds 65,535 throughout afterwards, always. Refuses with 1 to 8, 10, 11.
+ *
+ * Byte i of the mark area is the mark of step i: 1 if the step is an inserted move, 0 if it is an action of the
+ * relaxed plan. Bytes behind the plan are 0. An action may stand in one plan with either mark. The steps marked
+ * 0 are, in their order, the relaxed plan that was repaired; repairing that gives, where the capacity holds it,
+ * the same plan with the same marks. Who has no use for marks lends the area all the same: without it there is room
+ * for the empty plan only.
  *
  * The way on which inserted moves bring a black variable to a value is one of least cost; of several one of
  * fewest moves; of those the one with the lower action at the first place where they differ.
@@ -224,36 +233,45 @@ typedef struct {
  * - if some list is a red-black plan and the capacity is F * P or more, it returns a plan.
  * It answers 11 only where the plan is longer than the capacity, whatever F * P is. */
 mardiskos_plan_result mardiskos_plan(const uint8_t *record, size_t len, uint16_t *plan, size_t plan_len,
-                                     uint16_t *work, size_t work_len);
+                                     uint16_t *work, size_t work_len, uint8_t *marks, size_t marks_len);
 
-/* The same for the caller's own relaxed plan, the list_len actions at list, which is only read. Of n
- * actions it makes a red-black plan of at most n * P steps. Refuses with 1 to 8, 13, 9, 11. */
+/* The same for the caller's own relaxed plan, the list_len actions at list, which is only read; the steps marked 0
+ * are that list. Of n actions it makes a red-black plan of at most n * P steps. Refuses with 1 to 8, 13, 9, 11. */
 mardiskos_plan_result mardiskos_repair(const uint8_t *record, size_t len, const uint16_t *list,
                                        size_t list_len, uint16_t *plan, size_t plan_len, uint16_t *work,
-                                       size_t work_len);
+                                       size_t work_len, uint8_t *marks, size_t marks_len);
 
 typedef struct {
     uint64_t code;
     uint32_t bytes;
 } mardiskos_sheet_size;
 
-/* Writes the plan sheet of a list of steps, its cost and its verdict into the len bytes at bytes:
- * answers how many bytes it has; the bytes behind it are 0. Refuses with 13 (length first), 11. */
-mardiskos_sheet_size mardiskos_write_sheet(const uint16_t *list, size_t list_len, uint32_t cost,
-                                           bool real, uint8_t *bytes, size_t len);
+/* Writes the plan sheet of a list of steps, their marks, their cost and the verdict into the len bytes at bytes:
+ * answers how many bytes it has; the bytes behind it are 0. Refuses with 13 (length first), 11.
+ *
+ * Edition 1 gives a sheet of edition 1, which has no marks: those given are not looked at. Any other number gives a
+ * sheet of edition 2. In it a step is marked if its byte at marks is not 0; steps behind the marks_len bytes are not
+ * marked, and bytes behind the last step are not looked at. */
+mardiskos_sheet_size mardiskos_write_sheet(const uint16_t *list, size_t list_len, const uint8_t *marks,
+                                           size_t marks_len, uint32_t edition, uint32_t cost, bool real,
+                                           uint8_t *bytes, size_t len);
 
 typedef struct {
     uint64_t code;
     uint32_t steps;
     uint32_t cost;
+    uint32_t edition;
     bool real;
 } mardiskos_sheet;
 
-/* Reads the plan sheet of len bytes at bytes: the steps fill the front of the list, 65,535 the rest.
- * Refuses with 12, 11. What was written reads back as it was; what is read and written again gives
- * the same bytes. */
-mardiskos_sheet mardiskos_read_sheet(const uint8_t *bytes, size_t len, uint16_t *list,
-                                     size_t list_len);
+/* Reads the plan sheet of len bytes at bytes, of either edition. The steps fill the front of the list, 65,535 the
+ * rest; their marks, 0 or 1, the front of the mark area, 0 the rest. A sheet of edition 1 shows no marks, so that all
+ * are 0; the mark area's length bounds the steps as for edition 2. Refuses with 12, 11.
+ *
+ * What was written reads back as it was: the edition as 1 or 2, the marks of edition 2 as 0 or 1. What is read and
+ * written again, with the edition and the marks that were read, gives the same bytes. */
+mardiskos_sheet mardiskos_read_sheet(const uint8_t *bytes, size_t len, uint16_t *list, size_t list_len,
+                                     uint8_t *marks, size_t marks_len);
 
 #ifdef __cplusplus
 }

@@ -2,15 +2,20 @@
 
     import mardiskos
     record = open("examples/two-shelves.record", "rb").read()
-    plan = mardiskos.plan(record)         # Plan(steps=[0, 2, 1, 3], cost=10, runs=4, searches=1, real=True)
+    plan = mardiskos.plan(record)         # Plan(steps=[0, 2, 1, 3], cost=10, runs=4, searches=1, real=True, marks=[0, 0, 1, 0])
+    plan.unmarked                         # [0, 2, 3]: the relaxed plan, without the moves that the repair inserted
     mardiskos.newest(record, plan.steps)  # Newest(values=[0, 0], steps=4, runs=4)
-    sheet = mardiskos.write_sheet(plan.steps, plan.cost, plan.real)
+    sheet = mardiskos.write_sheet(plan.steps, plan.cost, plan.real, plan.marks)
 
-Records and sheets are bytes or anything like them, lists of actions any iterable of numbers. A refusal raises `Refused`, which
-has number, place and words. A number that fits no field (an action not 0 to 65,535, a cost of over 32 bits) raises OverflowError.
+Records and sheets are bytes or anything like them, lists of actions and marks any iterable of numbers. A refusal raises `Refused`, which
+has number, place and words. A number that fits no field (an action not 0 to 65,535, a mark not 0 to 255, a cost or an edition of over
+32 bits) raises OverflowError.
+
+New in 0.7: `Plan` ends with the marks, `Sheet` with marks and edition. The other fields keep their names and positions; only code that
+unpacks a whole Plan or Sheet has to take the new ones. `write_sheet` writes edition 2 unless it is told edition 1.
 
 The library is looked for in the file that MARDISKOS_LIB names if it is set; else in build/lib of the repository, where
-`sh tools/build` puts it; else wherever the system finds it. Its name has this module's version, libmardiskos.so.0.6. It is proved;
+`sh tools/build` puts it; else wherever the system finds it. Its name has this module's version, libmardiskos.so.0.7. It is proved;
 this module is not, it is tested.
 """
 
@@ -20,13 +25,13 @@ from array import array
 from ctypes import c_bool, c_char_p, c_size_t, c_uint32, c_uint64, c_void_p
 from typing import Iterable, List, NamedTuple
 
-__version__ = "0.6.0"
+__version__ = "0.7.0"
 
 MAX_STEPS = 32768
 MAX_VARIABLES = 64
 MAX_ACTIONS = 1024
 MAX_RECORD = 49315
-MAX_SHEET = 40967
+MAX_SHEET = 45063
 
 WORDS = (
     "accepted",
@@ -88,26 +93,44 @@ class ForwardRun(NamedTuple):
 
 
 class Plan(NamedTuple):
-    """A repaired plan: its steps, their cost, how many run for real, how many path searches the repair made, and whether it is a plan
-    in a real run. A search is a place where the repair asks for a path, also for one that has no moves or was found before;
-    there are at most n * P * m: actions of the relaxed plan, product of the black variables' counts of values, black variables."""
+    """A repaired plan: its steps, their cost, how many run for real, how many path searches the repair made, whether it is a plan
+    in a real run, and a mark for each step: 1 for an inserted move, 0 for an action of the relaxed plan. A search is a place
+    where the repair asks for a path, also for one that has no moves or was found before; there are at most n * P * m: actions
+    of the relaxed plan, product of the black variables' counts of values, black variables."""
 
     steps: List[int]
     cost: int
     runs: int
     searches: int
     real: bool
+    marks: List[int]
 
     @property
     def runnable(self) -> List[int]:
         """The steps that run for real: the front of the plan, the whole of it where only a goal is missed."""
         return self.steps[: self.runs]
 
+    @property
+    def unmarked(self) -> List[int]:
+        """The steps without the inserted moves: the relaxed plan that was repaired. Repairing it gives the same plan and marks, if
+        there is room."""
+        return _unmarked(self)
+
 
 class Sheet(NamedTuple):
+    """What stands on a sheet, with a mark for each step, 0 or 1, and the edition, 1 or 2; in edition 1 all marks are 0. The fields are
+    in the order in which `write_sheet` takes them: write_sheet(*sheet) gives the bytes that were read."""
+
     steps: List[int]
     cost: int
     real: bool
+    marks: List[int]
+    edition: int
+
+    @property
+    def unmarked(self) -> List[int]:
+        """The steps that are not marked: on a sheet of edition 2 of a repaired plan, the relaxed plan."""
+        return _unmarked(self)
 
 
 # The structs of c/mardiskos.h.
@@ -151,7 +174,7 @@ class _SheetSize(ctypes.Structure):
 
 
 class _Sheet(ctypes.Structure):
-    _fields_ = [("code", c_uint64), ("steps", c_uint32), ("cost", c_uint32), ("real", c_bool)]
+    _fields_ = [("code", c_uint64), ("steps", c_uint32), ("cost", c_uint32), ("edition", c_uint32), ("real", c_bool)]
 
 
 _BYTES = [c_char_p, c_size_t]
@@ -162,10 +185,10 @@ _CALLS = {
     "mardiskos_newest": (_NewestValues, _BYTES + _LIST + _LIST),
     "mardiskos_forward": (_ForwardRun, _BYTES + _LIST),
     "mardiskos_relax": (_RelaxedPlan, _BYTES + _LIST),
-    "mardiskos_plan": (_PlanResult, _BYTES + _LIST + _LIST),
-    "mardiskos_repair": (_PlanResult, _BYTES + _LIST + _LIST + _LIST),
-    "mardiskos_write_sheet": (_SheetSize, _LIST + [c_uint32, c_bool] + _LIST),
-    "mardiskos_read_sheet": (_Sheet, _BYTES + _LIST),
+    "mardiskos_plan": (_PlanResult, _BYTES + _LIST + _LIST + _LIST),
+    "mardiskos_repair": (_PlanResult, _BYTES + _LIST + _LIST + _LIST + _LIST),
+    "mardiskos_write_sheet": (_SheetSize, _LIST + _LIST + [c_uint32, c_uint32, c_bool] + _LIST),
+    "mardiskos_read_sheet": (_Sheet, _BYTES + _LIST + _LIST),
 }
 
 
@@ -235,33 +258,37 @@ def plan(record: bytes, room: int = MAX_STEPS) -> Plan:
     """The planner: the repair of the record's relaxed plan. `room` is the most steps wanted. Inserted moves take a
     cheapest way; of several one with the fewest moves, then the one with the lower action where they first differ. Refuses
     with 7, 8, 10, 11 too."""
-    steps, work = _room(room), _room(room)
-    return _plan(_library.mardiskos_plan(*_bytes(record), *_lend(steps), *_lend(work)), steps)
+    steps, work, marks = _room(room), _room(room), _area(room)
+    areas = _lend(steps) + _lend(work) + _lend(marks)
+    return _plan(_library.mardiskos_plan(*_bytes(record), *areas), steps, marks)
 
 
 def repair(record: bytes, actions: Iterable[int], room: int = MAX_STEPS) -> Plan:
     """The same for the caller's own relaxed plan. Refuses with 7, 8, 13, 9, 11 too."""
-    actions, steps, work = array("H", actions), _room(room), _room(room)
-    lists = _lend(actions) + _lend(steps) + _lend(work)
-    return _plan(_library.mardiskos_repair(*_bytes(record), *lists), steps)
+    actions, steps, work, marks = array("H", actions), _room(room), _room(room), _area(room)
+    areas = _lend(actions) + _lend(steps) + _lend(work) + _lend(marks)
+    return _plan(_library.mardiskos_repair(*_bytes(record), *areas), steps, marks)
 
 
-def write_sheet(steps: Iterable[int], cost: int, real: bool) -> bytes:
-    """The bytes of a plan sheet. Refuses with 13."""
+def write_sheet(steps: Iterable[int], cost: int, real: bool, marks: Iterable[int] = (), edition: int = 2) -> bytes:
+    """The bytes of a plan sheet. Edition 1 has no marks and does not look at those given; any other number gives edition 2. There
+    a mark other than 0 counts as 1 and a missing one as 0; marks behind those of the steps are not looked at. Refuses with 13."""
     if not 0 <= cost < 2**32:
         raise OverflowError("a cost has 32 bits")
-    steps, sheet = array("H", steps), array("B", bytes(MAX_SHEET))
-    size = _library.mardiskos_write_sheet(*_lend(steps), cost, real, *_lend(sheet))
+    if not 0 <= edition < 2**32:
+        raise OverflowError("an edition has 32 bits")
+    steps, marks, sheet = array("H", steps), array("B", marks), _area(MAX_SHEET)
+    size = _library.mardiskos_write_sheet(*_lend(steps), *_lend(marks), edition, cost, real, *_lend(sheet))
     _accept(size.code)
     return sheet[: size.bytes].tobytes()
 
 
 def read_sheet(sheet: bytes) -> Sheet:
-    """Reads a plan sheet. Refuses with 12."""
-    room = _room(MAX_STEPS)
-    read = _library.mardiskos_read_sheet(*_bytes(sheet), *_lend(room))
+    """Reads a plan sheet of edition 1 or 2. Refuses with 12."""
+    room, marks = _room(MAX_STEPS), _area(MAX_STEPS)
+    read = _library.mardiskos_read_sheet(*_bytes(sheet), *_lend(room), *_lend(marks))
     _accept(read.code)
-    return Sheet(room[: read.steps].tolist(), read.cost, read.real)
+    return Sheet(room[: read.steps].tolist(), read.cost, read.real, marks[: read.steps].tolist(), read.edition)
 
 
 def _accept(code: int) -> None:
@@ -283,6 +310,15 @@ def _room(entries: int) -> array:
     return array("H", bytes(2 * entries))
 
 
-def _plan(result: _PlanResult, steps: array) -> Plan:
+def _area(count: int) -> array:
+    return array("B", bytes(count))
+
+
+def _plan(result: _PlanResult, steps: array, marks: array) -> Plan:
     _accept(result.code)
-    return Plan(steps[: result.steps].tolist(), result.cost, result.runs, result.searches, result.real)
+    steps, marks = steps[: result.steps].tolist(), marks[: result.steps].tolist()
+    return Plan(steps, result.cost, result.runs, result.searches, result.real, marks)
+
+
+def _unmarked(plan) -> List[int]:
+    return [step for step, mark in zip(plan.steps, plan.marks) if not mark]

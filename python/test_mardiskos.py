@@ -64,28 +64,28 @@ class Calls(unittest.TestCase):
         record = example("two-shelves-with-4")
         self.assertEqual(mardiskos.forward(record), ([4, 2, 3], 5))
         self.assertEqual(mardiskos.relax(record), [4, 2, 3])
-        self.assertEqual(mardiskos.plan(record), Plan([4, 2, 1, 3], 9, 4, 1, True))
+        self.assertEqual(mardiskos.plan(record), Plan([4, 2, 1, 3], 9, 4, 1, True, [0, 0, 1, 0]))
 
     def test_gate_set_again(self):
         record = example("gate")
-        self.assertEqual(mardiskos.plan(record), Plan([0, 2, 1, 4, 0, 3, 1], 14, 7, 5, True))
+        self.assertEqual(mardiskos.plan(record), Plan([0, 2, 1, 4, 0, 3, 1], 14, 7, 5, True, [0, 0, 1, 0, 1, 1, 1]))
         self.assertEqual(mardiskos.newest(record, [0, 2]), ([1, 1, 0], 2, 2))
 
     def test_cheapest_way_back(self):
-        self.assertEqual(mardiskos.plan(example("detour")), Plan([1, 2, 6, 3, 4], 5, 5, 1, True))
-        self.assertEqual(mardiskos.plan(example("ring")), Plan([0, 1, 2, 8, 6], 1, 5, 1, True))
-        self.assertEqual(mardiskos.plan(example("diamond")), Plan([0, 1, 2, 10, 3, 6], 7, 6, 1, True))
+        self.assertEqual(mardiskos.plan(example("detour")), Plan([1, 2, 6, 3, 4], 5, 5, 1, True, [0, 0, 0, 1, 1]))
+        self.assertEqual(mardiskos.plan(example("ring")), Plan([0, 1, 2, 8, 6], 1, 5, 1, True, [0, 0, 0, 0, 1]))
+        self.assertEqual(mardiskos.plan(example("diamond")), Plan([0, 1, 2, 10, 3, 6], 7, 6, 1, True, [0, 0, 0, 0, 1, 1]))
 
     def test_searches(self):
         record = example("lift")
-        self.assertEqual(mardiskos.plan(record), Plan([0, 2, 3, 4, 2, 1], 11, 6, 6, True))
+        self.assertEqual(mardiskos.plan(record), Plan([0, 2, 3, 4, 2, 1], 11, 6, 6, True, [0, 0, 1, 0, 1, 1]))
         self.assertEqual(mardiskos.repair(record, [0, 2, 4]).searches, 6)
         self.assertEqual(mardiskos.repair(record, [0, 2, 3, 4, 2, 1]).searches, 0)
         self.assertEqual(mardiskos.plan(example("tray")).searches, 0)
 
     def test_plan(self):
-        self.assertEqual(mardiskos.plan(TWO_SHELVES), Plan([0, 2, 1, 3], 10, 4, 1, True))
-        self.assertEqual(mardiskos.plan(example("goal-met")), Plan([], 0, 0, 0, True))
+        self.assertEqual(mardiskos.plan(TWO_SHELVES), Plan([0, 2, 1, 3], 10, 4, 1, True, [0, 0, 1, 0]))
+        self.assertEqual(mardiskos.plan(example("goal-met")), Plan([], 0, 0, 0, True, []))
         self.assertEqual(mardiskos.plan(example("tray")).runnable, [0])
         self.assertEqual(mardiskos.plan(TWO_SHELVES, room=4).cost, 10)
         self.refuses(11, 3, mardiskos.plan, TWO_SHELVES, 3)
@@ -94,26 +94,70 @@ class Calls(unittest.TestCase):
         self.refuses(8, 0, mardiskos.plan, example("lamp-2"))
 
     def test_repair(self):
-        self.assertEqual(mardiskos.repair(TWO_SHELVES, (0, 2, 3)).steps, [0, 2, 1, 3])
+        self.assertEqual(mardiskos.repair(TWO_SHELVES, (0, 2, 3)), Plan([0, 2, 1, 3], 10, 4, 1, True, [0, 0, 1, 0]))
+        self.assertEqual(mardiskos.repair(TWO_SHELVES, [0, 2, 1, 3]).marks, [0, 0, 0, 0])
+        self.refuses(11, 3, mardiskos.repair, TWO_SHELVES, [0, 2, 3], 3)
         self.refuses(9, 0, mardiskos.repair, TWO_SHELVES, [2, 0, 3])
         self.refuses(9, 0, mardiskos.repair, TWO_SHELVES, [])
 
-    def test_sheets(self):
-        sheet = mardiskos.write_sheet([0, 2, 1, 3], 10, True)
+    def test_marks(self):
+        for name in "two-shelves", "two-shelves-with-4", "gate", "door", "detour", "ring", "diamond", "lift", "tray", "goal-met":
+            record = example(name)
+            plan = mardiskos.plan(record)
+            self.assertEqual(plan.unmarked, mardiskos.relax(record), name)
+            self.assertEqual(mardiskos.repair(record, plan.unmarked, len(plan.steps)), plan, name)
+            sheet = mardiskos.read_sheet(mardiskos.write_sheet(plan.steps, plan.cost, plan.real, plan.marks))
+            self.assertEqual(sheet, (plan.steps, plan.cost, plan.real, plan.marks, 2), name)
+            self.assertEqual(sheet.unmarked, plan.unmarked, name)
+
+    def test_sheets_of_edition_1(self):
+        sheet = mardiskos.write_sheet([0, 2, 1, 3], 10, True, edition=1)
         self.assertEqual(sheet.hex(), "180020000000500001002018")
-        self.assertEqual(mardiskos.read_sheet(sheet), ([0, 2, 1, 3], 10, True))
-        longest = mardiskos.write_sheet([1023] * 32768, 2**32 - 1, False)
-        self.assertEqual(len(longest), mardiskos.MAX_SHEET)
-        self.assertEqual(mardiskos.read_sheet(longest), ([1023] * 32768, 2**32 - 1, False))
-        self.refuses(13, 1, mardiskos.write_sheet, [0, 1024], 0, False)
+        self.assertEqual(mardiskos.write_sheet([0, 2, 1, 3], 10, True, [1, 1, 1, 1, 1], 1), sheet)
+        self.assertEqual(mardiskos.read_sheet(sheet), ([0, 2, 1, 3], 10, True, [0, 0, 0, 0], 1))
+        self.assertEqual(mardiskos.write_sheet(*mardiskos.read_sheet(sheet)), sheet)
+        longest = mardiskos.write_sheet([1023] * 32768, 2**32 - 1, False, [1] * 32768, 1)
+        self.assertEqual(len(longest), 40967)
+        self.assertEqual(mardiskos.read_sheet(longest), ([1023] * 32768, 2**32 - 1, False, [0] * 32768, 1))
         self.refuses(12, 83, mardiskos.read_sheet, sheet[:-1])
+        self.refuses(12, 93, mardiskos.read_sheet, sheet + b"\0")
+
+    def test_sheets_of_edition_2(self):
+        sheet = mardiskos.write_sheet([0, 2, 1, 3], 10, True, [0, 0, 1, 0])
+        self.assertEqual(sheet.hex(), "28002000000050000050040180")
+        self.assertEqual(mardiskos.read_sheet(sheet), ([0, 2, 1, 3], 10, True, [0, 0, 1, 0], 2))
+        self.assertEqual(mardiskos.write_sheet(*mardiskos.read_sheet(sheet)), sheet)
+        lift = mardiskos.write_sheet([0, 2, 3, 4, 2, 1], 11, True, [0, 0, 1, 0, 1, 1])
+        self.assertEqual(lift.hex(), "280030000000580000500c02402802")
+        self.assertEqual(mardiskos.read_sheet(lift).marks, [0, 0, 1, 0, 1, 1])
+        longest = mardiskos.write_sheet([1023] * 32768, 2**32 - 1, False, [1] * 32768)
+        self.assertEqual(len(longest), mardiskos.MAX_SHEET)
+        self.assertEqual(mardiskos.read_sheet(longest), ([1023] * 32768, 2**32 - 1, False, [1] * 32768, 2))
+        self.refuses(12, 87, mardiskos.read_sheet, sheet[:-1])
+        self.refuses(12, 97, mardiskos.read_sheet, sheet + b"\0")
+        self.refuses(12, 54, mardiskos.read_sheet, bytes.fromhex("20000800000004"))
+        self.refuses(12, 64, mardiskos.read_sheet, bytes.fromhex("2000100000000405"))
+        self.refuses(12, 0, mardiskos.read_sheet, b"\x38" + sheet[1:])
         self.refuses(12, 0, mardiskos.read_sheet, b"")
+        self.refuses(13, 1, mardiskos.write_sheet, [0, 1024], 0, False)
+
+    def test_marks_and_editions_given(self):
+        sheet = mardiskos.write_sheet([0, 2, 1, 3], 10, True, [0, 0, 1, 0])
+        for edition in 0, 2, 3, 16, 257, 2**32 - 1:
+            for marks in [0, 0, 2], [0, 0, 255, 0, 1], b"\0\0\x80", (False, False, True), iter([0, 0, 1]):
+                self.assertEqual(mardiskos.write_sheet([0, 2, 1, 3], 10, True, marks, edition), sheet)
+        unmarked = mardiskos.write_sheet([0, 2, 1, 3], 10, True)
+        self.assertEqual(mardiskos.read_sheet(unmarked), ([0, 2, 1, 3], 10, True, [0, 0, 0, 0], 2))
 
     def test_what_fits_nowhere(self):
         for actions in [-1], [65536]:
             self.assertRaises(OverflowError, mardiskos.judge, TWO_SHELVES, actions)
         for cost in -1, 2**32:
             self.assertRaises(OverflowError, mardiskos.write_sheet, [], cost, True)
+        for edition in -1, 2**32 + 1:
+            self.assertRaises(OverflowError, mardiskos.write_sheet, [], 0, True, [], edition)
+        for marks in [-1], [256]:
+            self.assertRaises(OverflowError, mardiskos.write_sheet, [], 0, True, marks)
         self.assertRaises(TypeError, mardiskos.check, 35)
         self.assertRaises(TypeError, mardiskos.check, "record")
         self.assertRaises(TypeError, mardiskos.judge, TWO_SHELVES, [0.5])
@@ -129,7 +173,7 @@ class Calls(unittest.TestCase):
             thread.start()
         for thread in threads:
             thread.join()
-        self.assertEqual(plans, [[Plan([0, 2, 1, 3], 10, 4, 1, True)] * 20] * 4)
+        self.assertEqual(plans, [[Plan([0, 2, 1, 3], 10, 4, 1, True, [0, 0, 1, 0])] * 20] * 4)
 
 
 class Header(unittest.TestCase):

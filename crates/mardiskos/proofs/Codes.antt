@@ -12,6 +12,6 @@ pub written-zero : (x : Sheet) (n m p v : ℕ) → writeCall x n ≡ refused m p
 unfolding code
 written-zero x n m p v t e z = let k : v ≡ 32 * p + m = e ∙ ap code t in omega (arith, write-number x n m p t)
 
-pub reading-zero : (s : List ℕ) (n m p v : ℕ) → readCall s n ≡ refused m p → v ≡ code (readCall s n) → v ≡ 0 → ⊥
+pub reading-zero : (s : List ℕ) (n m k p v : ℕ) → readCall s n m ≡ refused k p → v ≡ code (readCall s n m) → v ≡ 0 → ⊥
 unfolding code
-reading-zero s n m p v t e z = let k : v ≡ 32 * p + m = e ∙ ap code t in omega (arith, read-number s n m p t)
+reading-zero s n m k p v t e z = let q : v ≡ 32 * p + k = e ∙ ap code t in omega (arith, read-number s n m k p t)

@@ -2,7 +2,7 @@
 use mathlib.Core.Bool.{Bool, true, false}
 use mathlib.Core.List.{List, [], _∷_, _++_, append-assoc, append-nil}
 use mathlib.Core.Option.{Option, none, some}
-use mathlib.Core.Path.{_≡_, refl, ap}
+use mathlib.Core.Path.{_≡_, refl, sym, ap, _∙_}
 use Prim.Native.Nat.{ℕ, zero, suc, _+_, _*_, _/_, _%_, _<_}
 use native.Mathlib.Omega.{arith}
 use borrow.Author.Tests.{ne-eqb}
@@ -12,6 +12,7 @@ use Rattle.planning.specs.Record.{fieldCheck, headerChecks, variableChecks, var
 use Rattle.planning.specs.Painting.{acyclicCheck, returnCheck}
 use Rattle.planning.specs.Calls.{lengthCheck, relaxedCheck, roomCheck, goalsCheck, Planned, planCall, repairCall}
 use Rattle.answers.proofs.Stages.{answer-refused}
+use Rattle.mardiskos.specs.declared.plans.PlanResult.{PlanResult}
 use Rattle.mardiskos.specs.Plans.{planResultOf, answerIn}
 
 Numbered : Check → Type 0
@@ -109,17 +110,17 @@ painting-numbered : (s : List ℕ) → Numbered (acyclicCheck (taskOf s)) × Num
 unfolding acyclicCheck returnCheck
 painting-numbered s = (numbered-at 7 _ (omega arith) (omega arith), numbered-at 8 _ (omega arith) (omega arith))
 
-plan-number : (s : List ℕ) (n w m p : ℕ) → planCall s n w ≡ refused m p → (0 < m) × (m < 32)
+plan-number : (s : List ℕ) (n w b m p : ℕ) → planCall s n w b ≡ refused m p → (0 < m) × (m < 32)
 unfolding planCall goalsCheck roomCheck Numbered
-plan-number s n w m p e =
+plan-number s n w b m p e =
     front-all _
     (front-cons _ _ (record-numbered s) (front-cons _ _ (painting-numbered s .0) (front-cons _ _ (painting-numbered s .1)
     (test _ 10 _ _ (omega arith) (omega arith) (test _ 11 _ [] (omega arith) (omega arith) front-nil))))) m p
     (answer-refused _ _ m p e)
 
-repair-number : (s l : List ℕ) (n w m p : ℕ) → repairCall s l n w ≡ refused m p → (0 < m) × (m < 32)
+repair-number : (s l : List ℕ) (n w b m p : ℕ) → repairCall s l n w b ≡ refused m p → (0 < m) × (m < 32)
 unfolding repairCall lengthCheck relaxedCheck roomCheck Numbered
-repair-number s l n w m p e =
+repair-number s l n w b m p e =
     front-all _
     (front-cons _ _ (record-numbered s) (front-cons _ _ (painting-numbered s .0) (front-cons _ _ (painting-numbered s .1)
     (test _ 13 _ _ (omega arith) (omega arith) (front-cons _ _ (numbered-at 9 _ (omega arith) (omega arith)) (test _ 11 _ [] (omega arith) (omega arith) front-nil)))))) m p
@@ -139,8 +140,13 @@ read-back (refused m p) h =
     go true e q r = let z : _≡_ {A = ℕ} 0 1 = cc in absurd (omega arith)
     go false e q r = rw (q, r) refl
 
-pub plan-read : (s : List ℕ) (n w : ℕ) → answerIn (planResultOf (planCall s n w)) ≡ planCall s n w
-plan-read s n w = read-back (planCall s n w) (plan-number s n w)
+-- so a result r made of the answer x to the call a is the call's, and x is the answer read off it
+read-same : (a x : Answer Planned) (r : PlanResult) → answerIn (planResultOf a) ≡ a → x ≡ a → r ≡ planResultOf x → (r ≡ planResultOf a) × (x ≡ answerIn r)
+read-same a x r h e f = let g : r ≡ planResultOf a = f ∙ ap planResultOf e in (g, e ∙ sym (ap answerIn g ∙ h))
 
-pub repair-read : (s l : List ℕ) (n w : ℕ) → answerIn (planResultOf (repairCall s l n w)) ≡ repairCall s l n w
-repair-read s l n w = read-back (repairCall s l n w) (repair-number s l n w)
+pub plan-read : (s : List ℕ) (n w b : ℕ) (x : Answer Planned) (r : PlanResult) → x ≡ planCall s n w b → r ≡ planResultOf x → (r ≡ planResultOf (planCall s n w b)) × (x ≡ answerIn r)
+plan-read s n w b x r = read-same (planCall s n w b) x r (read-back (planCall s n w b) (plan-number s n w b))
+
+pub repair-read : (s l : List ℕ) (n w b : ℕ) (x : Answer Planned) (r : PlanResult) → x ≡ repairCall s l n w b → r ≡ planResultOf x
+    → (r ≡ planResultOf (repairCall s l n w b)) × (x ≡ answerIn r)
+repair-read s l n w b x r = read-same (repairCall s l n w b) x r (read-back (repairCall s l n w b) (repair-number s l n w b))

@@ -6,10 +6,10 @@ use sheet::Reading;
 ghost use mathlib.Core.Path.{_≡_};
 ghost use lib.ListN.{length, take};
 ghost use Rattle.planning.specs.Basics.{code};
-ghost use Rattle.planning.specs.Calls.{writeCall, writeBytes, readCall, readList};
+ghost use Rattle.planning.specs.Calls.{writeCall, writeBytes, readCall, readList, readMarks};
 ghost use Rattle.sheet.specs.Answers.{sheet, readingAs};
 ghost use Rattle.sheet.specs.Again.{ReadsAs, WritesAs};
-ghost use Rattle.mardiskos.specs.Results.{sizeIn, headingIn};
+ghost use Rattle.mardiskos.specs.Results.{sizeIn, sheetReadOf};
 
 // Writing a sheet: 0 and the count of bytes, or 32 times the place and the number.
 #[repr(C)]
@@ -18,20 +18,23 @@ pub struct SheetSize {
     pub bytes: u32,
 }
 
-// The sheet of a list in the front of the bytes, or the refusal by 13, 11.
+// The sheet of a list and its marks in the front of the bytes, of edition 1 for the number 1 and of edition 2 for any other, or the refusal
+// by 13, 11.
 #[no_mangle]
 pub extern "C" fn mardiskos_write_sheet(
     list: &[u16],
+    marks: &[u8],
+    edition: u32,
     cost: u32,
     real: bool,
     bytes: &mut [u8],
 ) -> SheetSize
-    ensures { λ r. ⌜ r .code ≡ code (writeCall (sheet (now (list .entry)) cost real) (length (now (bytes .entry)))) ⌝ }
-    ensures { λ r. ⌜ r .bytes ≡ sizeIn (writeCall (sheet (now (list .entry)) cost real) (length (now (bytes .entry)))) ⌝ }
-    ensures { λ _. ⌜ now (bytes .exit) ≡ writeBytes (sheet (now (list .entry)) cost real) (length (now (bytes .entry))) ⌝ }
-    ensures { λ r. ⌜ (r .code ≡ 0 → ReadsAs (take (r .bytes) (now (bytes .exit))) (sheet (now (list .entry)) cost real)) ⌝ }
+    ensures { λ r. ⌜ r .code ≡ code (writeCall (sheet edition (now (list .entry)) (now (marks .entry)) cost real) (length (now (bytes .entry)))) ⌝ }
+    ensures { λ r. ⌜ r .bytes ≡ sizeIn (writeCall (sheet edition (now (list .entry)) (now (marks .entry)) cost real) (length (now (bytes .entry)))) ⌝ }
+    ensures { λ _. ⌜ now (bytes .exit) ≡ writeBytes (sheet edition (now (list .entry)) (now (marks .entry)) cost real) (length (now (bytes .entry))) ⌝ }
+    ensures { λ r. ⌜ (r .code ≡ 0 → ReadsAs (take (r .bytes) (now (bytes .exit))) (sheet edition (now (list .entry)) (now (marks .entry)) cost real)) ⌝ }
 {
-    let a = sheet::write(list, cost, real, bytes);
+    let a = sheet::write(list, marks, edition, cost, real, bytes);
     let Number::Value(n) = a else {
         return SheetSize {
             code: number_code(a),
@@ -50,31 +53,41 @@ fn reading_code(a: Reading) -> u64
     code_of(f)
 }
 
-// Reading a sheet: 0 with the steps, the cost and the verdict, or 32 times the place and the number.
+// Reading a sheet: 0 with the steps, the cost, the edition and the verdict, or 32 times the place and the number.
 #[repr(C)]
 pub struct SheetRead {
     pub code: u64,
     pub steps: u32,
     pub cost: u32,
+    pub edition: u32,
     pub real: bool,
 }
 
-// The plan of a sheet in the front of the list, or the refusal by 12, 11.
+// The plan of a sheet in the front of the list and its marks in that of the mark area, or the refusal by 12, 11.
 #[no_mangle]
-pub extern "C" fn mardiskos_read_sheet(bytes: &[u8], list: &mut [u16]) -> SheetRead
-    ensures { λ r. ⌜ r .code ≡ code (readCall (now (bytes .entry)) (length (now (list .entry)))) ⌝ }
-    ensures { λ r. ⌜ r .steps ≡ headingIn (readCall (now (bytes .entry)) (length (now (list .entry)))) .steps ⌝ }
-    ensures { λ r. ⌜ r .cost ≡ headingIn (readCall (now (bytes .entry)) (length (now (list .entry)))) .cost ⌝ }
-    ensures { λ r. ⌜ r .real ≡ headingIn (readCall (now (bytes .entry)) (length (now (list .entry)))) .real′ ⌝ }
-    ensures { λ _. ⌜ now (list .exit) ≡ readList (now (bytes .entry)) (length (now (list .entry))) ⌝ }
-    ensures { λ r. ⌜ (r .code ≡ 0 → WritesAs (sheet (take (r .steps) (now (list .exit))) (r .cost) (r .real)) (now (bytes .entry))) ⌝ }
+pub extern "C" fn mardiskos_read_sheet(
+    bytes: &[u8],
+    list: &mut [u16],
+    marks: &mut [u8],
+) -> SheetRead
+    ensures { λ r. ⌜ r ≡ sheetReadOf (readCall (now (bytes .entry)) (length (now (list .entry))) (length (now (marks .entry)))) ⌝ }
+    ensures { λ _. ⌜ now (list .exit) ≡ readList (now (bytes .entry)) (length (now (list .entry))) (length (now (marks .entry))) ⌝ }
+    ensures { λ _. ⌜ now (marks .exit) ≡ readMarks (now (bytes .entry)) (length (now (list .entry))) (length (now (marks .entry))) ⌝ }
+    ensures { λ r. ⌜ (r .code ≡ 0 → WritesAs (sheet (r .edition) (take (r .steps) (now (list .exit))) (take (r .steps) (now (marks .exit))) (r .cost) (r .real)) (now (bytes .entry))) ⌝ }
 {
-    let a = sheet::read(bytes, list);
-    let Reading::Plan { steps, cost, real } = a else {
+    let a = sheet::read(bytes, list, marks);
+    let Reading::Plan {
+        steps,
+        cost,
+        edition,
+        real,
+    } = a
+    else {
         return SheetRead {
             code: reading_code(a),
             steps: 0,
             cost: 0,
+            edition: 0,
             real: false,
         };
     };
@@ -82,6 +95,7 @@ pub extern "C" fn mardiskos_read_sheet(bytes: &[u8], list: &mut [u16]) -> SheetR
         code: 0,
         steps,
         cost,
+        edition,
         real,
     }
 }

@@ -10,11 +10,11 @@ use lib.Dec.{leb, leb→le}
 use lib.ListN.{length, getD, take}
 use Rattle.planning.specs.Basics.{Check, refuse, check, andThen, inOrder, Answer, answer, done}
 use Rattle.planning.specs.Record.{Task, taskOf, recordCheck}
-use Rattle.planning.specs.Runs.{actions, relaxed, isPlan}
+use Rattle.planning.specs.Runs.{actions, isPlan}
 use Rattle.planning.specs.Relaxed.{reachesGoals, relaxedPlan}
 use Rattle.planning.specs.Painting.{cyclic, unreturned, acyclicCheck, returnCheck}
-use Rattle.planning.specs.Repair.{repaired}
-use Rattle.planning.specs.Calls.{capacity, capacityOf, roomCheck, goalsCheck, Planned as Result, lengthCheck, relaxedCheck, planned, planOf, planCall, repairCall}
+use Rattle.planning.specs.Repair.{repaired, marks}
+use Rattle.planning.specs.Calls.{capacityOf, roomCheck, goalsCheck, Planned as Result, lengthCheck, relaxedCheck, planned, planOf, planCall, repairCall}
 use Rattle.planning.proofs.Steps.{All}
 use Rattle.planning.proofs.Plans.{isPlan-elim}
 use Rattle.planning.proofs.Checks.{check-none, andThen-last, andThen-none, andThen-assoc, refuseAt-none, inOrder-pass, inOrder-++}
@@ -37,38 +37,39 @@ all-entries n (i ∷ l) h (suc k) b = all-entries n l (h .1) k (omega arith)
 pub plan-entries : (t : Task) (m : ℕ → Bool) (l : List ℕ) → isPlan t m l ≡ true → Entries t l
 plan-entries t m l p = all-entries (actions t) l (isPlan-elim t m l p .below)
 
-pub capacity-fits : (p w : ℕ) → capacityOf p w ≤ p
-unfolding capacityOf capacity
-capacity-fits p w = omega arith
-
-module _ (t : Task) (k : List ℕ) (room : ℕ) (plan : List ℕ) where
+module _ (t : Task) (k : List ℕ) (room : ℕ) (plan area : List ℕ) where
   -- a check that passed stands in front of the others
-  pub drafted-pass : (c : Check) (cs : List Check) (r : Planned) → c ≡ none → Drafted t cs k room plan r → Drafted t (c ∷ cs) k room plan r
+  pub drafted-pass : (c : Check) (cs : List Check) (r : Planned) → c ≡ none → Drafted t cs k room plan area r → Drafted t (c ∷ cs) k room plan area r
   drafted-pass c cs r e D = record {
     answer′ = D .answer′ ∙ ap (λ (x : Check). answer x (planned t k)) (sym (inOrder-pass c (cs ++ (roomCheck (length (repaired t k)) room ∷ [])) e));
     front = D .front;
+    marked = D .marked;
   }
 
   -- one that refuses is the answer
-  pub drafted-stop : (c : Check) (cs : List Check) (f : Refusal) → c ≡ refuse (f .number) (f .place) → Drafted t (c ∷ cs) k room plan (Refused f)
+  pub drafted-stop : (c : Check) (cs : List Check) (f : Refusal) → c ≡ refuse (f .number) (f .place) → Drafted t (c ∷ cs) k room plan area (Refused f)
   unfolding inOrder andThen answer
-  drafted-stop c cs f e = record { answer′ = rw e refl; front = tt }
+  drafted-stop c cs f e = record { answer′ = rw e refl; front = tt; marked = tt }
 
   one : let c = roomCheck (length (repaired t k)) room in answer c (planned t k) ≡ answer (inOrder (c ∷ [])) (planned t k)
   unfolding inOrder
   one = ap (λ (x : Check). answer x (planned t k)) (sym (andThen-last (roomCheck (length (repaired t k)) room)))
 
   -- the repair's own answer x, where no other check is left
-  pub drafted-repair : room ≤ length plan → (r : Planned) → Held t k plan room r → Drafted t [] k room plan r
+  pub drafted-repair : room ≤ length plan → room ≤ length area → (r : Planned) → Held t k plan area room r → Drafted t [] k room plan area r
   unfolding inOrder roomCheck planned
-  drafted-repair h (Plan n c s x v) H =
+  drafted-repair h b (Plan n c s x v) H =
       let l = repaired t k in
       let told : done (record { steps = n; cost = c; real′ = v; runs = s; searches′ = x }) ≡ answer (roomCheck (length l) room) (planned t k) = H .says in
       let p = answer-done (roomCheck (length l) room) (planned t k) (record { steps = n; cost = c; real′ = v; runs = s; searches′ = x }) (sym told) in
       let fits = leb→le (length l) room (check-none (leb (length l) room) 11 room (p .0)) in
       let m : length l ≡ n = ap (λ (y : Result). y .steps) (p .1) in
-      record { answer′ = told ∙ one; front = (omega (arith, m, fits), subst (λ (y : ℕ). take y plan ≡ l) m (H .fills fits)) }
-  drafted-repair h (Refused f) H = record { answer′ = H .says ∙ one; front = tt }
+      record {
+        answer′ = told ∙ one;
+        front = (omega (arith, m, fits), subst (λ (y : ℕ). take y plan ≡ l) m (H .fills fits));
+        marked = (omega (arith, m, fits), subst (λ (y : ℕ). take y area ≡ marks t k) m (H .marked fits));
+      }
+  drafted-repair h b (Refused f) H = record { answer′ = H .says ∙ one; front = tt; marked = tt }
 
 -- what is asked of the relaxed plan, and which it is
 module _ (t : Task) (l : List ℕ) where
@@ -88,8 +89,9 @@ module _ (t : Task) (l : List ℕ) where
   unfolding source
   own-source g e = rw e refl
 
-  pub sourced : (g : Bool) (k : List ℕ) (room : ℕ) (plan : List ℕ) (r : Planned) → k ≡ source g t l → sourceCheck g t l ≡ none → Drafted t [] k room plan r → Sourced g t l room plan r
-  sourced g k room plan r e h D = drafted-pass t (source g t l) room plan (sourceCheck g t l) [] r h (subst (λ (x : List ℕ). Drafted t [] x room plan r) e D)
+  pub sourced : (g : Bool) (k : List ℕ) (room : ℕ) (plan area : List ℕ) (r : Planned) → k ≡ source g t l → sourceCheck g t l ≡ none → Drafted t [] k room plan area r
+      → Sourced g t l room plan area r
+  sourced g k room plan area r e h D = drafted-pass t (source g t l) room plan area (sourceCheck g t l) [] r h (subst (λ (x : List ℕ). Drafted t [] x room plan area r) e D)
 
 -- the task's own relaxed plan is found, or there is none
 pub unfound-check : (t : Task) (f : Refusal) → Unfound t f → goalsCheck t ≡ refuse (f .number) (f .place)
@@ -108,13 +110,15 @@ painting-passes t e =
     (refuseAt-none 7 (cyclic t) (h .0), refuseAt-none 8 (unreturned t) (h .1))
 
 -- the same task behind its painting, and behind its record
-module _ (g : Bool) (t u : Task) (e : u ≡ t) (l : List ℕ) (room : ℕ) (plan : List ℕ) (r : Planned) where
-  pub painted : paintingCheck t ≡ none → Sourced g u l room plan r → Painted g t l room plan r
-  painted h D = drafted-pass t (source g t l) room plan (paintingCheck t) (sourceCheck g t l ∷ []) r h (subst (λ (x : Task). Sourced g x l room plan r) e D)
+module _ (g : Bool) (t u : Task) (e : u ≡ t) (l : List ℕ) (room : ℕ) (plan area : List ℕ) (r : Planned) where
+  pub painted : paintingCheck t ≡ none → Sourced g u l room plan area r → Painted g t l room plan area r
+  painted h D = drafted-pass t (source g t l) room plan area (paintingCheck t) (sourceCheck g t l ∷ []) r h (subst (λ (x : Task). Sourced g x l room plan area r) e D)
 
-pub called : (g : Bool) (s : List ℕ) (u : Task) → u ≡ taskOf s → (l : List ℕ) (room : ℕ) (plan : List ℕ) (r : Planned) → recordCheck s ≡ none → Painted g u l room plan r → Called g s l room plan r
-called g s u e l room plan r h D =
-    drafted-pass (taskOf s) (source g (taskOf s) l) room plan (recordCheck s) (paintingCheck (taskOf s) ∷ sourceCheck g (taskOf s) l ∷ []) r h (subst (λ (x : Task). Painted g x l room plan r) e D)
+pub called : (g : Bool) (s : List ℕ) (u : Task) → u ≡ taskOf s → (l : List ℕ) (room : ℕ) (plan area : List ℕ) (r : Planned) → recordCheck s ≡ none → Painted g u l room plan area r
+    → Called g s l room plan area r
+called g s u e l room plan area r h D =
+    drafted-pass (taskOf s) (source g (taskOf s) l) room plan area (recordCheck s) (paintingCheck (taskOf s) ∷ sourceCheck g (taskOf s) l ∷ []) r h
+    (subst (λ (x : Task). Painted g x l room plan area r) e D)
 
 -- the checks of a call one by one: those that were taken together stand side by side
 module _ (s : List ℕ) (xs : List Check) where
@@ -126,28 +130,28 @@ pub list-apart : (t : Task) (l : List ℕ) (c : Check) → inOrder (inOrder (len
 unfolding inOrder
 list-apart t l c = sym (inOrder-++ (lengthCheck l ∷ relaxedCheck t l ∷ []) (c ∷ []))
 
--- a call as it ends before the lists are filled: its answer, and the plan in front
-pub record Ended (a : Answer Result) (l plan : List ℕ) (r : Planned) : Type 0 where
+-- a call as it ends before the lists are filled: its answer, the plan in front, and its marks
+pub record Ended (a : Answer Result) (l ms plan area : List ℕ) (r : Planned) : Type 0 where
   pub answer : answerOf r ≡ a
   pub front : InFront l plan r
+  pub marked : InFront ms area r
 
 -- the two calls
-module _ (s l : List ℕ) (n w : ℕ) (plan : List ℕ) (r : Planned) where
-  pub plan-called : Drafted (taskOf s) (recordCheck s ∷ paintingCheck (taskOf s) ∷ sourceCheck false (taskOf s) l ∷ []) (source false (taskOf s) l) (capacityOf n w) plan r
-      → Ended (planCall s n w) (planOf (taskOf s)) plan r
+module _ (s l : List ℕ) (n w m : ℕ) (plan area : List ℕ) (r : Planned) where
+  pub plan-called : Called false s l (capacityOf n w m) plan area r → Ended (planCall s n w m) (planOf (taskOf s)) (marks (taskOf s) (relaxedPlan (taskOf s))) plan area r
   unfolding planCall planOf source sourceCheck
   plan-called D =
       let t = taskOf s in
-      let room = roomCheck (length (repaired t (relaxedPlan t))) (capacityOf n w) in
-      record { answer = D .answer′ ∙ ap (λ (c : Check). answer c (planned t (relaxedPlan t))) (painting-apart s (goalsCheck t ∷ room ∷ [])); front = D .front }
+      let room = roomCheck (length (repaired t (relaxedPlan t))) (capacityOf n w m) in
+      let apart = painting-apart s (goalsCheck t ∷ room ∷ []) in
+      record { answer = D .answer′ ∙ ap (λ (c : Check). answer c (planned t (relaxedPlan t))) apart; front = D .front; marked = D .marked }
 
-  pub repair-called : Drafted (taskOf s) (recordCheck s ∷ paintingCheck (taskOf s) ∷ sourceCheck true (taskOf s) l ∷ []) (source true (taskOf s) l) (capacityOf n w) plan r
-      → Ended (repairCall s l n w) (repaired (taskOf s) l) plan r
+  pub repair-called : Called true s l (capacityOf n w m) plan area r → Ended (repairCall s l n w m) (repaired (taskOf s) l) (marks (taskOf s) l) plan area r
   unfolding repairCall source sourceCheck inOrder
   repair-called D =
       let t = taskOf s in
-      let room = roomCheck (length (repaired t l)) (capacityOf n w) in
+      let room = roomCheck (length (repaired t l)) (capacityOf n w m) in
       let two = inOrder (lengthCheck l ∷ relaxedCheck t l ∷ []) in
       let apart : inOrder (recordCheck s ∷ acyclicCheck t ∷ returnCheck t ∷ two ∷ room ∷ []) ≡ inOrder (recordCheck s ∷ acyclicCheck t ∷ returnCheck t ∷ lengthCheck l ∷ relaxedCheck t l ∷ room ∷ []) =
       ap (λ (x : Check). andThen (recordCheck s) (andThen (acyclicCheck t) (andThen (returnCheck t) x))) (list-apart t l room) in
-      record { answer = D .answer′ ∙ ap (λ (c : Check). answer c (planned t l)) (painting-apart s (two ∷ room ∷ []) ∙ apart); front = D .front }
+      record { answer = D .answer′ ∙ ap (λ (c : Check). answer c (planned t l)) (painting-apart s (two ∷ room ∷ []) ∙ apart); front = D .front; marked = D .marked }

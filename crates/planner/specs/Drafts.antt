@@ -8,7 +8,7 @@ use Rattle.planning.specs.Basics.{Check, andThen, inOrder, Answer, answer}
 use Rattle.planning.specs.Record.{Task, taskOf, recordCheck}
 use Rattle.planning.specs.Relaxed.{relaxedPlan}
 use Rattle.planning.specs.Painting.{acyclicCheck, returnCheck}
-use Rattle.planning.specs.Repair.{repaired}
+use Rattle.planning.specs.Repair.{repaired, marks}
 use Rattle.planning.specs.Calls.{lengthCheck, relaxedCheck, goalsCheck, roomCheck, planned, Planned as Result}
 use Rattle.answers.specs.declared.Planned.{Planned}
 use Rattle.answers.specs.declared.Planned.the-variants.{Plan, Refused}
@@ -31,17 +31,18 @@ abbrev pub InFront : List ℕ → List ℕ → Planned → Type 0
 InFront l plan (Plan n c k s v) = (n ≤ length plan) × (take n plan ≡ l)
 InFront l plan (Refused f) = Unit {0}
 
--- the answer r by the checks cs, then 11 in the given room, and the list k repaired in the front of the plan list
-pub record Drafted (t : Task) (cs : List Check) (k : List ℕ) (room : ℕ) (plan : List ℕ) (r : Planned) : Type 0 where
+-- the answer r by the checks cs, then 11 in the given room, and the list k repaired in the front of the plan list, its marks in that of the area
+pub record Drafted (t : Task) (cs : List Check) (k : List ℕ) (room : ℕ) (plan area : List ℕ) (r : Planned) : Type 0 where
   pub answer′ : answerOf r ≡ answer (inOrder (cs ++ (roomCheck (length (repaired t k)) room ∷ []))) (planned t k)
   pub front : InFront (repaired t k) plan r
+  pub marked : InFront (marks t k) area r
 
 -- the same of a call: with the list l where `given`, from the checks of the relaxed plan on, from the painting on, from the record on
-abbrev pub Sourced : Bool → Task → List ℕ → ℕ → List ℕ → Planned → Type 0
+abbrev pub Sourced : Bool → Task → List ℕ → ℕ → List ℕ → List ℕ → Planned → Type 0
 Sourced given t l room = Drafted t (sourceCheck given t l ∷ []) (source given t l) room
 
-abbrev pub Painted : Bool → Task → List ℕ → ℕ → List ℕ → Planned → Type 0
+abbrev pub Painted : Bool → Task → List ℕ → ℕ → List ℕ → List ℕ → Planned → Type 0
 Painted given t l room = Drafted t (paintingCheck t ∷ sourceCheck given t l ∷ []) (source given t l) room
 
-abbrev pub Called : Bool → List ℕ → List ℕ → ℕ → List ℕ → Planned → Type 0
+abbrev pub Called : Bool → List ℕ → List ℕ → ℕ → List ℕ → List ℕ → Planned → Type 0
 Called given s l room = Drafted (taskOf s) (recordCheck s ∷ paintingCheck (taskOf s) ∷ sourceCheck given (taskOf s) l ∷ []) (source given (taskOf s) l) room

@@ -1,6 +1,6 @@
 // The planner: from a record to a repaired plan, and the repair of a caller's relaxed plan. Both are one way: the record, the painting, the
-// relaxed plan, the repair, each check in the table's order. The plan stands in the front of the plan list from the repair on, and what
-// is behind it is blanked at the end.
+// relaxed plan, the repair, each check in the table's order. The plan stands in the front of the plan list from the repair on, its marks in
+// that of the mark area, and what is behind them is blanked at the end.
 use answers::Checked;
 use answers::Number;
 use answers::Planned;
@@ -12,33 +12,40 @@ ghost use lib.ListN.{length};
 ghost use Rattle.planning.specs.Record.{taskOf, recordCheck};
 ghost use Rattle.planning.specs.Runs.{relaxed, isPlan};
 ghost use Rattle.planning.specs.Relaxed.{relaxedPlan};
-ghost use Rattle.planning.specs.Calls.{planCall, planList, repairCall, repairList, workList, planIn, runnable, lent};
-ghost use Rattle.planning.specs.Existence.{Demand3, Bounded, Ceiling};
+ghost use Rattle.planning.specs.Calls.{planCall, planList, planMarks, repairCall, repairList, repairMarks, workList, planIn, marksIn, runnable, lent, lentBytes};
+ghost use Rattle.planning.specs.Existence.{Demand3, Bounded, Ceiling, Recovers};
 ghost use Rattle.task.specs.Task.{taskIn, Loaded};
 ghost use Rattle.task.specs.Links.{Prepared};
 ghost use Rattle.answers.specs.Plans.{answerOf, stepsOf};
 ghost use Rattle.repair.specs.Answers.{roomIn};
 ghost use Rattle.planner.specs.Drafts.{Drafted, Sourced, Painted, Called};
 
-// The repair of a relaxed plan in the front of the plan list; 11 if it is longer than the capacity.
-fn draft(task: &[u16], list: &[u16], plan: &mut [u16], work: &[u16]) -> Planned
+// The repair of a relaxed plan in the front of the plan list, its marks in that of the mark area; 11 if it is longer than the capacity.
+fn draft(task: &[u16], list: &[u16], plan: &mut [u16], work: &[u16], marks: &mut [u8]) -> Planned
     requires { ⌜ Prepared (now task) × (isPlan (taskIn (now task)) relaxed (now list) ≡ true) ⌝ }
-    ensures { λ r. ⌜ Drafted (taskIn (now (task .entry))) [] (now (list .entry)) (roomIn (now (plan .entry)) (now (work .entry))) (now (plan .exit)) r ⌝ }
+    ensures { λ r. ⌜ Drafted (taskIn (now (task .entry))) [] (now (list .entry)) (roomIn (now (plan .entry)) (now (work .entry)) (now (marks .entry))) (now (plan .exit)) (now (marks .exit)) r ⌝ }
 {
-    repair::repair(task, list, plan, work)
+    repair::repair(task, list, plan, work, marks)
 }
 
 // The relaxed plan is the caller's list where it is given, checked by 13 and 9, else the task's own, or 10.
-fn plan_prepared(task: &[u16], given: bool, list: &[u16], plan: &mut [u16], work: &[u16]) -> Planned
+fn plan_prepared(
+    task: &[u16],
+    given: bool,
+    list: &[u16],
+    plan: &mut [u16],
+    work: &[u16],
+    marks: &mut [u8],
+) -> Planned
     requires { ⌜ Prepared (now task) ⌝ }
-    ensures { λ r. ⌜ Sourced given (taskIn (now (task .entry))) (now (list .entry)) (roomIn (now (plan .entry)) (now (work .entry))) (now (plan .exit)) r ⌝ }
+    ensures { λ r. ⌜ Sourced given (taskIn (now (task .entry))) (now (list .entry)) (roomIn (now (plan .entry)) (now (work .entry)) (now (marks .entry))) (now (plan .exit)) (now (marks .exit)) r ⌝ }
 {
     if given {
         let l = judge::check_relaxed(task, list);
         let Number::Value(_) = l else {
             return Planned::Refused(answers::refusal_of(l));
         };
-        return draft(task, list, plan, work);
+        return draft(task, list, plan, work, marks);
     }
     let mut relaxed = [65535u16; 1024];
     let k = relax::relaxed_plan(task, &mut relaxed);
@@ -46,7 +53,7 @@ fn plan_prepared(task: &[u16], given: bool, list: &[u16], plan: &mut [u16], work
         return Planned::Refused(answers::refusal_of(k));
     };
     let count = n as usize;
-    draft(task, &relaxed[..count], plan, work)
+    draft(task, &relaxed[..count], plan, work, marks)
 }
 
 // Checks 7 and 8 of a loaded task, then the rest.
@@ -56,39 +63,54 @@ fn plan_loaded(
     list: &[u16],
     plan: &mut [u16],
     work: &[u16],
+    marks: &mut [u8],
 ) -> Planned
     requires { ⌜ Loaded (now task) ⌝ }
-    ensures { λ r. ⌜ Painted given (taskIn (now (task .entry))) (now (list .entry)) (roomIn (now (plan .entry)) (now (work .entry))) (now (plan .exit)) r ⌝ }
+    ensures { λ r. ⌜ Painted given (taskIn (now (task .entry))) (now (list .entry)) (roomIn (now (plan .entry)) (now (work .entry)) (now (marks .entry))) (now (plan .exit)) (now (marks .exit)) r ⌝ }
 {
     let p = painting::prepare(task);
     let Checked::Accepted = p else {
         return Planned::Refused(answers::refusal_in(p));
     };
-    plan_prepared(task, given, list, plan, work)
+    plan_prepared(task, given, list, plan, work, marks)
 }
 
 // The task of a small record is small, so that little has to be cleared.
-fn plan_accepted(bytes: &[u8], given: bool, list: &[u16], plan: &mut [u16], work: &[u16]) -> Planned
+fn plan_accepted(
+    bytes: &[u8],
+    given: bool,
+    list: &[u16],
+    plan: &mut [u16],
+    work: &[u16],
+    marks: &mut [u8],
+) -> Planned
     requires { ⌜ recordCheck (now bytes) ≡ none ⌝ }
-    ensures { λ r. ⌜ Called given (now (bytes .entry)) (now (list .entry)) (roomIn (now (plan .entry)) (now (work .entry))) (now (plan .exit)) r ⌝ }
+    ensures { λ r. ⌜ Called given (now (bytes .entry)) (now (list .entry)) (roomIn (now (plan .entry)) (now (work .entry)) (now (marks .entry))) (now (plan .exit)) (now (marks .exit)) r ⌝ }
 {
     if task::is_short(bytes) {
         let mut small = [0u16; task::SHORT];
         task::load(bytes, &mut small);
-        return plan_loaded(&mut small, given, list, plan, work);
+        return plan_loaded(&mut small, given, list, plan, work, marks);
     }
     let mut large = [0u16; task::LONG];
     task::load(bytes, &mut large);
-    plan_loaded(&mut large, given, list, plan, work)
+    plan_loaded(&mut large, given, list, plan, work, marks)
 }
 
 // The record's checks, then the rest.
-fn plan_checked(bytes: &[u8], given: bool, list: &[u16], plan: &mut [u16], work: &[u16]) -> Planned
-    ensures { λ r. ⌜ Called given (now (bytes .entry)) (now (list .entry)) (roomIn (now (plan .entry)) (now (work .entry))) (now (plan .exit)) r ⌝ }
+fn plan_checked(
+    bytes: &[u8],
+    given: bool,
+    list: &[u16],
+    plan: &mut [u16],
+    work: &[u16],
+    marks: &mut [u8],
+) -> Planned
+    ensures { λ r. ⌜ Called given (now (bytes .entry)) (now (list .entry)) (roomIn (now (plan .entry)) (now (work .entry)) (now (marks .entry))) (now (plan .exit)) (now (marks .exit)) r ⌝ }
 {
     let c = record::check(bytes);
     let Checked::Refused(f) = c else {
-        return plan_accepted(bytes, given, list, plan, work);
+        return plan_accepted(bytes, given, list, plan, work, marks);
     };
     Planned::Refused(f)
 }
@@ -110,39 +132,52 @@ fn steps_of(answer: Planned) -> usize
     steps as usize
 }
 
-// What stands behind the plan, and in the work list: 65,535.
-fn finish(answer: Planned, plan: &mut [u16], work: &mut [u16])
+// What stands behind the plan is 65,535, and behind the marks 0.
+fn finish(answer: Planned, plan: &mut [u16], marks: &mut [u8])
     ensures { λ _. ⌜ now (plan .exit) ≡ lent (answerOf answer) (length (now (plan .entry))) (planIn (answerOf answer) (now (plan .entry))) ⌝ }
-    ensures { λ _. ⌜ now (work .exit) ≡ workList (length (now (work .entry))) ⌝ }
+    ensures { λ _. ⌜ now (marks .exit) ≡ lentBytes (answerOf answer) (length (now (marks .entry))) (marksIn (answerOf answer) (now (marks .entry))) ⌝ }
 {
-    lists::blank_from(plan, steps_of(answer));
-    lists::blank(work);
+    let steps = steps_of(answer);
+    lists::blank_from(plan, steps);
+    lists::clear_from(marks, steps);
 }
 
-// The planner: from a record to a repaired plan. Checks 1 to 8, 10, 11.
-pub fn plan(bytes: &[u8], plan: &mut [u16], work: &mut [u16]) -> Planned
-    ensures { λ r. ⌜ answerOf r ≡ planCall (now (bytes .entry)) (length (now (plan .entry))) (length (now (work .entry))) ⌝ }
-    ensures { λ r. ⌜ now (plan .exit) ≡ planList (now (bytes .entry)) (length (now (plan .entry))) (length (now (work .entry))) ⌝ }
+// The planner: from a record to a repaired plan and its marks. Checks 1 to 8, 10, 11.
+pub fn plan(bytes: &[u8], plan: &mut [u16], work: &mut [u16], marks: &mut [u8]) -> Planned
+    ensures { λ r. ⌜ answerOf r ≡ planCall (now (bytes .entry)) (length (now (plan .entry))) (length (now (work .entry))) (length (now (marks .entry))) ⌝ }
+    ensures { λ r. ⌜ now (plan .exit) ≡ planList (now (bytes .entry)) (length (now (plan .entry))) (length (now (work .entry))) (length (now (marks .entry))) ⌝ }
     ensures { λ r. ⌜ now (work .exit) ≡ workList (length (now (work .entry))) ⌝ }
-    ensures { λ r. ⌜ Demand3 (now (bytes .entry)) (length (now (plan .entry))) (length (now (work .entry))) (answerOf r) (planIn (answerOf r) (now (plan .exit))) ⌝ }
+    ensures { λ r. ⌜ now (marks .exit) ≡ planMarks (now (bytes .entry)) (length (now (plan .entry))) (length (now (work .entry))) (length (now (marks .entry))) ⌝ }
+    ensures { λ r. ⌜ Demand3 (now (bytes .entry)) (length (now (plan .entry))) (length (now (work .entry))) (length (now (marks .entry))) (answerOf r) (planIn (answerOf r) (now (plan .exit))) ⌝ }
     ensures { λ r. ⌜ Bounded (now (bytes .entry)) (relaxedPlan (taskOf (now (bytes .entry)))) (answerOf r) (planIn (answerOf r) (now (plan .exit))) ⌝ }
     ensures { λ r. ⌜ Ceiling (now (bytes .entry)) (relaxedPlan (taskOf (now (bytes .entry)))) (answerOf r) ⌝ }
+    ensures { λ r. ⌜ Recovers (now (bytes .entry)) (relaxedPlan (taskOf (now (bytes .entry)))) (answerOf r) (planIn (answerOf r) (now (plan .exit))) (marksIn (answerOf r) (now (marks .exit))) ⌝ }
 {
-    let r = plan_checked(bytes, false, &[], plan, work);
-    finish(r, plan, work);
+    let r = plan_checked(bytes, false, &[], plan, work, marks);
+    finish(r, plan, marks);
+    lists::blank(work);
     r
 }
 
-// The repair of a caller's relaxed plan. Checks 1 to 8, 13, 9, 11.
-pub fn repair(bytes: &[u8], list: &[u16], plan: &mut [u16], work: &mut [u16]) -> Planned
-    ensures { λ r. ⌜ answerOf r ≡ repairCall (now (bytes .entry)) (now (list .entry)) (length (now (plan .entry))) (length (now (work .entry))) ⌝ }
-    ensures { λ r. ⌜ now (plan .exit) ≡ repairList (now (bytes .entry)) (now (list .entry)) (length (now (plan .entry))) (length (now (work .entry))) ⌝ }
+// The repair of a caller's relaxed plan, and its marks. Checks 1 to 8, 13, 9, 11.
+pub fn repair(
+    bytes: &[u8],
+    list: &[u16],
+    plan: &mut [u16],
+    work: &mut [u16],
+    marks: &mut [u8],
+) -> Planned
+    ensures { λ r. ⌜ answerOf r ≡ repairCall (now (bytes .entry)) (now (list .entry)) (length (now (plan .entry))) (length (now (work .entry))) (length (now (marks .entry))) ⌝ }
+    ensures { λ r. ⌜ now (plan .exit) ≡ repairList (now (bytes .entry)) (now (list .entry)) (length (now (plan .entry))) (length (now (work .entry))) (length (now (marks .entry))) ⌝ }
     ensures { λ r. ⌜ now (work .exit) ≡ workList (length (now (work .entry))) ⌝ }
+    ensures { λ r. ⌜ now (marks .exit) ≡ repairMarks (now (bytes .entry)) (now (list .entry)) (length (now (plan .entry))) (length (now (work .entry))) (length (now (marks .entry))) ⌝ }
     ensures { λ r. ⌜ Bounded (now (bytes .entry)) (now (list .entry)) (answerOf r) (planIn (answerOf r) (now (plan .exit))) ⌝ }
     ensures { λ r. ⌜ Ceiling (now (bytes .entry)) (now (list .entry)) (answerOf r) ⌝ }
+    ensures { λ r. ⌜ Recovers (now (bytes .entry)) (now (list .entry)) (answerOf r) (planIn (answerOf r) (now (plan .exit))) (marksIn (answerOf r) (now (marks .exit))) ⌝ }
 {
-    let r = plan_checked(bytes, true, list, plan, work);
-    finish(r, plan, work);
+    let r = plan_checked(bytes, true, list, plan, work, marks);
+    finish(r, plan, marks);
+    lists::blank(work);
     r
 }
 

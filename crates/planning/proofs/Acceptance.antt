@@ -21,9 +21,11 @@ use Rattle.planning.specs.Painting.{without, reducedEffects, causalArc, 
 use Rattle.planning.specs.Painting.{unreturned, acyclicCheck, returnCheck}
 use Rattle.planning.specs.Repair.{known, union, everAfter, usableArc, smaller, better, choose, bestBelow, behind, bestIn, bestPath, toward, after, pass, fill, ready, clientsFirst}
 use Rattle.planning.specs.Repair.{order, value, blackMet, moves, askedFor, passSearches, fillSearches, moveSearches, stageSteps, allSteps, allSearches, stagesFrom, stages, repaired, searches}
+use Rattle.planning.specs.Repair.{stageMarks, allMarks, marks, unmarked}
 use Rattle.planning.specs.Newest.{initialValues, newer, tracked, track, redBlackSteps, stopsIn, tabulate, newestValues, Progress, progress}
 use Rattle.planning.specs.Existence.{share, blackProduct, blackCount, searchBound, searchesIn}
 use Rattle.planning.specs.Calls.{Planned, lent, capacity, capacityOf, roomCheck, goalsCheck, planned, planOf, planCall, planList}
+use Rattle.planning.specs.Calls.{lentBytes, relaxedFault, relaxedCheck, repairCall, repairList, repairMarks, planMarks}
 use Rattle.planning.specs.Calls.{newestCall, newestList, lengthCheck, notBelow, entriesCheck}
 
 -- two-shelves, clause 12.3
@@ -268,7 +270,7 @@ outcome (refused n p) l = record { number = n; place = p; steps = 0; list = l; c
 outcome (done x) l = record { number = 0; place = 0; steps = x .steps; list = l; cost = x .cost; real = x .real′; runs = x .runs }
 
 unfoldable pub called : List ℕ → ℕ → Outcome
-called s n = outcome (planCall s n n) (planList s n n)
+called s n = outcome (planCall s n n n) (planList s n n n)
 
 -- a plan: steps, plan list, cost, real, steps that run
 abbrev pub plan : ℕ → List ℕ → ℕ → Bool → ℕ → Outcome
@@ -280,7 +282,7 @@ refusal n p l = record { number = n; place = p; steps = 0; list = l; cost = 0; r
 
 -- the path searches that the planner tells, with lists of n entries
 unfoldable pub sought : List ℕ → ℕ → ℕ
-sought s n = searchesIn (planCall s n n)
+sought s n = searchesIn (planCall s n n n)
 
 -- newest, 12.17: driving out lights the lamp, scanning needs it off and leaves it off
 abbrev pub newestTask : Task
@@ -392,6 +394,16 @@ pub starred :
     × (searches crewTask (0 ∷ 2 ∷ []) ≡ 5)
     × (leb (searches crewTask (0 ∷ 2 ∷ [])) (searchBound crewTask (0 ∷ 2 ∷ [])) ≡ true)
     × (searchBound (taskOf lift) (0 ∷ 2 ∷ 4 ∷ []) ≡ 24)
+    × (planMarks twoShelves 6 6 6 ≡ 0 ∷ 0 ∷ 1 ∷ 0 ∷ 0 ∷ 0 ∷ [])
+    × (planMarks lift 8 8 8 ≡ 0 ∷ 0 ∷ 1 ∷ 0 ∷ 1 ∷ 1 ∷ 0 ∷ 0 ∷ [])
+    × (planMarks gate 7 7 7 ≡ 0 ∷ 0 ∷ 1 ∷ 0 ∷ 1 ∷ 1 ∷ 1 ∷ [])
+    × (planMarks tray 2 2 3 ≡ 0 ∷ 0 ∷ 0 ∷ [])
+    × (planMarks lift 6 6 5 ≡ 0 ∷ 0 ∷ 0 ∷ 0 ∷ 0 ∷ [])
+    × (outcome (planCall lift 6 6 5) (planList lift 6 6 5) ≡ refusal 11 5 (65535 ∷ 65535 ∷ 65535 ∷ 65535 ∷ 65535 ∷ 65535 ∷ []))
+    × (unmarked (0 ∷ 2 ∷ 3 ∷ 4 ∷ 2 ∷ 1 ∷ []) (0 ∷ 0 ∷ 1 ∷ 0 ∷ 1 ∷ 1 ∷ []) ≡ 0 ∷ 2 ∷ 4 ∷ [])
+    × (repairMarks lift (0 ∷ 2 ∷ 4 ∷ []) 6 6 7 ≡ 0 ∷ 0 ∷ 1 ∷ 0 ∷ 1 ∷ 1 ∷ 0 ∷ [])
+    × (outcome (repairCall lift (0 ∷ 2 ∷ 4 ∷ []) 6 6 7) (repairList lift (0 ∷ 2 ∷ 4 ∷ []) 6 6 7) ≡ plan 6 (0 ∷ 2 ∷ 3 ∷ 4 ∷ 2 ∷ 1 ∷ []) 11 true 6)
+    × (repairMarks lift (0 ∷ 4 ∷ []) 6 6 2 ≡ 0 ∷ 0 ∷ [])
     × (desk newest [] 3 ≡ shown 0 0 (0 ∷ 0 ∷ 0 ∷ []))
     × (desk newest (0 ∷ 2 ∷ 1 ∷ []) 3 ≡ shown 3 3 (0 ∷ 1 ∷ 1 ∷ []))
     × (desk newest (0 ∷ 2 ∷ 3 ∷ []) 3 ≡ shown 3 3 (1 ∷ 0 ∷ 1 ∷ []))
@@ -410,11 +422,22 @@ unfolding times share blackProduct blackCount searchBound searchesIn sought chec
     adds cheapest forward addable forwardRun forwardEnd reachesGoals factsReached firstAchiever is reachedNeeded keep relaxedPlan without reducedEffects causalArc blackArc onCycle
     cyclic fits leaves orZero target arcFrom outside returnBy lacksReturn unreturned acyclicCheck returnCheck known union everAfter usableArc
     smaller better choose bestBelow behind bestIn bestPath toward after pass fill ready clientsFirst order value blackMet moves askedFor passSearches
-    fillSearches moveSearches stageSteps allSteps allSearches stagesFrom stages repaired searches lent
+    fillSearches moveSearches stageSteps allSteps allSearches stagesFrom stages repaired searches stageMarks allMarks marks unmarked lent lentBytes
+    relaxedFault relaxedCheck repairCall repairList repairMarks planMarks
     capacity capacityOf roomCheck goalsCheck planned planOf planCall planList called outcome redPairs variables64 variables65 twoShelves withoutOne withoutTwo lampOne lampTwo
     bothBlack initialSet goalMet tray door litReturn repeatedVariable withFour gate detour ring diamond lift initialValues newer tracked track redBlackSteps stopsIn tabulate newestValues progress
     newestCall newestList lengthCheck notBelow entriesCheck deskOf desk newest
 starred = (
+  refl,
+  refl,
+  refl,
+  refl,
+  refl,
+  refl,
+  refl,
+  refl,
+  refl,
+  refl,
   refl,
   refl,
   refl,

@@ -18,11 +18,12 @@ use Rattle.planning.specs.Painting.{without, reducedEffects, causalArc, 
 use Rattle.planning.specs.Painting.{unreturned, acyclicCheck, returnCheck}
 use Rattle.planning.specs.Repair.{known, union, everAfter, usableArc, smaller, better, choose, bestBelow, behind, bestIn, bestPath, toward, after, pass, fill, ready, clientsFirst}
 use Rattle.planning.specs.Repair.{order, value, blackMet, moves, askedFor, passSearches, fillSearches, moveSearches, stageSteps, allSteps, allSearches, stagesFrom, stages, repaired, searches}
-use Rattle.planning.specs.Sheet.{Sheet, bitsOf, stepBits, sheetBits, numberIn, packed, sheetEnd, sheetSize, sheetBytes, stepsAt, stepsIn, sheetOf}
+use Rattle.planning.specs.Sheet.{Sheet, bitsOf, markWidth, editionOf, markOf, stepBits, sheetBits, numberIn, packed, sheetEnd, sheetSize, sheetBytes}
+use Rattle.planning.specs.Sheet.{stepsAt, marksAt, editionIn, stepsIn, sheetOf}
 use Rattle.planning.specs.Sheet.{sheetField, stepsChecks, sheetChecks, sheetCheck}
 use Rattle.planning.specs.Calls.{lent, lentBytes, capacity, capacityOf, roomCheck, goalsCheck, lengthCheck, notBelow, entriesCheck, checkCall, checkCode}
 use Rattle.planning.specs.Calls.{judgeCall, Forward, forwardCall, forwardList, relaxCall, relaxList, planned, planOf, planCall, planList, runnable}
-use Rattle.planning.specs.Calls.{writeCall, writeBytes, Read, readCall, readList}
+use Rattle.planning.specs.Calls.{writeCall, writeBytes, Read, readCall, readList, readMarks}
 use Rattle.planning.proofs.Acceptance.{twoShelves, withoutTwo, tray, redPairs, variables65}
 
 -- records of one red variable of 2 values, initial 0, without a goal: its goal value, at bit 36, is 1; the padding, behind bit 41, is 1; an
@@ -64,7 +65,7 @@ judgedAs x y z = done (record { relaxed′ = x; redBlack = y; real′ = z })
 
 -- the running part of what the planner returns with n entries lent
 abbrev pub running : List ℕ → ℕ → List ℕ
-running s n = runnable (planCall s n n) (planList s n n)
+running s n = runnable (planCall s n n n) (planList s n n n)
 
 -- 9.1 and 7.8: forward run, relaxed plan, judging, running part
 pub told :
@@ -91,12 +92,12 @@ unfolding times check andThen inOrder answer bitAt bitsAt holdsField someBelow o
     planned planOf planCall planList runnable twoShelves withoutTwo tray
 told = (refl, refl, refl, refl, refl, refl, refl, refl, refl, refl, refl)
 
--- what a sheet stores, and what reading answers: steps or their count, cost, verdict
+-- what a sheet of edition 1 is given, without marks, and what reading answers: steps or their count, cost, verdict
 abbrev pub sheet : List ℕ → ℕ → Bool → Sheet
-sheet l c b = record { steps = l; cost = c; real = b }
+sheet l c b = record { edition = 1; steps = l; marks = []; cost = c; real = b }
 
 abbrev pub stored : ℕ → ℕ → Bool → Answer Read
-stored n c b = done (record { steps = n; cost = c; real′ = b })
+stored n c b = done (record { steps = n; cost = c; edition = 1; real′ = b })
 
 -- the plans of two shelves and of the tray, an empty plan of cost 65,536
 abbrev pub shelvesPlan : Sheet
@@ -131,23 +132,72 @@ pub written :
     × (writeCall trayPlan 9 ≡ refused 11 9)
     × (writeCall (sheet (0 ∷ 1024 ∷ []) 2 false) 10 ≡ refused 13 1)
     × (writeBytes (sheet (1024 ∷ []) 0 false) 2 ≡ 0 ∷ 0 ∷ [])
-unfolding oneIf check andThen inOrder answer refuseAt lengthCheck notBelow roomCheck bitsOf stepBits sheetBits numberIn packed sheetEnd sheetSize
-    sheetBytes lentBytes writeCall writeBytes
+unfolding oneIf check andThen inOrder answer refuseAt lengthCheck notBelow roomCheck bitsOf markWidth editionOf markOf stepBits sheetBits numberIn
+    packed sheetEnd sheetSize sheetBytes lentBytes writeCall writeBytes
 written = (refl, refl, refl, refl, refl, refl, refl, refl)
 
--- 8.4: read back; edition 2, padding 1, no byte behind the count of steps, one entry too few lent
+-- 8.4: read back; edition 3, padding 1, no byte behind the count of steps, one entry too few lent
 pub readBack :
-    (readCall shelvesSheet 5 ≡ stored 4 10 true)
-    × (readList shelvesSheet 5 ≡ 0 ∷ 2 ∷ 1 ∷ 3 ∷ 65535 ∷ [])
-    × (readCall traySheet 2 ≡ stored 2 2 false)
-    × (readList traySheet 2 ≡ 0 ∷ 1 ∷ [])
-    × (readCall emptySheet 0 ≡ stored 0 0 true)
-    × (readCall costlySheet 0 ≡ stored 0 65536 true)
-    × (readCall (40 ∷ 0 ∷ 0 ∷ 0 ∷ 0 ∷ 0 ∷ 0 ∷ []) 0 ≡ refused 12 0)
-    × (readCall (24 ∷ 0 ∷ 0 ∷ 0 ∷ 0 ∷ 0 ∷ 1 ∷ []) 0 ≡ refused 12 53)
-    × (readCall (24 ∷ 0 ∷ 32 ∷ []) 4 ≡ refused 12 21)
-    × (readCall traySheet 1 ≡ refused 11 1)
-    × (readList traySheet 1 ≡ 65535 ∷ [])
-unfolding check andThen inOrder answer bitAt bitsAt holdsField endsAt capacity roomCheck sheetEnd stepsAt stepsIn sheetOf sheetField stepsChecks
-    sheetChecks sheetCheck lent readCall readList
+    (readCall shelvesSheet 5 5 ≡ stored 4 10 true)
+    × (readList shelvesSheet 5 5 ≡ 0 ∷ 2 ∷ 1 ∷ 3 ∷ 65535 ∷ [])
+    × (readCall traySheet 2 2 ≡ stored 2 2 false)
+    × (readList traySheet 2 2 ≡ 0 ∷ 1 ∷ [])
+    × (readCall emptySheet 0 0 ≡ stored 0 0 true)
+    × (readCall costlySheet 0 0 ≡ stored 0 65536 true)
+    × (readCall (56 ∷ 0 ∷ 0 ∷ 0 ∷ 0 ∷ 0 ∷ 0 ∷ []) 0 0 ≡ refused 12 0)
+    × (readCall (24 ∷ 0 ∷ 0 ∷ 0 ∷ 0 ∷ 0 ∷ 1 ∷ []) 0 0 ≡ refused 12 53)
+    × (readCall (24 ∷ 0 ∷ 32 ∷ []) 4 4 ≡ refused 12 21)
+    × (readCall traySheet 1 2 ≡ refused 11 1)
+    × (readList traySheet 1 2 ≡ 65535 ∷ [])
+unfolding oneIf check andThen inOrder answer bitAt bitsAt holdsField endsAt capacity roomCheck markWidth sheetEnd stepsAt marksAt editionIn stepsIn
+    sheetOf sheetField stepsChecks sheetChecks sheetCheck lent readCall readList
 readBack = (refl, refl, refl, refl, refl, refl, refl, refl, refl, refl, refl)
+
+-- a sheet with marks, given an edition
+abbrev pub marked : ℕ → List ℕ → List ℕ → ℕ → Bool → Sheet
+marked e l ms c b = record { edition = e; steps = l; marks = ms; cost = c; real = b }
+
+abbrev pub storedMarked : ℕ → ℕ → Bool → Answer Read
+storedMarked n c b = done (record { steps = n; cost = c; edition = 2; real′ = b })
+
+-- the plans of two shelves and of lift in edition 2, of 12.24
+abbrev pub shelvesMarked : List ℕ
+shelvesMarked = 40 ∷ 0 ∷ 32 ∷ 0 ∷ 0 ∷ 0 ∷ 80 ∷ 0 ∷ 0 ∷ 80 ∷ 4 ∷ 1 ∷ 128 ∷ []
+
+abbrev pub liftMarked : List ℕ
+liftMarked = 40 ∷ 0 ∷ 48 ∷ 0 ∷ 0 ∷ 0 ∷ 88 ∷ 0 ∷ 0 ∷ 80 ∷ 12 ∷ 2 ∷ 64 ∷ 40 ∷ 2 ∷ []
+
+-- 8.6: written, with the byte 2, with a byte too few and one too many; for the numbers 0 and 17, and without marks for 1; an area one byte too
+-- short; the longest sheets
+pub writtenMarked :
+    (writeCall (marked 2 (0 ∷ 2 ∷ 1 ∷ 3 ∷ []) (0 ∷ 0 ∷ 1 ∷ 0 ∷ []) 10 true) 14 ≡ done 13)
+    × (writeBytes (marked 2 (0 ∷ 2 ∷ 1 ∷ 3 ∷ []) (0 ∷ 0 ∷ 1 ∷ 0 ∷ []) 10 true) 13 ≡ shelvesMarked)
+    × (writeBytes (marked 2 (0 ∷ 2 ∷ 3 ∷ 4 ∷ 2 ∷ 1 ∷ []) (0 ∷ 0 ∷ 1 ∷ 0 ∷ 1 ∷ 1 ∷ []) 11 true) 15 ≡ liftMarked)
+    × (writeBytes (marked 0 (0 ∷ 2 ∷ 1 ∷ 3 ∷ []) (0 ∷ 0 ∷ 2 ∷ []) 10 true) 13 ≡ shelvesMarked)
+    × (writeBytes (marked 17 (0 ∷ 2 ∷ 1 ∷ 3 ∷ []) (0 ∷ 0 ∷ 128 ∷ 0 ∷ 1 ∷ []) 10 true) 13 ≡ shelvesMarked)
+    × (writeBytes (marked 1 (0 ∷ 2 ∷ 1 ∷ 3 ∷ []) (0 ∷ 0 ∷ 1 ∷ 0 ∷ []) 10 true) 12 ≡ shelvesSheet)
+    × (writeCall (marked 2 (0 ∷ 2 ∷ 1 ∷ 3 ∷ []) [] 10 true) 12 ≡ refused 11 12)
+    × (sheetSize 1 32768 ≡ 40967)
+    × (sheetSize 2 32768 ≡ 45063)
+unfolding oneIf check andThen inOrder answer refuseAt lengthCheck notBelow roomCheck bitsOf markWidth editionOf markOf stepBits sheetBits numberIn
+    packed sheetEnd sheetSize sheetBytes lentBytes writeCall writeBytes
+writtenMarked = (refl, refl, refl, refl, refl, refl, refl, refl, refl)
+
+-- 8.4 and 7.10: read back, with a byte more than there are steps; edition 1 shows no marks, and its mark area counts; an empty sheet; a step cut
+-- behind its mark, a mark that is not there, padding 1
+pub readMarked :
+    (readCall shelvesMarked 4 5 ≡ storedMarked 4 10 true)
+    × (readList shelvesMarked 4 5 ≡ 0 ∷ 2 ∷ 1 ∷ 3 ∷ [])
+    × (readMarks shelvesMarked 4 5 ≡ 0 ∷ 0 ∷ 1 ∷ 0 ∷ 0 ∷ [])
+    × (readMarks liftMarked 6 6 ≡ 0 ∷ 0 ∷ 1 ∷ 0 ∷ 1 ∷ 1 ∷ [])
+    × (readCall shelvesMarked 4 3 ≡ refused 11 3)
+    × (readMarks shelvesMarked 4 3 ≡ 0 ∷ 0 ∷ 0 ∷ [])
+    × (readMarks shelvesSheet 5 5 ≡ 0 ∷ 0 ∷ 0 ∷ 0 ∷ 0 ∷ [])
+    × (readCall shelvesSheet 5 3 ≡ refused 11 3)
+    × (readCall (40 ∷ 0 ∷ 0 ∷ 0 ∷ 0 ∷ 0 ∷ 0 ∷ []) 0 0 ≡ storedMarked 0 0 true)
+    × (readCall (32 ∷ 0 ∷ 8 ∷ 0 ∷ 0 ∷ 0 ∷ 4 ∷ []) 1 1 ≡ refused 12 54)
+    × (readCall (32 ∷ 0 ∷ 16 ∷ 0 ∷ 0 ∷ 0 ∷ 4 ∷ 5 ∷ []) 2 2 ≡ refused 12 64)
+    × (readCall (32 ∷ 0 ∷ 16 ∷ 0 ∷ 0 ∷ 0 ∷ 4 ∷ 5 ∷ 0 ∷ 193 ∷ []) 2 2 ≡ refused 12 75)
+unfolding oneIf check andThen inOrder answer bitAt bitsAt holdsField endsAt capacity roomCheck markWidth sheetEnd stepsAt marksAt editionIn stepsIn
+    sheetOf sheetField stepsChecks sheetChecks sheetCheck lent lentBytes readCall readList readMarks
+readMarked = (refl, refl, refl, refl, refl, refl, refl, refl, refl, refl, refl, refl)

@@ -17,8 +17,8 @@ use Rattle.planning.proofs.Formed.{Formed, formed-of}
 use Rattle.planning.proofs.Forward.{unsolvable-none}
 use Rattle.planning.proofs.Calls.{planOf-is-plan, planOf-length, planCall-none, planCall-long, planCall-done}
 
-pub demand3 : (s : List ℕ) (n w : ℕ) → Demand3 s n w (planCall s n w) (planOf (taskOf s))
-demand3 s n w rec acy ret = go (reachesGoals t) refl (leb (length l) (capacityOf n w)) refl
+pub demand3 : (s : List ℕ) (n w m : ℕ) → Demand3 s n w m (planCall s n w m) (planOf (taskOf s))
+demand3 s n w m rec acy ret = go (reachesGoals t) refl (leb (length l) (capacityOf n w m)) refl
   where
     t : Task
     t = taskOf s
@@ -32,22 +32,22 @@ demand3 s n w rec acy ret = go (reachesGoals t) refl (leb (length l) (capacityOf
     no-list : reachesGoals t ≡ false → (k : List ℕ) → RedBlackPlan t k → ⊥
     no-list e k p = unsolvable-none t F e (black t) k p
 
-    go : (b : Bool) → reachesGoals t ≡ b → (c : Bool) → leb (length l) (capacityOf n w) ≡ c → Complete t n w (planCall s n w) l
-    go false e c f = rw (planCall-none s n w rec acy ret e) (record {
+    go : (b : Bool) → reachesGoals t ≡ b → (c : Bool) → leb (length l) (capacityOf n w m) ≡ c → Complete t n w m (planCall s n w m) l
+    go false e c f = rw (planCall-none s n w m rec acy ret e) (record {
       no-plan = λ _. no-list e;
       says-so = λ _. refl;
       is-plan = λ z. absurd z;
       short = λ z. absurd z;
       finds = λ _ _ k p. no-list e k p;
     })
-    go true e false f = rw (planCall-long s n w rec acy ret e f) (record {
+    go true e false f = rw (planCall-long s n w m rec acy ret e f) (record {
       no-plan = λ z. absurd (omega arith);
       says-so = λ h. absurd (h l (planOf-is-plan t F acy ret e));
       is-plan = λ z. absurd z;
       short = λ z. absurd z;
-      finds = λ _ h _ _. rw f at (le→leb (length l) (capacityOf n w) (omega (arith, planOf-length t F acy ret e)));
+      finds = λ _ h _ _. rw f at (le→leb (length l) (capacityOf n w m) (omega (arith, planOf-length t F acy ret e)));
     })
-    go true e true f = rw (planCall-done s n w rec acy ret e f) (record {
+    go true e true f = rw (planCall-done s n w m rec acy ret e f) (record {
       no-plan = λ z. absurd z;
       says-so = λ h. h l (planOf-is-plan t F acy ret e);
       is-plan = λ _. planOf-is-plan t F acy ret e;

@@ -27,6 +27,7 @@ pub mod Order
 pub mod Repair
 pub mod Painting
 pub mod Sizes
+pub mod Marks
 pub mod Calls
 pub mod Demand3
 pub mod Longest

@@ -23,14 +23,14 @@ use Rattle.planning.proofs.Sizes.{addable-le, record-length}
 use Rattle.planning.proofs.Calls.{planCall-returned}
 use Rattle.planning.proofs.Longest.{planCall-front}
 
-planCall-record : (s : List ℕ) (p : Planned) → planCall s 16384 16384 ≡ done p → recordCheck s ≡ none
+planCall-record : (s : List ℕ) (p : Planned) → planCall s 16384 16384 16384 ≡ done p → recordCheck s ≡ none
 unfolding planCall
 planCall-record s p e = answer-passed _ (planned (taskOf s) (relaxedPlan (taskOf s))) p e .0 .0
 
 -- the planner's answer is p
-module _ (s : List ℕ) (p : Planned) (e : planCall s 16384 16384 ≡ done p) where
+module _ (s : List ℕ) (p : Planned) (e : planCall s 16384 16384 16384 ≡ done p) where
   result : p ≡ planned (taskOf s) (relaxedPlan (taskOf s))
-  result = planCall-returned s 16384 16384 p e .result
+  result = planCall-returned s 16384 16384 16384 p e .result
 
   pub relaxed-few : length (relaxedPlan (taskOf s)) ≤ 4032
   relaxed-few = let F = formed-of s (planCall-record s p e) in omega (arith, relaxedPlan-length (taskOf s) F, addable-le (taskOf s) F)
@@ -56,11 +56,11 @@ module _ (s : List ℕ) (p : Planned) (e : planCall s 16384 16384 ≡ done p) wh
   relaxed-front = rw (relax-done, lent) (take-append-seam (relaxedPlan (taskOf s)) _)
 
   -- the front of the list of the plan, and the part of it that runs
-  pub plan-front : take (p .steps) (planList s 16384 16384) ≡ planOf (taskOf s)
+  pub plan-front : take (p .steps) (planList s 16384 16384 16384) ≡ planOf (taskOf s)
   unfolding planList lent planned planOf
-  plan-front = ap (λ x. take (x .steps) (planList s 16384 16384)) result ∙ rw (e, lent) (take-append-seam (planOf (taskOf s)) _)
+  plan-front = ap (λ x. take (x .steps) (planList s 16384 16384 16384)) result ∙ rw (e, lent) (take-append-seam (planOf (taskOf s)) _)
 
-  pub runs-front : runnable (done p) (planList s 16384 16384) ≡ runnable (done p) (planOf (taskOf s))
+  pub runs-front : runnable (done p) (planList s 16384 16384 16384) ≡ runnable (done p) (planOf (taskOf s))
   unfolding planList lent runnable planned planOf
   runs-front = rw (e, lent) (take-append-le (p .runs) (planOf (taskOf s)) _ (omega (arith, ap (λ x. x .runs) result, stepsRun-le (act (taskOf s)) real (planOf (taskOf s)) (initial (taskOf s)))))
 
@@ -71,15 +71,15 @@ module _ (s : List ℕ) (p : Planned) (e : planCall s 16384 16384 ≡ done p) wh
   unfolding listingOf listing planned planOf
   listing-lines f n c l m ef el em ec en = rw (ef, el, em, ec, en, e, listing) (rw result refl)
 
-pub listing-refused : (s : List ℕ) (n p : ℕ) → planCall s 16384 16384 ≡ refused n p → line refusedWord (n ∷ p ∷ []) ≡ listingOf s
+pub listing-refused : (s : List ℕ) (n p : ℕ) → planCall s 16384 16384 16384 ≡ refused n p → line refusedWord (n ∷ p ∷ []) ≡ listingOf s
 unfolding listingOf listing
 listing-refused s n p e = rw (e, listing) refl
 
 -- an input longer than a record: its first 49,316 bytes have the listing of the whole
 pub listing-front : (s : List ℕ) (n : ℕ) → 49316 ≤ n → n ≤ length s → listingOf (take n s) ≡ listingOf s
 unfolding listingOf listing
-listing-front s n h l = ap (listing (taskOf (take n s))) (planCall-front s n h l 16384 16384) ∙ go (planCall s 16384 16384) refl
+listing-front s n h l = ap (listing (taskOf (take n s))) (planCall-front s n h l 16384 16384 16384) ∙ go (planCall s 16384 16384 16384) refl
   where
-    go : (a : Answer Planned) → planCall s 16384 16384 ≡ a → listing (taskOf (take n s)) a ≡ listing (taskOf s) a
+    go : (a : Answer Planned) → planCall s 16384 16384 16384 ≡ a → listing (taskOf (take n s)) a ≡ listing (taskOf s) a
     go (refused k p) e = refl
     go (done p) e = absurd (omega (arith, record-length s (planCall-record s p e)))

@@ -148,10 +148,10 @@ module _ (s : List ℕ) (n : ℕ) (h : 49316 ≤ n) (l : n ≤ length s) where
   pub recordCheck-front : recordCheck (take n s) ≡ recordCheck s
   recordCheck-front = recordCheck-same (take n s) s (λ p w b. bitsAt-front p w (omega arith)) (rw (length-take-le n s l) h) (omega arith)
 
-  pub planCall-front : (plan work : ℕ) → planCall (take n s) plan work ≡ planCall s plan work
+  pub planCall-front : (plan work marks : ℕ) → planCall (take n s) plan work marks ≡ planCall s plan work marks
   unfolding planCall answer inOrder andThen
-  planCall-front plan work = go (recordCheck s) refl
+  planCall-front plan work marks = go (recordCheck s) refl
     where
-      go : (c : Check) → recordCheck s ≡ c → planCall (take n s) plan work ≡ planCall s plan work
+      go : (c : Check) → recordCheck s ≡ c → planCall (take n s) plan work marks ≡ planCall s plan work marks
       go none e = absurd (omega (arith, record-length s e))
       go (some r) e = rw (recordCheck-front, e) refl

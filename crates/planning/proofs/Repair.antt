@@ -43,12 +43,6 @@ repairFrom-nil act A m count order goal s ever =
     let l : List ℕ = moves act A m count order s ever goal in
     append-nil (l ++ []) ∙ append-nil l
 
-pub repairFrom-cons : (act : ℕ → Action) (A : ℕ) (m : Mode) (count : ℕ → ℕ) (order : List ℕ) (goal : List Fact) (i : ℕ) (l : List ℕ) (s ever : State)
-    → let k : List ℕ = moves act A m count order s ever (act i .pre) ++ (i ∷ []) in
-    repairFrom act A m count order goal (i ∷ l) s ever ≡ k ++ repairFrom act A m count order goal l (run act m k s) (everAfter act m k s ever)
-unfolding stageSteps allSteps stagesFrom
-repairFrom-cons act A m count order goal i l s ever = refl
-
 -- a need whose red facts are held is met where its black facts are
 blackMet-holds : (m : Mode) (s : State) (w : List Fact) → blackMet m s w ≡ holds (λ v d. not (m v) || s v d) w
 unfolding blackMet holds

@@ -34,9 +34,9 @@ unfolding costBy
 costOf-le t F [] = omega arith
 costOf-le t F (i ∷ l) = omega (arith, F .cost-below i, costOf-le t F l)
 
-pub capacityOf-le : (n w : ℕ) → (capacityOf n w ≤ n) × (capacityOf n w ≤ w) × (capacityOf n w ≤ 32768)
+pub capacityOf-le : (n w m : ℕ) → (capacityOf n w m ≤ n) × (capacityOf n w m ≤ w) × (capacityOf n w m ≤ m) × (capacityOf n w m ≤ 32768)
 unfolding capacityOf capacity
-capacityOf-le n w = (omega arith, omega arith, omega arith)
+capacityOf-le n w m = (omega arith, omega arith, omega arith, omega arith)
 
 -- The longest record (13): 22 bits, 20 for each of 64 variables, 384 for each of 1,024 actions
 pub record-length : (s : List ℕ) → recordCheck s ≡ none → length s ≤ 49315

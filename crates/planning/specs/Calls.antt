@@ -12,15 +12,15 @@ use Rattle.planning.specs.Runs.{State, holds, step, relaxed, real, varia
 use Rattle.planning.specs.Newest.{Progress, progress, newestValues}
 use Rattle.planning.specs.Relaxed.{forwardRun, reachesGoals, factsReached, relaxedPlan}
 use Rattle.planning.specs.Painting.{acyclicCheck, returnCheck}
-use Rattle.planning.specs.Repair.{repaired, searches}
-use Rattle.planning.specs.Sheet.{Sheet, sheetBytes, sheetSize, sheetOf, sheetCheck, stepsIn}
+use Rattle.planning.specs.Repair.{repaired, searches, marks}
+use Rattle.planning.specs.Sheet.{Sheet, sheetBytes, sheetSize, sheetOf, sheetCheck, editionIn, stepsIn}
 
 -- 7.4, 7.5 and 7.9: a lent list of n entries afterwards
 unfoldable pub lent : {A : Type 0} → Answer A → ℕ → List ℕ → List ℕ
 lent (refused _ _) n l = replicate n 65535
 lent (done _) n l = l ++ replicate (n - length l) 65535
 
--- 7.5 and 8.3: a lent area of n bytes afterwards
+-- 7.5, 7.10 and 8.3: a lent area of n bytes afterwards
 unfoldable pub lentBytes : {A : Type 0} → Answer A → ℕ → List ℕ → List ℕ
 lentBytes (refused _ _) n l = replicate n 0
 lentBytes (done _) n l = l ++ replicate (n - length l) 0
@@ -35,12 +35,12 @@ pub record Call (A : Type 0) : Type 0 where
 abbrev pub answerTo : {A : Type 0} → Call A → Answer A
 answerTo c = answer (inOrder (c .checks)) (c .result)
 
--- 7.2: the capacity of one list; of plan list and work list
+-- 7.2: the capacity of one list; of plan list, work list and mark area
 unfoldable pub capacity : ℕ → ℕ
 capacity n = min n 32768
 
-unfoldable pub capacityOf : ℕ → ℕ → ℕ
-capacityOf plan work = capacity (min plan work)
+unfoldable pub capacityOf : ℕ → ℕ → ℕ → ℕ
+capacityOf plan work marks = capacity (min (min plan work) marks)
 
 -- 7.3, 7.9 and 8.3: there is room, else 11
 unfoldable pub roomCheck : ℕ → ℕ → Check
@@ -142,49 +142,59 @@ planned t k =
     let l = repaired t k in
     record { steps = length l; cost = costOf t l; real′ = isPlan t real l; runs = stepsRun (act t) real l (initial t); searches′ = searches t k }
 
--- 9.1: repair of the list l, with a plan list of n and a work list of w entries
-abbrev pub repairing : List ℕ → List ℕ → ℕ → ℕ → Call Planned
-repairing s l n w = record {
+-- 9.1: repair of the list l, with a plan list of n and a work list of w entries and a mark area of m bytes
+abbrev pub repairing : List ℕ → List ℕ → ℕ → ℕ → ℕ → Call Planned
+repairing s l n w m = record {
   checks =
       recordCheck s ∷ acyclicCheck (taskOf s) ∷ returnCheck (taskOf s) ∷ lengthCheck l ∷ relaxedCheck (taskOf s) l
-      ∷ roomCheck (length (repaired (taskOf s) l)) (capacityOf n w) ∷ [];
+      ∷ roomCheck (length (repaired (taskOf s) l)) (capacityOf n w m) ∷ [];
   result = planned (taskOf s) l;
   front = repaired (taskOf s) l;
 }
 
-unfoldable pub repairCall : List ℕ → List ℕ → ℕ → ℕ → Answer Planned
-repairCall s l n w = answerTo (repairing s l n w)
+unfoldable pub repairCall : List ℕ → List ℕ → ℕ → ℕ → ℕ → Answer Planned
+repairCall s l n w m = answerTo (repairing s l n w m)
 
-unfoldable pub repairList : List ℕ → List ℕ → ℕ → ℕ → List ℕ
-repairList s l n w = lent (repairCall s l n w) n (repairing s l n w .front)
+unfoldable pub repairList : List ℕ → List ℕ → ℕ → ℕ → ℕ → List ℕ
+repairList s l n w m = lent (repairCall s l n w m) n (repairing s l n w m .front)
+
+-- 7.10: the mark area afterwards
+unfoldable pub repairMarks : List ℕ → List ℕ → ℕ → ℕ → ℕ → List ℕ
+repairMarks s l n w m = lentBytes (repairCall s l n w m) m (marks (taskOf s) l)
 
 -- 9.1: planner; the plan is the repaired relaxed plan of the record
 unfoldable pub planOf : Task → List ℕ
 planOf t = repaired t (relaxedPlan t)
 
-abbrev pub planning : List ℕ → ℕ → ℕ → Call Planned
-planning s n w = record {
+abbrev pub planning : List ℕ → ℕ → ℕ → ℕ → Call Planned
+planning s n w m = record {
   checks =
       recordCheck s ∷ acyclicCheck (taskOf s) ∷ returnCheck (taskOf s) ∷ goalsCheck (taskOf s)
-      ∷ roomCheck (length (planOf (taskOf s))) (capacityOf n w) ∷ [];
+      ∷ roomCheck (length (planOf (taskOf s))) (capacityOf n w m) ∷ [];
   result = planned (taskOf s) (relaxedPlan (taskOf s));
   front = planOf (taskOf s);
 }
 
-unfoldable pub planCall : List ℕ → ℕ → ℕ → Answer Planned
-planCall s n w = answerTo (planning s n w)
+unfoldable pub planCall : List ℕ → ℕ → ℕ → ℕ → Answer Planned
+planCall s n w m = answerTo (planning s n w m)
 
-unfoldable pub planList : List ℕ → ℕ → ℕ → List ℕ
-planList s n w = lent (planCall s n w) n (planning s n w .front)
+unfoldable pub planList : List ℕ → ℕ → ℕ → ℕ → List ℕ
+planList s n w m = lent (planCall s n w m) n (planning s n w m .front)
+
+unfoldable pub planMarks : List ℕ → ℕ → ℕ → ℕ → List ℕ
+planMarks s n w m = lentBytes (planCall s n w m) m (marks (taskOf s) (relaxedPlan (taskOf s)))
 
 -- 7.6: the work list afterwards
 unfoldable pub workList : ℕ → List ℕ
 workList w = replicate w 65535
 
--- 7.4: the plan that is returned, at the front of the plan list l
+-- 7.4: the plan that is returned, at the front of the plan list l; 7.10: its marks, at the front of the mark area
 unfoldable pub planIn : Answer Planned → List ℕ → List ℕ
 planIn (refused _ _) l = []
 planIn (done p) l = take (p .steps) l
+
+abbrev pub marksIn : Answer Planned → List ℕ → List ℕ
+marksIn = planIn
 
 -- 7.8: the running part of the plan list l
 unfoldable pub runnable : Answer Planned → List ℕ → List ℕ
@@ -194,8 +204,8 @@ runnable (done p) l = take (p .runs) l
 -- 9.1 and 8.3: write a sheet into n bytes
 abbrev pub writing : Sheet → ℕ → Call ℕ
 writing x n = record {
-  checks = lengthCheck (x .steps) ∷ refuseAt 13 (notBelow 1024 0 (x .steps)) ∷ roomCheck (sheetSize (length (x .steps))) n ∷ [];
-  result = sheetSize (length (x .steps));
+  checks = lengthCheck (x .steps) ∷ refuseAt 13 (notBelow 1024 0 (x .steps)) ∷ roomCheck (sheetSize (x .edition) (length (x .steps))) n ∷ [];
+  result = sheetSize (x .edition) (length (x .steps));
   front = sheetBytes x;
 }
 
@@ -205,21 +215,25 @@ writeCall x n = answerTo (writing x n)
 unfoldable pub writeBytes : Sheet → ℕ → List ℕ
 writeBytes x n = lentBytes (writeCall x n) n (writing x n .front)
 
--- 9.1 and 8.4: read a sheet into a plan list of n entries
+-- 9.1 and 8.4: read a sheet into a plan list of n entries and a mark area of m bytes
 pub record Read : Type 0 where
   pub steps : ℕ
   pub cost : ℕ
+  pub edition : ℕ
   pub real′ : Bool
 
-abbrev pub reading : List ℕ → ℕ → Call Read
-reading s n = record {
-  checks = sheetCheck s ∷ roomCheck (stepsIn s) (capacity n) ∷ [];
-  result = record { steps = stepsIn s; cost = sheetOf s .cost; real′ = sheetOf s .real };
+abbrev pub reading : List ℕ → ℕ → ℕ → Call Read
+reading s n m = record {
+  checks = sheetCheck s ∷ roomCheck (stepsIn s) (capacity (min n m)) ∷ [];
+  result = record { steps = stepsIn s; cost = sheetOf s .cost; edition = editionIn s; real′ = sheetOf s .real };
   front = sheetOf s .steps;
 }
 
-unfoldable pub readCall : List ℕ → ℕ → Answer Read
-readCall s n = answerTo (reading s n)
+unfoldable pub readCall : List ℕ → ℕ → ℕ → Answer Read
+readCall s n m = answerTo (reading s n m)
 
-unfoldable pub readList : List ℕ → ℕ → List ℕ
-readList s n = lent (readCall s n) n (reading s n .front)
+unfoldable pub readList : List ℕ → ℕ → ℕ → List ℕ
+readList s n m = lent (readCall s n m) n (reading s n m .front)
+
+unfoldable pub readMarks : List ℕ → ℕ → ℕ → List ℕ
+readMarks s n m = lentBytes (readCall s n m) m (sheetOf s .marks)

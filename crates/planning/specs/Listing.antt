@@ -61,4 +61,4 @@ listing t (done p) =
 
 -- 10.1
 unfoldable pub listingOf : List ℕ → List ℕ
-listingOf s = listing (taskOf s) (planCall s 16384 16384)
+listingOf s = listing (taskOf s) (planCall s 16384 16384 16384)

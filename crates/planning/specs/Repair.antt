@@ -4,7 +4,7 @@ use mathlib.Core.Bool.{Bool, true, false, not, _&&_, _||_}
 use mathlib.Core.List.{List, [], _∷_, _++_}
 use mathlib.Core.Option.{Option, none, some}
 use lib.Dec.{eqb, ltb}
-use lib.ListN.{length}
+use lib.ListN.{length, getD, drop, replicate}
 use Rattle.planning.specs.Basics.{first, someBelow}
 use Rattle.planning.specs.Record.{Fact, Action, Task}
 use Rattle.planning.specs.Runs.{State, Mode, look, holds, step, run, costBy, variables, actions, count, black, act, initial, goals}
@@ -152,6 +152,14 @@ unfoldable pub allSearches : List Stage → ℕ
 allSearches [] = 0
 allSearches (x ∷ xs) = x .searched + allSearches xs
 
+-- 6.10: the marks of a stage's steps, 1 for a move inserted and 0 for the action; of a list of stages
+unfoldable pub stageMarks : Stage → List ℕ
+stageMarks x = replicate (length (x .inserted)) 1 ++ replicate (length (x .entry)) 0
+
+unfoldable pub allMarks : List Stage → List ℕ
+allMarks [] = []
+allMarks (x ∷ xs) = stageMarks x ++ allMarks xs
+
 -- 6.2: the stage for an action; for the goals
 abbrev pub stageFor : (ℕ → Action) → ℕ → Mode → (ℕ → ℕ) → List ℕ → State → State → ℕ → Stage
 stageFor act A m count order s ever i =
@@ -177,3 +185,11 @@ repaired t l = allSteps (stages t l)
 -- 6.9: the path searches of a repair
 unfoldable pub searches : Task → List ℕ → ℕ
 searches t l = allSearches (stages t l)
+
+-- 6.10: the marks of a repair; the steps of the list l without those that ms marks, a missing mark being 0
+unfoldable pub marks : Task → List ℕ → List ℕ
+marks t l = allMarks (stages t l)
+
+unfoldable pub unmarked : List ℕ → List ℕ → List ℕ
+unmarked [] ms = []
+unmarked (i ∷ l) ms = elim (eqb (getD ms 0 0) 0) [ true ↦ i ∷ unmarked l (drop 1 ms) | false ↦ unmarked l (drop 1 ms) ]

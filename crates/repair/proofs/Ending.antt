@@ -1,15 +1,15 @@
 -- The goals as a front part of a list of facts, and the answer from the front part of the plan list.
 use mathlib.Core.Path.{_≡_, refl, sym, ap, _∙_, subst}
 use mathlib.Core.List.{List, _++_, map}
-use Prim.Native.Nat.{ℕ, _<_, _≤_, min}
+use Prim.Native.Nat.{ℕ, _+_, _<_, _≤_, min}
 use native.Mathlib.Omega.{arith}
-use lib.ListN.{length, take}
+use lib.ListN.{length, take, replicate, length-replicate, getD-replicate}
 use lib.Seq.{take-length, getD-take, length-take-le, take-append-le}
 use Rattle.planning.specs.Basics.{answer, refused, done}
 use Rattle.planning.specs.Record.{Fact, Task}
 use Rattle.planning.specs.Runs.{State, holds, actions, variables, count, goals}
 use Rattle.planning.specs.Newest.{Values, alone}
-use Rattle.planning.specs.Repair.{repaired}
+use Rattle.planning.specs.Repair.{repaired, marks}
 use Rattle.planning.specs.Calls.{capacity, capacityOf, planned}
 use Rattle.planning.proofs.Facts.{look-some}
 use Rattle.planning.proofs.Formed.{Formed, sorted-has, goals-sorted}
@@ -18,9 +18,9 @@ use Rattle.task.specs.Task.{factOf, factsIn}
 use Rattle.state.specs.Sets.{GoalsOf}
 use Rattle.state.specs.declared.Goals.{Goals}
 use Rattle.state.proofs.Listing.{between-inside}
-use Rattle.paths.specs.Paths.{Put}
+use Rattle.paths.specs.Paths.{Put, memoLength, marksFrom}
 use Rattle.paths.specs.declared.Written.{Written}
-use Rattle.passes.specs.Passes.{Fitting, factsOf, Searched}
+use Rattle.passes.specs.Passes.{Fitting, factsOf, Searched, Blank}
 use Rattle.passes.specs.declared.Inserted.{Inserted}
 use Rattle.answers.specs.declared.Planned.{Planned}
 use Rattle.answers.specs.Plans.{answerOf}
@@ -30,7 +30,7 @@ use Rattle.repair.specs.Counting.{judgedBy}
 use Rattle.repair.specs.Repairs.{Wanted, moved, movedSearches}
 use Rattle.repair.proofs.Below.{entries-all}
 use Rattle.repair.proofs.Counting.{Counted, counted-verdict}
-use Rattle.repair.proofs.Repairing.{Repairing, repairing-whole, repairing-searched}
+use Rattle.repair.proofs.Repairing.{Repairing, repairing-whole, repairing-searched, repairing-marked}
 
 -- the goals
 module _ (t : Task) (F : Formed t) (g : Goals) (G : GoalsOf t g) (few : g .count ≤ length (g .facts)) where
@@ -57,43 +57,58 @@ module _ (t : Task) (F : Formed t) (g : Goals) (G : GoalsOf t g) (few : g .count
   pub goals-searches : (K s : State) (r : Inserted) → Searched (movedSearches t K s (factsOf front)) r → Searched (movedSearches t K s (goals t)) r
   goals-searches K s r p = subst (λ (w : List Fact). Searched (movedSearches t K s w) r) goals-are p
 
--- the room that the two lists lend
-module _ (plan work : List ℕ) (less room : ℕ) (ea : less ≡ min (length plan) (length work)) (eb : room ≡ capacity less) where
-  pub room-is : room ≡ capacityOf (length plan) (length work)
-  unfolding capacityOf
-  room-is = eb ∙ ap capacity ea
+-- an array of zeros is a memo without a row
+pub blank-start : Blank (replicate memoLength 0)
+blank-start = record {
+  long = length-replicate {A = ℕ} memoLength 0;
+  none-marked = λ d h. getD-replicate memoLength (marksFrom + d) 0 0 (omega arith);
+}
 
-  pub room-bounds : (room ≤ length plan) × (room ≤ 32768)
-  room-bounds = let c = capacity-le less in (omega (arith, c), omega (arith, c))
+-- the room that the two lists and the mark area lend
+module _ (plan work area : List ℕ) (less all room : ℕ) (ea : less ≡ min (length plan) (length work)) (eb : all ≡ min less (length area)) (ec : room ≡ capacity all) where
+  pub room-is : room ≡ capacityOf (length plan) (length work) (length area)
+  unfolding capacityOf
+  room-is = ec ∙ ap capacity (eb ∙ ap (λ (n : ℕ). min n (length area)) ea)
+
+  pub room-bounds : (room ≤ length plan) × (room ≤ length area) × (room ≤ 32768)
+  room-bounds = let c = capacity-le all in (omega (arith, c), omega (arith, c), omega (arith, c))
 
   pub front-length : length (take room plan) ≡ room
   front-length = length-take-le room plan (room-bounds .0)
 
--- the repair of the list k in the front of the plan list d: the answer, or 11
-module _ (t : Task) (k d : List ℕ) (room : ℕ) (r : Planned) where
+  pub area-length : length (take room area) ≡ room
+  area-length = length-take-le room area (room-bounds .1)
+
+-- the repair of the list k in the front of the plan list d, its marks in that of the area z: the answer, or 11
+module _ (t : Task) (k d z : List ℕ) (room : ℕ) (r : Planned) where
   abbrev l : List ℕ
   l = repaired t k
 
-  pub held-whole : answerOf r ≡ done (planned t k) → (n : ℕ) → n ≤ room → n ≤ length d → take n d ≡ l → Held t k d room r
+  pub held-whole : answerOf r ≡ done (planned t k) → (n : ℕ) → n ≤ room → n ≤ length d → take n d ≡ l → take n z ≡ marks t k → Held t k d z room r
   unfolding answer
-  held-whole e n h b q =
+  held-whole e n h b q u =
       let m : length l ≡ n = ap length (sym q) ∙ length-take-le n d b in
-      record { says = e ∙ rw (room-fits (length l) room (omega (arith, m))) refl; fills = λ _. rw m q }
+      record { says = e ∙ rw (room-fits (length l) room (omega (arith, m))) refl; fills = λ _. rw m q; marked = λ _. rw m u }
 
-  pub held-long : answerOf r ≡ refused 11 room → room < length l → Held t k d room r
+  pub held-long : answerOf r ≡ refused 11 room → room < length l → Held t k d z room r
   unfolding answer
-  held-long e h = record { says = e ∙ rw (room-short (length l) room h) refl; fills = λ b. absurd (omega arith) }
+  held-long e h = record { says = e ∙ rw (room-short (length l) room h) refl; fills = λ b. absurd (omega arith); marked = λ b. absurd (omega arith) }
 
--- the same of the front part ys of the plan list
-pub held-front : (t : Task) (k ys rest : List ℕ) (n : ℕ) → n ≡ length ys → (room : ℕ) → n ≡ room → (r : Planned) → Held t k ys n r → Held t k (ys ++ rest) room r
-held-front t k ys rest n en room e r H = rw (← e) (record { says = H .says; fills = λ b. take-append-le (length (repaired t k)) ys rest (omega (arith, en)) ∙ H .fills b })
+-- the same of the front parts ys of the plan list and zs of the mark area
+pub held-front : (t : Task) (k ys rest zs more : List ℕ) (n : ℕ) → n ≡ length ys → n ≡ length zs → (room : ℕ) → n ≡ room → (r : Planned)
+    → Held t k ys zs n r → Held t k (ys ++ rest) (zs ++ more) room r
+held-front t k ys rest zs more n en em room e r H = rw (← e) (record {
+  says = H .says;
+  fills = λ b. take-append-le (length (repaired t k)) ys rest (omega (arith, en)) ∙ H .fills b;
+  marked = λ b. take-append-le (length (repaired t k)) zs more (omega (arith, em)) ∙ H .marked b;
+})
 
 -- the repair where every step is taken and every stage placed
-pub repairing-held : {t : Task} {l₀ plan₀ plan memo sets : List ℕ} {f : Values} {c : Counts} {n a j : ℕ}
-    → Repairing t l₀ plan₀ plan memo sets f c n a j → Formed t → c .steps ≡ a → length l₀ < j
-    → (r : Planned) → answerOf r ≡ done (judgedBy (holds (alone f) (goals t)) c n) → Held t l₀ plan (length plan₀) r
-repairing-held {t = t} {l₀ = l₀} {plan₀ = plan₀} {plan = plan} {f = f} {c = c} {n = n} {a = a} G F k h r e =
+pub repairing-held : {t : Task} {l₀ plan₀ plan area memo sets : List ℕ} {f : Values} {c : Counts} {n a j : ℕ}
+    → Repairing t l₀ plan₀ plan area memo sets f c n a j → Formed t → c .steps ≡ a → length l₀ < j
+    → (r : Planned) → answerOf r ≡ done (judgedBy (holds (alone f) (goals t)) c n) → Held t l₀ plan area (length plan₀) r
+repairing-held {t = t} {l₀ = l₀} {plan₀ = plan₀} {plan = plan} {area = area} {f = f} {c = c} {n = n} {a = a} G F k h r e =
     let whole = repairing-whole G k h in
     let counts : Counted t (take a plan) f c = subst (λ (n : ℕ). Counted t (take n plan) f c) k (G .counts) in
     let verdict = counted-verdict F counts l₀ whole n (repairing-searched G k h) (entries-all (actions t) (take a plan) (G .entries)) in
-    held-whole t l₀ plan (length plan₀) r (e ∙ ap done verdict) a (G .within) (omega (arith, G .within, G .long)) whole
+    held-whole t l₀ plan area (length plan₀) r (e ∙ ap done verdict) a (G .within) (omega (arith, G .within, G .long)) whole (repairing-marked G k h)

@@ -1,22 +1,26 @@
 -- The repair in the middle. Of the steps placed, the first ones are taken: state and counts are those behind them, and what is left is the
 -- repair of the rest of the relaxed plan from the state behind the others. The code keeps the facts held ever and the newest values, which
 -- show the red-black state; the facts held ever are those of R and B (`knows`): the definition's `ever` is whatever it is, and the code needs
--- only what is known of it. Searches are those of the stages placed, at most 64 for each of their steps, and 64 for the goals.
+-- only what is known of it. Searches are those of the stages placed, at most 64 for each of their steps, and 64 for the goals; marks are those
+-- of their steps.
 use mathlib.Core.Path.{_≡_, refl, sym, ap, _∙_, subst, fun-ext}
+use mathlib.Core.Bool.{Bool}
 use mathlib.Core.List.{List, [], _∷_, _++_, append-nil, append-assoc}
 use Prim.Native.Nat.{ℕ, zero, suc, _+_, _-_, _*_, _<_, _≤_}
 use native.Mathlib.Numerals.{add-one}
 use native.Mathlib.Omega.{arith}
-use lib.ListN.{length, getD, take, drop, length-append, length-drop}
+use native.Mathlib.Decide.{decLt}
+use borrow.Author.Tests.{lt-ltb, le-ltb}
+use lib.Dec.{ltb}
+use lib.ListN.{length, getD, take, drop, replicate, length-append, length-drop}
 use lib.Seq.{slice, slice-cons, slice-empty, drop-cons, drop-length, drop-at, take-at, take-take, take-suc, take-all, getD-take, getD-drop, length-take-le}
 use Rattle.planning.specs.Record.{Fact, Task}
 use Rattle.planning.specs.Runs.{State, step, relaxed, run, runBy, initial, goals, actions, count, act, black}
 use Rattle.planning.specs.Newest.{Values, initialValues, newer}
-use Rattle.planning.specs.Repair.{known, everAfter, moves, order, Stage, stagesFrom, stages, repaired, moveSearches, allSteps, allSearches, stageSteps, searches}
+use Rattle.planning.specs.Repair.{known, everAfter, moves, order, Stage, stagesFrom, stages, repaired, moveSearches, allSteps, allSearches, stageSteps, searches, stageMarks, allMarks, marks}
 use Rattle.planning.proofs.Facts.{_⊆_}
 use Rattle.planning.proofs.Known.{_≈_, known-start, known-run, everAfter-now}
 use Rattle.planning.proofs.Tests.{bool-same}
-use Rattle.planning.proofs.Repair.{repairFrom-nil, repairFrom-cons}
 use Rattle.planning.proofs.Formed.{Formed, eff-func}
 use Rattle.state.specs.Sets.{setsOf, redBlackOf}
 use Rattle.state.proofs.RedBlack.{redBlack-step, redBlack-initial}
@@ -28,7 +32,7 @@ use Rattle.passes.specs.Passes.{Entries, Blank, writtenIn, Searched}
 use Rattle.passes.proofs.Putting.{told-as, counts-as, blank-memo}
 use Rattle.repair.specs.declared.Counts.{Counts}
 use Rattle.repair.specs.Counting.{noCounts, Onward, Small, Few}
-use Rattle.repair.specs.Repairs.{filled, moved, stageOf, filledSearches, movedSearches, stageSearches}
+use Rattle.repair.specs.Repairs.{filled, moved, stageOf, marksFor, filledSearches, movedSearches, stageSearches}
 use Rattle.repair.proofs.Below.{stage-entries, stage-searches, append-entries}
 use Rattle.repair.proofs.Counting.{Counted, counted-none, counted-few, counted-behind}
 
@@ -60,26 +64,51 @@ searches-is : (t : Task) (K s ever : State) (w : List Fact) → known (black t) 
 unfolding moveSearches movedSearches filledSearches
 searches-is t K s ever w e = rw (← e) refl
 
+-- the stage for the rest l of the relaxed plan; its steps, searches and marks
+unfoldable stageAt : Task → State → State → List ℕ → Stage
+stageAt t K s [] = record { inserted = moved t K s (goals t); entry = []; searched = movedSearches t K s (goals t) }
+stageAt t K s (i ∷ l) = record { inserted = moved t K s (act t i .pre); entry = i ∷ []; searched = movedSearches t K s (act t i .pre) }
+
+module _ (t : Task) (K s : State) where
+  stage-steps : (l : List ℕ) → stageSteps (stageAt t K s l) ≡ stageOf t K s l
+  unfolding stageAt stageOf stageSteps
+  stage-steps [] = append-nil (moved t K s (goals t))
+  stage-steps (i ∷ l) = refl
+
+  stage-searched : (l : List ℕ) → stageAt t K s l .searched ≡ stageSearches t K s l
+  unfolding stageAt stageSearches
+  stage-searched [] = refl
+  stage-searched (i ∷ l) = refl
+
+  stage-marks : (l : List ℕ) → stageMarks (stageAt t K s l) ≡ marksFor (ltb 0 (length l)) (length (stageOf t K s l))
+  unfolding stageAt stageOf stageMarks marksFor
+  stage-marks [] = append-nil (replicate (length (moved t K s (goals t))) 1)
+  stage-marks (i ∷ l) =
+      let m : List ℕ = moved t K s (act t i .pre) in
+      let e : length (m ++ (i ∷ [])) - 1 ≡ length m = omega (arith, length-append m (i ∷ [])) in
+      ap (λ (n : ℕ). replicate {A = ℕ} n 1 ++ (0 ∷ [])) (sym e) ∙ ap (λ (b : Bool). marksFor b (length (m ++ (i ∷ [])))) (sym (lt-ltb 0 (suc (length l)) (omega arith)))
+
 -- the first stage and those behind it
 module _ (t : Task) (K s ever : State) (e : known (black t) s ever ≡ K) where
   abbrev later : List ℕ → List Stage
   later l = let k : List ℕ = stageOf t K s l in behind t l (run (act t) (black t) k s) (everAfter (act t) (black t) k s ever)
 
+  rest-stages : (l : List ℕ) → restOf t l s ever ≡ stageAt t K s l ∷ later l
+  unfolding stageAt stageOf behind stagesFrom stageSteps
+  rest-stages [] = rw (moves-is t K s ever (goals t) e, searches-is t K s ever (goals t) e) refl
+  rest-stages (i ∷ l) = rw (moves-is t K s ever (act t i .pre) e, searches-is t K s ever (act t i .pre) e) refl
+
   rest-steps : (l : List ℕ) → allSteps (restOf t l s ever) ≡ stageOf t K s l ++ allSteps (later l)
-  unfolding stageOf behind allSteps
-  rest-steps [] =
-      repairFrom-nil (act t) (actions t) (black t) (count t) (order t) (goals t) s ever ∙ moves-is t K s ever (goals t) e ∙ sym (append-nil (moved t K s (goals t)))
-  rest-steps (i ∷ l) =
-      repairFrom-cons (act t) (actions t) (black t) (count t) (order t) (goals t) i l s ever
-      ∙ ap (λ (j : List ℕ). let k : List ℕ = j ++ (i ∷ []) in k ++ allSteps (restOf t l (run (act t) (black t) k s) (everAfter (act t) (black t) k s ever))) (moves-is t K s ever (act t i .pre) e)
+  unfolding allSteps
+  rest-steps l = ap allSteps (rest-stages l) ∙ ap (λ (k : List ℕ). k ++ allSteps (later l)) (stage-steps t K s l)
 
   rest-searches : (l : List ℕ) → allSearches (restOf t l s ever) ≡ stageSearches t K s l + allSearches (later l)
-  unfolding stageOf stageSearches behind allSearches stagesFrom stageSteps
-  rest-searches [] = ap (λ (n : ℕ). n + 0) (searches-is t K s ever (goals t) e)
-  rest-searches (i ∷ l) =
-      let n : ℕ = moveSearches (act t) (actions t) (black t) (count t) (order t) s ever (act t i .pre) in
-      ap (λ (j : List ℕ). let k : List ℕ = j ++ (i ∷ []) in n + allSearches (restOf t l (run (act t) (black t) k s) (everAfter (act t) (black t) k s ever))) (moves-is t K s ever (act t i .pre) e)
-      ∙ ap (λ (x : ℕ). x + allSearches (later (i ∷ l))) (searches-is t K s ever (act t i .pre) e)
+  unfolding allSearches
+  rest-searches l = ap allSearches (rest-stages l) ∙ ap (λ (n : ℕ). n + allSearches (later l)) (stage-searched t K s l)
+
+  rest-marks : (l : List ℕ) → allMarks (restOf t l s ever) ≡ marksFor (ltb 0 (length l)) (length (stageOf t K s l)) ++ allMarks (later l)
+  unfolding allMarks
+  rest-marks l = ap allMarks (rest-stages l) ∙ ap (λ (k : List ℕ). k ++ allMarks (later l)) (stage-marks t K s l)
 
 module _ (t : Task) (l : List ℕ) (j : ℕ) (s ever : State) where
   left-here : j ≤ length l → leftOf t l j s ever ≡ restOf t (drop j l) s ever
@@ -104,10 +133,11 @@ module _ (t : Task) (l : List ℕ) (j : ℕ) (s ever : State) where
 abbrev shown : Task → List ℕ → Values → State
 shown t sets f = redBlackOf (black t) (setsOf sets) f
 
-pub record Repairing (t : Task) (l₀ plan₀ plan memo sets : List ℕ) (f : Values) (c : Counts) (n a j : ℕ) : Type 0 where
+pub record Repairing (t : Task) (l₀ plan₀ plan area memo sets : List ℕ) (f : Values) (c : Counts) (n a j : ℕ) : Type 0 where
   pub held : State
   pub within : a ≤ length plan₀
   pub long : length plan ≡ length plan₀
+  pub even : length area ≡ length plan₀
   pub rows : Memo t (setsOf sets) memo
   pub place : j ≤ length l₀ + 1
   pub taken : c .steps ≤ a
@@ -118,16 +148,18 @@ pub record Repairing (t : Task) (l₀ plan₀ plan memo sets : List ℕ) (f : Va
   pub so-far : repaired t l₀ ≡ take a plan ++ allSteps (leftAfter t l₀ j (slice (c .steps) a plan) (shown t sets f) held)
   pub searched : searches t l₀ ≡ n + allSearches (leftAfter t l₀ j (slice (c .steps) a plan) (shown t sets f) held)
   pub modest : n ≤ 64 * (a + (j - length l₀))
+  pub marked : marks t l₀ ≡ take a area ++ allMarks (leftAfter t l₀ j (slice (c .steps) a plan) (shown t sets f) held)
 
-pub repairing-start : (t : Task) (l₀ plan memo sets : List ℕ) (f : Values) → Blank memo → setsOf sets ≡ initial t → f ≡ initialValues t
-    → Repairing t l₀ plan plan memo sets f noCounts 0 0 0
-unfolding repaired searches stages leftOf runBy everAfter
-repairing-start t l₀ plan memo sets f B es ef =
+pub repairing-start : (t : Task) (l₀ plan area memo sets : List ℕ) (f : Values) → Blank memo → setsOf sets ≡ initial t → f ≡ initialValues t → length area ≡ length plan
+    → Repairing t l₀ plan plan area memo sets f noCounts 0 0 0
+unfolding repaired searches marks stages leftOf runBy everAfter
+repairing-start t l₀ plan area memo sets f B es ef ea =
     let e : shown t sets f ≡ initial t = rw (es, ef) (redBlack-initial t) in
     record {
       held = initial t;
       within = omega arith;
       long = refl;
+      even = ea;
       rows = blank-memo t (setsOf sets) memo B;
       place = omega arith;
       taken = omega arith;
@@ -138,9 +170,10 @@ repairing-start t l₀ plan memo sets f B es ef =
       so-far = rw e refl;
       searched = rw e (omega arith);
       modest = omega arith;
+      marked = rw e refl;
     }
 
-module _ {t : Task} {l₀ plan₀ plan memo sets : List ℕ} {f : Values} {c : Counts} {n a j : ℕ} (G : Repairing t l₀ plan₀ plan memo sets f c n a j) where
+module _ {t : Task} {l₀ plan₀ plan area memo sets : List ℕ} {f : Values} {c : Counts} {n a j : ℕ} (G : Repairing t l₀ plan₀ plan area memo sets f c n a j) where
   pub repairing-within : a ≤ length plan
   repairing-within = omega (arith, G .within, G .long)
 
@@ -165,10 +198,18 @@ module _ {t : Task} {l₀ plan₀ plan memo sets : List ℕ} {f : Values} {c : C
     unfolding runBy everAfter
     searched′ = G .searched ∙ rw (k, slice-empty a plan) refl
 
+    marked′ : marks t l₀ ≡ take a area ++ allMarks (leftOf t l₀ j (shown t sets f) (G .held))
+    unfolding runBy everAfter
+    marked′ = G .marked ∙ rw (k, slice-empty a plan) refl
+
     -- and every stage placed
     pub repairing-whole : length l₀ < j → take a plan ≡ repaired t l₀
     unfolding allSteps
     repairing-whole h = sym (so-far′ ∙ ap (λ (l : List Stage). take a plan ++ allSteps l) (left-none t l₀ j (shown t sets f) (G .held) h (G .place)) ∙ append-nil (take a plan))
+
+    pub repairing-marked : length l₀ < j → take a area ≡ marks t l₀
+    unfolding allMarks
+    repairing-marked h = sym (marked′ ∙ ap (λ (l : List Stage). take a area ++ allMarks l) (left-none t l₀ j (shown t sets f) (G .held) h (G .place)) ∙ append-nil (take a area))
 
     pub repairing-searched : length l₀ < j → n ≡ searches t l₀
     unfolding allSearches
@@ -183,7 +224,7 @@ module _ {t : Task} {l₀ plan₀ plan memo sets : List ℕ} {f : Values} {c : C
     repairing-small F h = record { few = repairing-few F h; more = omega (arith, k, G .within) }
 
     pub repairing-step : Formed t → (memo′ sets′ : List ℕ) (f′ : Values) (c′ : Counts) → Memo t (setsOf sets′) memo′
-        → setsOf sets′ ≡ step relaxed (act t i) (setsOf sets) → Onward (act t i) f c c′ → f′ ≡ newer (act t i) f → Repairing t l₀ plan₀ plan memo′ sets′ f′ c′ n a j
+        → setsOf sets′ ≡ step relaxed (act t i) (setsOf sets) → Onward (act t i) f c c′ → f′ ≡ newer (act t i) f → Repairing t l₀ plan₀ plan area memo′ sets′ f′ c′ n a j
     unfolding runBy everAfter
     repairing-step F memo′ sets′ f′ c′ rows′ es O ef =
         let effects = eff-func t F i in
@@ -197,6 +238,7 @@ module _ {t : Task} {l₀ plan₀ plan memo sets : List ℕ} {f : Values} {c : C
           held = held′;
           within = G .within;
           long = G .long;
+          even = G .even;
           rows = rows′;
           place = G .place;
           taken = omega (arith, O .steps, k);
@@ -207,11 +249,22 @@ module _ {t : Task} {l₀ plan₀ plan memo sets : List ℕ} {f : Values} {c : C
           so-far = G .so-far ∙ rw (O .steps, cut, now) refl;
           searched = G .searched ∙ rw (O .steps, cut, now) refl;
           modest = G .modest;
+          marked = G .marked ∙ rw (O .steps, cut, now) refl;
         }
 
+-- a stage with an action has a step
+stage-action : (t : Task) (K s : State) (l : List ℕ) → 0 < length l → 0 < length (stageOf t K s l)
+unfolding stageOf
+stage-action t K s [] h = absurd (omega arith)
+stage-action t K s (i ∷ l) h = omega (arith, length-append (moved t K s (act t i .pre)) (i ∷ []))
+
+-- something is left behind place j
+ltb-left : (j n : ℕ) → ltb 0 (n - j) ≡ ltb j n
+ltb-left j n = elim (decLt j n) [ yes h ↦ lt-ltb 0 (n - j) (omega arith) ∙ sym (lt-ltb j n h) | no h ↦ le-ltb 0 (n - j) (omega arith) ∙ sym (le-ltb j n (omega arith)) ]
+
 -- the steps of stage j were written; of the relaxed plan the part `rest` was handed on
-pub record Arranged (t : Task) (l₀ plan₀ plan memo sets : List ℕ) (f : Values) (c : Counts) (n a j : ℕ) (rest plan′ : List ℕ) (r : Inserted) : Type 0 where
-  pub start : Repairing t l₀ plan₀ plan memo sets f c n a j
+pub record Arranged (t : Task) (l₀ plan₀ plan area memo sets : List ℕ) (f : Values) (c : Counts) (n a j : ℕ) (rest plan′ : List ℕ) (r : Inserted) : Type 0 where
+  pub start : Repairing t l₀ plan₀ plan area memo sets f c n a j
   pub taken : c .steps ≡ a
   pub here : j ≤ length l₀
   pub part : rest ≡ drop j l₀
@@ -219,9 +272,9 @@ pub record Arranged (t : Task) (l₀ plan₀ plan memo sets : List ℕ) (f : Val
   pub put : Put plan plan′ a (stageOf t (setsOf sets) (shown t sets f) rest) (writtenIn r)
   pub counts : Searched (stageSearches t (setsOf sets) (shown t sets f) rest) r
 
-module _ {t : Task} {l₀ plan₀ plan memo sets : List ℕ} {f : Values} {c : Counts} {n a j : ℕ} {rest plan′ : List ℕ} {r : Inserted}
-    (R : Arranged t l₀ plan₀ plan memo sets f c n a j rest plan′ r) where
-  abbrev G : Repairing t l₀ plan₀ plan memo sets f c n a j
+module _ {t : Task} {l₀ plan₀ plan area memo sets : List ℕ} {f : Values} {c : Counts} {n a j : ℕ} {rest plan′ : List ℕ} {r : Inserted}
+    (R : Arranged t l₀ plan₀ plan area memo sets f c n a j rest plan′ r) where
+  abbrev G : Repairing t l₀ plan₀ plan area memo sets f c n a j
   G = R .start
 
   abbrev steps : List ℕ
@@ -280,11 +333,19 @@ module _ {t : Task} {l₀ plan₀ plan memo sets : List ℕ} {f : Values} {c : C
         let few = stage-searches t F (setsOf sets) (shown t sets f) rest in
         omega (arith, few, searches-here, told .0, G .modest, ap length (R .part), length-drop j l₀, R .here)
 
-    pub repairing-turn : Formed t → Entries t rest → (memo′ : List ℕ) → Memo t (setsOf sets) memo′ → Repairing t l₀ plan₀ plan′ memo′ sets f c (n + k) x (j + 1)
-    repairing-turn F en memo′ rows′ = record {
+    -- what marking the stage asks, and an action has a place
+    pub repairing-places : (a ≤ x) × (x ≤ length area) × (j < length l₀ → a < x)
+    repairing-places =
+        let action = stage-action t (setsOf sets) (shown t sets f) rest in
+        (bounds .0, omega (arith, told .1, G .long, G .even), λ h. omega (arith, told .0, action (omega (arith, h, ap length (R .part), length-drop j l₀))))
+
+    pub repairing-turn : Formed t → Entries t rest → (memo′ area′ : List ℕ) → Memo t (setsOf sets) memo′ → length area′ ≡ length area
+        → take x area′ ≡ take a area ++ marksFor (ltb j (length l₀)) (x - a) → Repairing t l₀ plan₀ plan′ area′ memo′ sets f c (n + k) x (j + 1)
+    repairing-turn F en memo′ area′ rows′ ea em = record {
       held = G .held;
       within = repairing-fits;
       long = R .long ∙ G .long;
+      even = ea ∙ G .even;
       rows = rows′;
       place = omega (arith, R .here);
       taken = omega (arith, R .taken, bounds);
@@ -299,6 +360,15 @@ module _ {t : Task} {l₀ plan₀ plan memo sets : List ℕ} {f : Values} {c : C
           let rest-is = searched′ G (R .taken) ∙ ap (λ (l : List Stage). n + allSearches l) here-is in
           omega (arith, rest-is, rest-searches t (setsOf sets) (shown t sets f) (G .held) (G .knows) rest, searches-here, ap allSearches left-is);
       modest = repairing-modest F;
+      marked =
+          let rest-is = marked′ G (R .taken) ∙ ap (λ (l : List Stage). take a area ++ allMarks l) here-is in
+          let count : length steps ≡ x - a = omega (arith, told .0) in
+          let more : ltb 0 (length rest) ≡ ltb j (length l₀) = rw (R .part, length-drop) (ltb-left j (length l₀)) in
+          let here =
+          rest-marks t (setsOf sets) (shown t sets f) (G .held) (G .knows) rest ∙ ap (λ (b : Bool). marksFor b (length steps) ++ allMarks next) more
+          ∙ ap (λ (y : ℕ). marksFor (ltb j (length l₀)) y ++ allMarks next) count in
+          rest-is ∙ ap (λ (l : List ℕ). take a area ++ l) here ∙ sym (append-assoc (take a area) (marksFor (ltb j (length l₀)) (x - a)) (allMarks next))
+          ∙ sym (ap (λ (l : List ℕ). l ++ allMarks (left (slice (c .steps) x plan′))) em ∙ ap (λ (l : List Stage). (take a area ++ marksFor (ltb j (length l₀)) (x - a)) ++ allMarks l) left-is);
     }
 
 -- stages left, and steps of the last one: each turn takes one of them

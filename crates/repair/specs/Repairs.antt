@@ -1,9 +1,9 @@
 -- What the repair is handed, and its parts over the facts held ever: those of R and B (planning/proofs/Known.antt).
 use mathlib.Core.Path.{_≡_}
-use mathlib.Core.Bool.{true, false}
+use mathlib.Core.Bool.{Bool, true, false}
 use mathlib.Core.List.{List, [], _∷_, _++_}
-use Prim.Native.Nat.{ℕ, _/_, _%_, _<_}
-use lib.ListN.{length, getD}
+use Prim.Native.Nat.{ℕ, _-_, _/_, _%_, _<_}
+use lib.ListN.{length, getD, replicate}
 use Rattle.planning.specs.Record.{Fact, Task}
 use Rattle.planning.specs.Runs.{State, variables, count, act, black, goals}
 use Rattle.planning.specs.Repair.{order, fill, value, blackMet, fillSearches}
@@ -47,6 +47,11 @@ lastMoves t K s = moved t K s (goals t)
 unfoldable pub stageOf : Task → State → State → List ℕ → List ℕ
 stageOf t K s [] = lastMoves t K s
 stageOf t K s (i ∷ l) = stepsFor t K s i
+
+-- the marks of n steps: moves, and behind them an action if there is one
+unfoldable pub marksFor : Bool → ℕ → List ℕ
+marksFor true n = replicate (n - 1) 1 ++ (0 ∷ [])
+marksFor false n = replicate n 1
 
 -- the searches for these
 abbrev pub searchesOver : Task → State → State → List ℕ → List ℕ → List Fact → ℕ

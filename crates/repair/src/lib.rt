@@ -6,10 +6,11 @@ use passes::Inserted;
 use state::Goals;
 use state::State;
 ghost use mathlib.Core.Path.{_≡_};
-ghost use mathlib.Core.Bool.{not, _&&_};
-ghost use Prim.Native.Nat.{_*_, _/_, _%_, _<_, _≤_};
-ghost use lib.ListN.{length};
-ghost use Rattle.planning.specs.Basics.{done, refused};
+ghost use mathlib.Core.Bool.{true, not, _&&_};
+ghost use mathlib.Core.List.{_++_};
+ghost use Prim.Native.Nat.{_-_, _*_, _/_, _%_, _<_, _≤_};
+ghost use lib.ListN.{length, take};
+ghost use Rattle.planning.specs.Basics.{oneIf, done, refused};
 ghost use Rattle.planning.specs.Runs.{holds, variables, actions, act, black, goals};
 ghost use Rattle.planning.specs.Newest.{alone};
 ghost use Rattle.planning.specs.Repair.{blackMet};
@@ -17,11 +18,11 @@ ghost use Rattle.task.specs.Task.{taskIn, Loaded};
 ghost use Rattle.task.specs.Links.{Prepared};
 ghost use Rattle.state.specs.Sets.{setsOf, valuesOf};
 ghost use Rattle.paths.specs.Paths.{Memo, Put};
-ghost use Rattle.passes.specs.Passes.{factsOf, Entries, Blank, writtenIn, Searched};
+ghost use Rattle.passes.specs.Passes.{factsOf, Entries, writtenIn, Searched};
 ghost use Rattle.answers.specs.Plans.{answerOf};
 ghost use Rattle.repair.specs.Answers.{roomIn, Held};
 ghost use Rattle.repair.specs.Counting.{Small, Few, noCounts, Onward, judgedBy};
-ghost use Rattle.repair.specs.Repairs.{Present, Wanted, filledIn, movedIn, stepsIn, lastIn, stageIn};
+ghost use Rattle.repair.specs.Repairs.{Present, Wanted, filledIn, movedIn, stepsIn, lastIn, stageIn, marksFor};
 ghost use Rattle.repair.specs.Repairs.{filledSearchesIn, movedSearchesIn, stepsSearchesIn, lastSearchesIn, stageSearchesIn};
 
 // A byte as an index.
@@ -205,6 +206,28 @@ fn stage<'a>(
     arrange(task, newest, ever, memo, left[0], plan, at)
 }
 
+// The mark of a stage's last step: 0 for an action, 1 for a move.
+fn last_mark(action: bool) -> u8
+    ensures { λ r. ⌜ r ≡ oneIf (not action) ⌝ }
+{
+    if action { 0 } else { 1 }
+}
+
+// The marks of a stage's steps, at the places from `from` up to `to`: 1 for a move, 0 for the action behind them if there is one.
+fn mark(marks: &mut [u8], from: usize, to: usize, action: bool)
+    requires { ⌜ (from ≤ to) × (to ≤ length (now marks)) × (action ≡ true → from < to) ⌝ }
+    ensures { λ _. ⌜ take to (now (marks .exit)) ≡ take from (now (marks .entry)) ++ marksFor action (to - from) ⌝ }
+{
+    let mut k = from;
+    while k + 1 < to {
+        marks[k] = 1;
+        k += 1;
+    }
+    if k < to {
+        marks[k] = last_mark(action);
+    }
+}
+
 // What is counted along a list: its steps, those that run for real, the cost.
 struct Counts {
     steps: usize,
@@ -275,11 +298,12 @@ fn too_long(room: usize) -> Planned
 
 // The repair from the initial state in one pass: where every step placed is taken the next stage is placed behind them, else one
 // step is taken. Where the effects of its action are held the next state has the same sets.
-fn repair_from(task: &[u16], memo: &mut [u16], list: &[u16], plan: &mut [u16]) -> Planned
-    requires { ⌜ Prepared (now task) × Entries (taskIn (now task)) (now list) × Blank (now memo) × (length (now plan) ≤ 32768) ⌝ }
-    ensures { λ r. ⌜ Held (taskIn (now (task .entry))) (now (list .entry)) (now (plan .exit)) (length (now (plan .entry))) r ⌝ }
+fn repair_from(task: &[u16], list: &[u16], plan: &mut [u16], marks: &mut [u8]) -> Planned
+    requires { ⌜ Prepared (now task) × Entries (taskIn (now task)) (now list) × (length (now plan) ≤ 32768) × (length (now marks) ≡ length (now plan)) ⌝ }
+    ensures { λ r. ⌜ Held (taskIn (now (task .entry))) (now (list .entry)) (now (plan .exit)) (now (marks .exit)) (length (now (plan .entry))) r ⌝ }
 {
     let needs = paths::needs(task);
+    let mut memo = [0u16; paths::MEMO];
     let mut s = State::initial(task);
     let mut c = uncounted();
     let mut searched: usize = 0;
@@ -291,10 +315,12 @@ fn repair_from(task: &[u16], memo: &mut [u16], list: &[u16], plan: &mut [u16]) -
             if j > list.len() {
                 return verdict(task, &s.newest.values, c, searched);
             }
-            let w = stage(task, &s.newest.values, &s.sets, memo, &list[j..], plan, at);
+            let left = &list[j..];
+            let w = stage(task, &s.newest.values, &s.sets, &mut memo, left, plan, at);
             let Inserted::Upto { end, searches } = w else {
                 return too_long(plan.len());
             };
+            mark(marks, at, end, j < list.len());
             at = end;
             searched += searches;
             j += 1;
@@ -309,19 +335,24 @@ fn repair_from(task: &[u16], memo: &mut [u16], list: &[u16], plan: &mut [u16]) -
             s = State { sets, newest };
             continue;
         }
-        passes::refresh(task, &s.sets, memo, i, needs);
+        passes::refresh(task, &s.sets, &mut memo, i, needs);
         s = s.step(task, i);
     }
 }
 
 // The repair of a relaxed plan, in the front of the plan list: its steps, its cost, those that run for real, and whether it is a plan in a
-// real run; 11 if it is longer than the capacity.
-pub fn repair(task: &[u16], relaxed: &[u16], plan: &mut [u16], work: &[u16]) -> Planned
+// real run, with its marks in the front of the mark area; 11 if it is longer than the capacity.
+pub fn repair(
+    task: &[u16],
+    relaxed: &[u16],
+    plan: &mut [u16],
+    work: &[u16],
+    marks: &mut [u8],
+) -> Planned
     requires { ⌜ Prepared (now task) × Entries (taskIn (now task)) (now relaxed) ⌝ }
-    ensures { λ r. ⌜ Held (taskIn (now (task .entry))) (now (relaxed .entry)) (now (plan .exit)) (roomIn (now (plan .entry)) (now (work .entry))) r ⌝ }
+    ensures { λ r. ⌜ Held (taskIn (now (task .entry))) (now (relaxed .entry)) (now (plan .exit)) (now (marks .exit)) (roomIn (now (plan .entry)) (now (work .entry)) (now (marks .entry))) r ⌝ }
 {
-    let room = lists::capacity(lists::lesser(plan.len(), work.len()));
-    let mut memo = [0u16; paths::MEMO];
-    passes::forget(&mut memo);
-    repair_from(task, &mut memo, relaxed, &mut plan[..room])
+    let lists = lists::lesser(plan.len(), work.len());
+    let room = lists::capacity(lists::lesser(lists, marks.len()));
+    repair_from(task, relaxed, &mut plan[..room], &mut marks[..room])
 }

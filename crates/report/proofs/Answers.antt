@@ -35,11 +35,11 @@ put-runs s n m f k l t em ef ek el et P Q = put-then (rw (et, ef, ek, el, em) re
 
 -- the planner's answer to s, and its list
 pub record Told (s : List ℕ) (r : Planned) (plan : List ℕ) : Type 0 where
-  pub called : answerOf r ≡ planCall s 16384 16384
-  pub list : plan ≡ planList s 16384 16384
+  pub called : answerOf r ≡ planCall s 16384 16384 16384
+  pub list : plan ≡ planList s 16384 16384 16384
 
-pub told : (s plan : List ℕ) (r : Planned) (n w : ℕ) → n ≡ 16384 → w ≡ 16384 → answerOf r ≡ planCall s n w → plan ≡ planList s n w → Told s r plan
-told s plan r n w en ew c l = record { called = rw (en, ew) at c; list = rw (en, ew) at l }
+pub told : (s plan : List ℕ) (r : Planned) (n w m : ℕ) → n ≡ 16384 → w ≡ 16384 → m ≡ 16384 → answerOf r ≡ planCall s n w m → plan ≡ planList s n w m → Told s r plan
+told s plan r n w m en ew em c l = record { called = rw (en, ew, em) at c; list = rw (en, ew, em) at l }
 
 -- after a refusal
 pub written-refusal : {o o′ : List ℕ} {e : ℕ} (s plan : List ℕ) (r : Planned) → Told s r plan → (g f : Refusal) → r ≡ Refused g → f ≡ refusalOf r
@@ -50,7 +50,7 @@ written-refusal s plan r A g f er ef P =
 
 -- with a plan
 module _ (s plan : List ℕ) (r : Planned) (A : Told s r plan) (n c x y : ℕ) (v : Bool) (e : r ≡ Plan n c x y v) where
-  answered : planCall s 16384 16384 ≡ done (record { steps = n; cost = c; real′ = v; runs = x; searches′ = y })
+  answered : planCall s 16384 16384 16384 ≡ done (record { steps = n; cost = c; real′ = v; runs = x; searches′ = y })
   answered = sym (A .called) ∙ ap answerOf e
 
   pub kept-few : stepsIn (relaxCall s 16384) ≤ 4032

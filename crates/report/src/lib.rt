@@ -113,7 +113,8 @@ fn write(bytes: &[u8], out: &mut [u8]) -> usize
 {
     let mut plan = [0u16; 16384];
     let mut work = [0u16; 16384];
-    let answer = planner::plan(bytes, &mut plan, &mut work);
+    let mut marks = [0u8; 16384];
+    let answer = planner::plan(bytes, &mut plan, &mut work, &mut marks);
     let Planned::Plan {
         steps,
         cost,

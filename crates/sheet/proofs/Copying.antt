@@ -1,118 +1,292 @@
--- Reading the steps into a list: what has been written in front, and the steps that are left.
+-- Reading steps into a list and marks into an area: what has been written in front, and what is left.
 use mathlib.Core.List.{List, [], _∷_, _++_, append-assoc, append-nil}
 use mathlib.Core.Path.{_≡_, refl, sym, ap, _∙_}
 use Prim.Native.Nat.{ℕ, zero, suc, _+_, _-_, _*_, _/_, _%_, _^_, _<_, _≤_}
-use native.Mathlib.Nat.{zero-add, suc-add, sub-zero}
+use native.Mathlib.Nat.{zero-add, suc-add, sub-zero, mul-le-mul}
 use native.Mathlib.Numerals.{add-one}
 use native.Mathlib.Omega.{arith}
-use lib.ListN.{length, take, drop, set, length-set, length-append, length-drop}
-use lib.Seq.{take-suc-set, length-take-le, take-at, sets-eq, getD-drop, take-all}
-use Rattle.planning.specs.Basics.{bitAt, bitsAt}
-use Rattle.planning.specs.Sheet.{stepsAt}
-use Rattle.bits.proofs.Window.{bitsAt-cut}
+use lib.Pow.{high, shr-shr}
+use lib.ListN.{length, take, drop, set, replicate, length-set, length-append, replicate-append-replicate}
+use lib.Seq.{take-suc-set, length-take-le, take-at, sets-eq}
+use Rattle.planning.specs.Basics.{bitsAt}
+use Rattle.planning.specs.Sheet.{bitsOf, packed, stepsAt, marksAt}
+use Rattle.bits.proofs.Order.{bytes-of}
+use Rattle.bits.proofs.Window.{bitsAt-add, bitsAt-cut, bitsAt-lt}
+use Rattle.lists.specs.Four.{Spread, withFour}
 
-pub length-stepsAt : (s : List ℕ) (p n : ℕ) → length (stepsAt s p n) ≡ n
-unfolding stepsAt
-length-stepsAt s p zero = refl
-length-stepsAt s p (suc n) = ap suc (length-stepsAt s (p + 10) n)
+-- n numbers: that of place p, and each next one d places on
+unfoldable pub row : (ℕ → ℕ) → ℕ → ℕ → ℕ → List ℕ
+row f d p zero = []
+row f d p (suc n) = f p ∷ row f d (p + d) n
 
--- n steps, and m behind them
-pub stepsAt-add : (s : List ℕ) (p n m : ℕ) → stepsAt s p (n + m) ≡ stepsAt s p n ++ stepsAt s (p + 10 * n) m
-unfolding stepsAt
-stepsAt-add s p zero m = let e : p + 10 * 0 ≡ p = omega arith in rw (zero-add, e) refl
-stepsAt-add s p (suc n) m =
-    let e : p + 10 * suc n ≡ p + 10 + 10 * n = omega arith in
-    rw (suc-add, e, stepsAt-add s (p + 10) n m) refl
+-- the number at a place: a step behind its mark of w bits, or the mark
+abbrev pub stepAt : List ℕ → ℕ → ℕ → ℕ
+stepAt s w p = bitsAt s (p + w) 10
 
--- the whole is what stands in front of the list and the steps that are left
-pub record Copying (s : List ℕ) (n : ℕ) (whole d₀ d : List ℕ) (i : ℕ) : Type 0 where
+abbrev pub markAt : List ℕ → ℕ → ℕ → ℕ
+markAt s w p = bitsAt s p w
+
+pub stepsAt-row : (s : List ℕ) (w p n : ℕ) → stepsAt s w p n ≡ row (stepAt s w) (w + 10) p n
+unfolding stepsAt row
+stepsAt-row s w p zero = refl
+stepsAt-row s w p (suc n) =
+    let e : p + w + 10 ≡ p + (w + 10) = omega arith in
+    rw (e, stepsAt-row s w (p + (w + 10)) n) refl
+
+pub marksAt-row : (s : List ℕ) (w p n : ℕ) → marksAt s w p n ≡ row (markAt s w) (w + 10) p n
+unfolding marksAt row
+marksAt-row s w p zero = refl
+marksAt-row s w p (suc n) =
+    let e : p + w + 10 ≡ p + (w + 10) = omega arith in
+    rw (e, marksAt-row s w (p + (w + 10)) n) refl
+
+length-row : (f : ℕ → ℕ) (d p n : ℕ) → length (row f d p n) ≡ n
+unfolding row
+length-row f d p zero = refl
+length-row f d p (suc n) = ap suc (length-row f d (p + d) n)
+
+pub length-stepsAt : (s : List ℕ) (w p n : ℕ) → length (stepsAt s w p n) ≡ n
+length-stepsAt s w p n = rw stepsAt-row (length-row (stepAt s w) (w + 10) p n)
+
+pub length-marksAt : (s : List ℕ) (w p n : ℕ) → length (marksAt s w p n) ≡ n
+length-marksAt s w p n = rw marksAt-row (length-row (markAt s w) (w + 10) p n)
+
+-- a sheet of edition 1 has no marks
+pub marksAt-none : (s : List ℕ) (p n : ℕ) → marksAt s 0 p n ≡ replicate n 0
+unfolding marksAt bitsAt
+marksAt-none s p zero = refl
+marksAt-none s p (suc n) = ap (λ l. 0 ∷ l) (marksAt-none s (p + 0 + 10) n)
+
+pub marks-cleared : (s : List ℕ) (w p n m : ℕ) → w ≡ 0 → n ≤ m → replicate m 0 ≡ marksAt s w p n ++ replicate (m - n) 0
+marks-cleared s w p n m e h =
+    let k : n + (m - n) ≡ m = omega arith in
+    rw (e, marksAt-none s p n, replicate-append-replicate {A = ℕ} n (m - n) 0, k) refl
+
+row-add : (f : ℕ → ℕ) (d p n m : ℕ) → row f d p (n + m) ≡ row f d p n ++ row f d (p + d * n) m
+unfolding row
+row-add f d p zero m = let e : p + d * 0 ≡ p = omega arith in rw (zero-add, e) refl
+row-add f d p (suc n) m =
+    let e : p + d * suc n ≡ p + d + d * n = omega arith in
+    rw (suc-add, e, row-add f d (p + d) n m) refl
+
+-- the whole is what stands in front of the list and the numbers that are left
+pub record Copying (f : ℕ → ℕ) (d n : ℕ) (whole xs₀ xs : List ℕ) (i : ℕ) : Type 0 where
   pub within : i ≤ n
-  pub room : n ≤ length d₀
-  pub long : length d ≡ length d₀
-  pub so-far : whole ≡ take i d ++ stepsAt s (53 + 10 * i) (n - i)
+  pub room : n ≤ length xs₀
+  pub long : length xs ≡ length xs₀
+  pub so-far : whole ≡ take i xs ++ row f d (53 + d * i) (n - i)
 
-pub copying-start : (s : List ℕ) (n : ℕ) (d : List ℕ) (i : ℕ) → i ≤ n → n ≤ length d → Copying s n (take i d ++ stepsAt s (53 + 10 * i) (n - i)) d d i
-copying-start s n d i h r = record { within = h; room = r; long = refl; so-far = refl }
+module _ (f : ℕ → ℕ) (d n : ℕ) where
+  pub copying-start : (xs : List ℕ) (i : ℕ) → i ≤ n → n ≤ length xs → Copying f d n (take i xs ++ row f d (53 + d * i) (n - i)) xs xs i
+  copying-start xs i h r = record { within = h; room = r; long = refl; so-far = refl }
 
-pub copying-none : (s : List ℕ) (n : ℕ) (d : List ℕ) → n ≤ length d → Copying s n (stepsAt s 53 n) d d 0
-copying-none s n d r = record { within = omega arith; room = r; long = refl; so-far = rw sub-zero refl }
+  pub copying-none : (xs : List ℕ) → n ≤ length xs → Copying f d n (row f d 53 n) xs xs 0
+  copying-none xs r =
+      let e : 53 + d * 0 ≡ 53 = omega arith in
+      record { within = omega arith; room = r; long = refl; so-far = rw (sub-zero, e) refl }
 
-module _ (s : List ℕ) (n : ℕ) (whole d₀ d : List ℕ) (i : ℕ) (g : Copying s n whole d₀ d i) where
-  pub copying-one : (v : ℕ) → i < n → v ≡ bitsAt s (53 + 10 * i) 10 → Copying s n whole d₀ (set d i v) (i + 1)
-  unfolding stepsAt
-  copying-one v h e =
-      let k : n - i ≡ suc (n - (i + 1)) = omega arith in
-      let p : 53 + 10 * (i + 1) ≡ 53 + 10 * i + 10 = omega arith in
-      let l : i < length d = omega (arith, g .long, g .room) in
-      record {
-        within = omega arith;
-        room = g .room;
-        long = length-set d i v ∙ g .long;
-        so-far = g .so-far ∙ rw (k, p, ← e, add-one i, take-suc-set d i v l, append-assoc) refl;
-      }
+  module _ (whole xs₀ xs : List ℕ) (i : ℕ) (g : Copying f d n whole xs₀ xs i) where
+    pub copying-one : (v : ℕ) → i < n → v ≡ f (53 + d * i) → Copying f d n whole xs₀ (set xs i v) (i + 1)
+    unfolding row
+    copying-one v h e =
+        let k : n - i ≡ suc (n - (i + 1)) = omega arith in
+        let p : 53 + d * (i + 1) ≡ 53 + d * i + d = omega arith in
+        let l : i < length xs = omega (arith, g .long, g .room) in
+        record {
+          within = omega arith;
+          room = g .room;
+          long = length-set xs i v ∙ g .long;
+          so-far = g .so-far ∙ rw (k, p, ← e, add-one i, take-suc-set xs i v l, append-assoc) refl;
+        }
 
-  pub copying-five : (e : List ℕ) → i + 5 ≤ n → length e ≡ length d
-      → e ≡ take i d ++ stepsAt s (53 + 10 * i) 5 ++ drop (i + 5) d → Copying s n whole d₀ e (i + 5)
-  copying-five e h l w =
-      let k : n - i ≡ 5 + (n - (i + 5)) = omega arith in
-      let p : 53 + 10 * i + 10 * 5 ≡ 53 + 10 * (i + 5) = omega arith in
-      let z : length (take i d ++ stepsAt s (53 + 10 * i) 5) ≡ i + 5 = rw (length-append, length-stepsAt, length-take-le i d (omega (arith, g .long, g .room))) refl in
-      record {
-        within = h;
-        room = g .room;
-        long = l ∙ g .long;
-        so-far = g .so-far ∙ rw (k, stepsAt-add s (53 + 10 * i) 5 (n - (i + 5)), p, w, take-at (take i d ++ stepsAt s (53 + 10 * i) 5) (drop (i + 5) d) (i + 5) z, append-assoc) refl;
-      }
+    -- m numbers at once
+    pub copying-more : (m : ℕ) (ys : List ℕ) → i + m ≤ n → length ys ≡ length xs
+        → ys ≡ take i xs ++ row f d (53 + d * i) m ++ drop (i + m) xs → Copying f d n whole xs₀ ys (i + m)
+    copying-more m ys h l w =
+        let k : n - i ≡ m + (n - (i + m)) = omega arith in
+        let p : 53 + d * i + d * m ≡ 53 + d * (i + m) = omega arith in
+        let front = take i xs ++ row f d (53 + d * i) m in
+        let z : length front ≡ i + m = rw (length-append, length-row, length-take-le i xs (omega (arith, g .long, g .room))) refl in
+        record {
+          within = h;
+          room = g .room;
+          long = l ∙ g .long;
+          so-far = g .so-far ∙ rw (k, row-add f d (53 + d * i) m (n - (i + m)), p, w, take-at front (drop (i + m) xs) (i + m) z, append-assoc) refl;
+        }
 
-  pub copying-end : n ≤ i → take n d ≡ whole
-  unfolding stepsAt
-  copying-end h =
-      let e : i ≡ n = omega (arith, g .within) in
-      let k : n - n ≡ 0 = omega arith in
-      sym (g .so-far ∙ rw (e, k, append-nil) refl)
+    pub copying-end : n ≤ i → take n xs ≡ whole
+    unfolding row
+    copying-end h =
+        let e : i ≡ n = omega (arith, g .within) in
+        let k : n - n ≡ 0 = omega arith in
+        sym (g .so-far ∙ rw (e, k, append-nil) refl)
 
--- five fields of 50 bits, stored one behind the other
-five-stored : (s d : List ℕ) (p i w : ℕ) → w ≡ bitsAt s p 50 → i + 5 ≤ length d
-    → set (set (set (set (set d i (w / 2 ^ 40 % 1024)) (i + 1) (w / 2 ^ 30 % 1024)) (i + 2) (w / 2 ^ 20 % 1024)) (i + 3) (w / 2 ^ 10 % 1024)) (i + 4) (w % 1024)
-    ≡ take i d ++ stepsAt s p 5 ++ drop (i + 5) d
-unfolding stepsAt
-five-stored s d p i w e h =
-    let p0 : p + 0 ≡ p = omega arith in
-    let p2 : p + 10 + 10 ≡ p + 20 = omega arith in
-    let p3 : p + 20 + 10 ≡ p + 30 = omega arith in
-    let p4 : p + 30 + 10 ≡ p + 40 = omega arith in
-    let f0 : w / 2 ^ 40 % 1024 ≡ bitsAt s p 10 = rw e (bitsAt-cut s p 0 10 40 ∙ ap (λ (q : ℕ). bitsAt s q 10) p0) in
-    let f4 : w % 1024 ≡ bitsAt s (p + 40) 10 = let z : w / 2 ^ 0 ≡ w = omega arith in ap (λ (x : ℕ). x % 1024) (sym z) ∙ rw e (bitsAt-cut s p 40 10 0) in
-    let i1 : i + 1 ≡ suc i = omega arith in
-    let i2 : i + 2 ≡ suc (suc i) = omega arith in
-    let i3 : i + 3 ≡ suc (suc (suc i)) = omega arith in
-    let i4 : i + 4 ≡ suc (suc (suc (suc i))) = omega arith in
-    rw (p2, p3, p4, ← f0, ← bitsAt-cut s p 10 10 30, ← bitsAt-cut s p 20 10 20, ← bitsAt-cut s p 30 10 10, ← f4, ← e, i1, i2, i3, i4)
-    (sets-eq (w / 2 ^ 40 % 1024 ∷ w / 2 ^ 30 % 1024 ∷ w / 2 ^ 20 % 1024 ∷ w / 2 ^ 10 % 1024 ∷ w % 1024 ∷ []) d i h)
+-- The marks of a sheet have no more bits than it may have steps.
+pub marks-few : (w n : ℕ) → w ≤ 1 → n ≤ 32768 → w * n ≤ 32768
+marks-few w n h l = mul-le-mul h l
 
--- the same, the first four by other names
-pub four-and-one : (s d : List ℕ) (p i w x y z u : ℕ) → w ≡ bitsAt s p 50 → i + 5 ≤ length d
-    → x ≡ w / 1099511627776 % 1024 → y ≡ w / 1073741824 % 1024 → z ≡ w / 1048576 % 1024 → u ≡ w / 1024 % 1024
-    → set (set (set (set (set d i x) (i + 1) y) (i + 2) z) (i + 3) u) (i + 4) (w % 1024) ≡ take i d ++ stepsAt s p 5 ++ drop (i + 5) d
-four-and-one s d p i w x y z u e h ex ey ez eu = rw (ex, ey, ez, eu) (five-stored s d p i w e h)
+-- the byte in which an eight starts, behind five bits
+five-behind : (n : ℕ) → 8 * ((53 + 8 * n) / 8) ≡ 48 + 8 * n
+five-behind n = omega arith
 
--- bits behind the first j bytes
-bitAt-drop : (s : List ℕ) (j p : ℕ) → bitAt (drop j s) p ≡ bitAt s (j * 8 + p)
-unfolding bitAt
-bitAt-drop s j p =
-    let e : j + p / 8 ≡ (j * 8 + p) / 8 = omega arith in
-    let m : p % 8 ≡ (j * 8 + p) % 8 = omega arith in
-    rw (getD-drop j s (p / 8) 0, e, m) refl
+pub eight-starts : (w i : ℕ) → i % 8 ≡ 0 → 8 * ((53 + (w + 10) * i) / 8) ≡ 48 + (w + 10) * i
+eight-starts w i h =
+    let e : i ≡ 8 * (i / 8) = omega arith in
+    let q : (w + 10) * i ≡ 8 * ((w + 10) * (i / 8)) = ap (λ (x : ℕ). (w + 10) * x) e ∙ omega arith in
+    rw q (five-behind ((w + 10) * (i / 8)))
 
-bitsAt-drop : (s : List ℕ) (j p w : ℕ) → bitsAt (drop j s) p w ≡ bitsAt s (j * 8 + p) w
-unfolding bitsAt
-bitsAt-drop s j p zero = refl
-bitsAt-drop s j p (suc w) =
-    let a : j * 8 + (p + w) ≡ j * 8 + p + w = omega arith in
-    rw (bitsAt-drop s j p w, bitAt-drop s j (p + w), a) refl
+-- Ten entries are held: the words of the first eight are.
+pub eight-held : (w i n at len : ℕ) → w ≤ 1 → i + 10 ≤ n → 53 + (w + 10) * n ≤ 8 * len → 8 * at ≡ 48 + (w + 10) * i → at + w + 13 ≤ len
+eight-held w i n at len l h r p =
+    let k : n ≡ i + 10 + (n - (i + 10)) = omega arith in
+    omega (arith, ap (λ (x : ℕ). w * x) k)
 
--- a field in the bytes from its first one on
-pub bitsAt-behind : (s : List ℕ) (p w : ℕ) → bitsAt (take (length s - p / 8) (drop (p / 8) s)) (p % 8) w ≡ bitsAt s p w
-bitsAt-behind s p w =
-    let e : p / 8 * 8 + p % 8 ≡ p = omega arith in
-    rw (take-all (length s - p / 8) (drop (p / 8) s) (rw (length-drop (p / 8) s) (omega arith)), bitsAt-drop s (p / 8) (p % 8) w, e) refl
+-- a field of m bits at p, cut out of a run of bits that goes on for c bits behind it
+cut-at : (s : List ℕ) (q n r p m c : ℕ) → r ≡ bitsAt s q n → q + n ≡ p + m + c → q ≤ p → r / 2 ^ c % 2 ^ m ≡ bitsAt s p m
+cut-at s q n r p m c e k h =
+    let o : n ≡ p - q + m + c = omega arith in
+    let z : q + (p - q) ≡ p = omega arith in
+    rw (e, o, bitsAt-cut s q (p - q) m c, z) refl
+
+-- the front of a run of bits
+pub bits-front : (s : List ℕ) (q n r m c : ℕ) → r ≡ bitsAt s q n → n ≡ m + c → r / 2 ^ c ≡ bitsAt s q m
+bits-front s q n r m c e k = rw (e, k, bitsAt-add s q m c) (high (bitsAt s q m) c (bitsAt-lt s (q + m) c))
+
+-- Four bits that lie eleven places apart, moved by one product to lie eight apart.
+module _ (a b c d m : ℕ) (ha : a < 2) (hb : b < 2) (hc : c < 2) (hd : d < 2) (e : m ≡ (a * 8589934592 + b * 4194304 + c * 2048 + d) * 585) where
+  first-moved : m / 8589934592 % 2 ≡ a
+  first-moved = let p : m / 8589934592 ≡ a * 585 = omega arith in rw p (omega arith)
+
+  second-moved : m / 33554432 % 2 ≡ b
+  second-moved = let p : m / 33554432 ≡ a * 149760 + b * 73 = omega arith in rw p (omega arith)
+
+  third-moved : m / 131072 % 2 ≡ c
+  third-moved = let p : m / 131072 ≡ a * 38338560 + b * 18720 + c * 9 = omega arith in rw p (omega arith)
+
+  last-moved : m / 512 % 2 ≡ d
+  last-moved = let p : m / 512 ≡ a * 9814671360 + b * 4792320 + c * 2340 + d = omega arith in rw p (omega arith)
+
+  pub bits-moved : m / 8589934592 % 2 * 16777216 + m / 33554432 % 2 * 65536 + m / 131072 % 2 * 256 + m / 512 % 2 ≡ a * 16777216 + b * 65536 + c * 256 + d
+  bits-moved = rw (first-moved, second-moved, third-moved, last-moved) refl
+
+-- Four entries, the first at p, out of a run of bits that ends behind them.
+module _ (s : List ℕ) (w q n r p : ℕ) (e : r ≡ bitsAt s q n) (k : q + n ≡ p + 4 * (w + 10)) (h : q ≤ p) where
+  row-four : row (stepAt s w) (w + 10) p 4 ≡ r / 2 ^ (3 * (w + 10)) % 1024 ∷ r / 2 ^ (2 * (w + 10)) % 1024 ∷ r / 2 ^ (w + 10) % 1024 ∷ r % 1024 ∷ []
+  unfolding row
+  row-four =
+      let z : r / 2 ^ 0 ≡ r = omega arith in
+      rw (
+        ← cut-at s q n r (p + w) 10 (3 * (w + 10)) e (omega arith) (omega arith),
+        ← cut-at s q n r (p + (w + 10) + w) 10 (2 * (w + 10)) e (omega arith) (omega arith),
+        ← cut-at s q n r (p + (w + 10) + (w + 10) + w) 10 (w + 10) e (omega arith) (omega arith),
+        ← cut-at s q n r (p + (w + 10) + (w + 10) + (w + 10) + w) 10 0 e (omega arith) (omega arith),
+        z,
+      ) refl
+
+  -- stored one behind the other
+  pub four-stored : (xs : List ℕ) (i x : ℕ) → i + 4 ≤ length xs
+      → Spread (r / 2 ^ (3 * (w + 10)) % 1024) (r / 2 ^ (2 * (w + 10)) % 1024) (r / 2 ^ (w + 10) % 1024) (r % 1024) x
+      → withFour xs i x ≡ take i xs ++ row (stepAt s w) (w + 10) p 4 ++ drop (i + 4) xs
+  four-stored xs i x l t =
+      let i1 : i + 1 ≡ suc i = omega arith in
+      let i2 : i + 2 ≡ suc (suc i) = omega arith in
+      let i3 : i + 3 ≡ suc (suc (suc i)) = omega arith in
+      rw (t .0, t .1, t .2, t .3, row-four, i1, i2, i3)
+      (sets-eq (r / 2 ^ (3 * (w + 10)) % 1024 ∷ r / 2 ^ (2 * (w + 10)) % 1024 ∷ r / 2 ^ (w + 10) % 1024 ∷ r % 1024 ∷ []) xs i l)
+
+-- The marks of four entries of 11 bits, the first at p, out of a run of bits that ends behind them.
+module _ (s : List ℕ) (q n r p : ℕ) (e : r ≡ bitsAt s q n) (k : q + n ≡ p + 44) (h : q ≤ p) where
+  marks-four : (a : ℕ) → a ≡ r / 8796093022208 % 2 * 16777216 + r / 4294967296 % 2 * 65536 + r / 2097152 % 2 * 256 + r / 1024 % 2
+      → a ≡ markAt s 1 p * 16777216 + markAt s 1 (p + 11) * 65536 + markAt s 1 (p + 22) * 256 + markAt s 1 (p + 33)
+  marks-four a g =
+      g
+      ∙ rw (
+        ← cut-at s q n r p 1 43 e (omega arith) (omega arith),
+        ← cut-at s q n r (p + 11) 1 32 e (omega arith) (omega arith),
+        ← cut-at s q n r (p + 22) 1 21 e (omega arith) (omega arith),
+        ← cut-at s q n r (p + 33) 1 10 e (omega arith) (omega arith),
+      ) refl
+
+-- eight numbers below 256, a byte each
+eight-bytes : (a b c d x y z u v : ℕ) → a < 256 → b < 256 → c < 256 → d < 256 → x < 256 → y < 256 → z < 256 → u < 256
+    → v ≡ (a * 16777216 + b * 65536 + c * 256 + d) * 4294967296 + (x * 16777216 + y * 65536 + z * 256 + u) → packed 8 (bitsOf 64 v) ≡ a ∷ b ∷ c ∷ d ∷ x ∷ y ∷ z ∷ u ∷ []
+eight-bytes a b c d x y z u v ha hb hc hd hx hy hz hu e =
+    let p : v / 2 ^ 56 % 256 ≡ a = omega arith in
+    let q : v / 2 ^ 48 % 256 ≡ b = omega arith in
+    let r : v / 2 ^ 40 % 256 ≡ c = omega arith in
+    let s : v / 2 ^ 32 % 256 ≡ d = omega arith in
+    let t : v / 2 ^ 24 % 256 ≡ x = omega arith in
+    let i : v / 2 ^ 16 % 256 ≡ y = omega arith in
+    let j : v / 2 ^ 8 % 256 ≡ z = omega arith in
+    let k : v / 2 ^ 0 % 256 ≡ u = omega arith in
+    rw (bytes-of v, p, q, r, s, t, i, j, k) refl
+
+row-eight : (f : ℕ → ℕ) (p : ℕ) → row f 11 p 8 ≡ f p ∷ f (p + 11) ∷ f (p + 22) ∷ f (p + 33) ∷ f (p + 44) ∷ f (p + 44 + 11) ∷ f (p + 44 + 22) ∷ f (p + 44 + 33) ∷ []
+unfolding row
+row-eight f p =
+    let a : p + 11 + 11 ≡ p + 22 = omega arith in
+    let b : p + 22 + 11 ≡ p + 33 = omega arith in
+    let c : p + 33 + 11 ≡ p + 44 = omega arith in
+    let d : p + 44 + 11 + 11 ≡ p + 44 + 22 = omega arith in
+    let e : p + 44 + 22 + 11 ≡ p + 44 + 33 = omega arith in
+    rw (a, b, c, d, e) refl
+
+-- Eight marks, a byte each, out of two runs of bits that end behind the first four and behind the others.
+pub eight-marks : (s : List ℕ) (p q n r a q′ n′ r′ b v : ℕ) → r ≡ bitsAt s q n → q + n ≡ p + 44 → q ≤ p → r′ ≡ bitsAt s q′ n′ → q′ + n′ ≡ p + 88 → q′ ≤ p + 44
+    → a ≡ r / 8796093022208 % 2 * 16777216 + r / 4294967296 % 2 * 65536 + r / 2097152 % 2 * 256 + r / 1024 % 2
+    → b ≡ r′ / 8796093022208 % 2 * 16777216 + r′ / 4294967296 % 2 * 65536 + r′ / 2097152 % 2 * 256 + r′ / 1024 % 2
+    → v ≡ a * 4294967296 + b → packed 8 (bitsOf 64 v) ≡ row (markAt s 1) 11 p 8
+eight-marks s p q n r a q′ n′ r′ b v e k h e′ k′ h′ ea eb ev =
+    let bit : (x : ℕ) → markAt s 1 x < 256 = λ x. omega (arith, bitsAt-lt s x 1) in
+    rw (row-eight (markAt s 1) p)
+    (eight-bytes _ _ _ _ _ _ _ _ v (bit p) (bit (p + 11)) (bit (p + 22)) (bit (p + 33)) (bit (p + 44)) (bit (p + 44 + 11)) (bit (p + 44 + 22)) (bit (p + 44 + 33))
+    (ev ∙ rw (marks-four s q n r p e k h a ea, marks-four s q′ n′ r′ (p + 44) e′ (omega arith) h′ b eb) refl))
+
+-- Two halves of 32 bits, and fields of ten bits in them, at k places up.
+module _ (hi lo p : ℕ) (h : hi < 4294967296) (e : p ≡ hi + lo * 4294967296) where
+  upper : p / 4294967296 ≡ lo
+  upper = omega arith
+
+  low-ten : p % 1024 ≡ hi % 1024
+  low-ten = omega arith
+
+  low-plain : p / 1024 % 1024 ≡ hi / 1024 % 1024
+  low-plain = let q : p / 1024 ≡ hi / 1024 + lo * 4194304 = omega arith in rw q (omega arith)
+
+  low-marked : p / 2048 % 1024 ≡ hi / 2048 % 1024
+  low-marked = let q : p / 2048 ≡ hi / 2048 + lo * 2097152 = omega arith in rw q (omega arith)
+
+half-ten : (f : ℕ) → f % 4294967296 % 1024 ≡ f % 1024
+half-ten f = omega arith
+
+half-plain : (f : ℕ) → f % 4294967296 / 1024 % 1024 ≡ f / 1024 % 1024
+half-plain f = let q : f / 1024 ≡ f % 4294967296 / 1024 + f / 4294967296 * 4194304 = omega arith in rw q (omega arith)
+
+half-marked : (f : ℕ) → f % 4294967296 / 2048 % 1024 ≡ f / 2048 % 1024
+half-marked f = let q : f / 2048 ≡ f % 4294967296 / 2048 + f / 4294967296 * 2097152 = omega arith in rw q (omega arith)
+
+-- Four numbers by pairs: those in the upper half of f below those in its lower half.
+module _ (f : ℕ) (h : f < 562949953421312) where
+  pub pairs-plain : let p = f / 1048576 + f % 4294967296 * 4294967296 in
+      (p / 1024 % 1024 ≡ f / 1073741824 % 1024) × (p % 1024 ≡ f / 1048576 % 1024) × (p / 4398046511104 % 1024 ≡ f / 1024 % 1024) × (p / 4294967296 % 1024 ≡ f % 1024)
+  pairs-plain =
+      let p = f / 1048576 + f % 4294967296 * 4294967296 in
+      let b : f / 1048576 < 4294967296 = omega arith in
+      let u : p / 4294967296 ≡ f % 4294967296 = upper _ _ p b refl in (
+        low-plain _ _ p b refl ∙ ap (λ (n : ℕ). n % 1024) (shr-shr f 20 10),
+        low-ten _ _ p b refl,
+        ap (λ (n : ℕ). n % 1024) (sym (shr-shr p 32 10) ∙ ap (λ (n : ℕ). n / 1024) u) ∙ half-plain f,
+        ap (λ (n : ℕ). n % 1024) u ∙ half-ten f,
+      )
+
+  pub pairs-marked : let p = f / 4194304 + f % 4294967296 * 4294967296 in
+      (p / 2048 % 1024 ≡ f / 8589934592 % 1024) × (p % 1024 ≡ f / 4194304 % 1024) × (p / 8796093022208 % 1024 ≡ f / 2048 % 1024) × (p / 4294967296 % 1024 ≡ f % 1024)
+  pairs-marked =
+      let p = f / 4194304 + f % 4294967296 * 4294967296 in
+      let b : f / 4194304 < 4294967296 = omega arith in
+      let u : p / 4294967296 ≡ f % 4294967296 = upper _ _ p b refl in (
+        low-marked _ _ p b refl ∙ ap (λ (n : ℕ). n % 1024) (shr-shr f 22 11),
+        low-ten _ _ p b refl,
+        ap (λ (n : ℕ). n % 1024) (sym (shr-shr p 32 11) ∙ ap (λ (n : ℕ). n / 2048) u) ∙ half-marked f,
+        ap (λ (n : ℕ). n % 1024) u ∙ half-ten f,
+      )

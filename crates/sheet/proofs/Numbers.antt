@@ -7,7 +7,7 @@ use Prim.Native.Nat.{ℕ, zero, suc, _+_, _<_}
 use native.Mathlib.Omega.{arith}
 use Rattle.planning.specs.Basics.{Check, check, refuse, andThen, inOrder, refused, refuseAt}
 use Rattle.planning.specs.Calls.{lengthCheck, roomCheck, writeCall, readCall}
-use Rattle.planning.specs.Sheet.{Sheet, sheetField, stepsChecks, sheetChecks, sheetCheck, stepsIn}
+use Rattle.planning.specs.Sheet.{Sheet, markWidth, sheetField, stepsChecks, sheetChecks, sheetCheck, editionIn, stepsIn}
 use Rattle.answers.proofs.Stages.{answer-refused}
 
 Numbered : Check → Type 0
@@ -44,10 +44,11 @@ numbered-field : (s : List ℕ) (p w : ℕ) → Numbered (sheetField s p w)
 unfolding sheetField
 numbered-field s p w = numbered-check _ 12 p (omega arith)
 
-numbered-steps : (s : List ℕ) (p n : ℕ) (ks : List Check) → Numbered (inOrder ks) → Numbered (inOrder (stepsChecks s p n ++ ks))
+numbered-steps : (s : List ℕ) (w p n : ℕ) (ks : List Check) → Numbered (inOrder ks) → Numbered (inOrder (stepsChecks s w p n ++ ks))
 unfolding stepsChecks
-numbered-steps s p zero ks g = g
-numbered-steps s p (suc n) ks g = numbered-cons _ _ (numbered-field s p 10) (numbered-steps s (p + 10) n ks g)
+numbered-steps s w p zero ks g = g
+numbered-steps s w p (suc n) ks g =
+    numbered-cons _ _ (numbered-field s p w) (numbered-cons _ _ (numbered-field s (p + w) 10) (numbered-steps s w (p + w + 10) n ks g))
 
 numbered-sheet : (s : List ℕ) → Numbered (sheetCheck s)
 unfolding sheetCheck sheetChecks
@@ -58,7 +59,7 @@ numbered-sheet s =
     (numbered-cons _ _ (numbered-field s 5 16)
     (numbered-cons _ _ (numbered-check _ 12 5 (omega arith))
     (numbered-cons _ _ (numbered-field s 21 32)
-    (numbered-steps s 53 (stepsIn s) _ (numbered-cons _ _ (numbered-check _ 12 _ (omega arith)) numbered-nil)))))))
+    (numbered-steps s (markWidth (editionIn s)) 53 (stepsIn s) _ (numbered-cons _ _ (numbered-check _ 12 _ (omega arith)) numbered-nil)))))))
 
 pub write-number : (x : Sheet) (n m p : ℕ) → writeCall x n ≡ refused m p → 0 < m
 unfolding writeCall lengthCheck roomCheck Numbered
@@ -66,8 +67,8 @@ write-number x n m p e =
     numbered-cons _ _ (numbered-check _ 13 32768 (omega arith)) (numbered-cons _ _ (numbered-at 13 _ (omega arith)) (numbered-cons _ _ (numbered-check _ 11 n (omega arith)) numbered-nil)) m p
     (answer-refused _ _ m p e)
 
-pub read-number : (s : List ℕ) (n m p : ℕ) → readCall s n ≡ refused m p → 0 < m
+pub read-number : (s : List ℕ) (n m k p : ℕ) → readCall s n m ≡ refused k p → 0 < k
 unfolding readCall roomCheck Numbered
-read-number s n m p e =
-    numbered-cons _ _ (numbered-sheet s) (numbered-cons _ _ (numbered-check _ 11 _ (omega arith)) numbered-nil) m p
-    (answer-refused _ _ m p e)
+read-number s n m k p e =
+    numbered-cons _ _ (numbered-sheet s) (numbered-cons _ _ (numbered-check _ 11 _ (omega arith)) numbered-nil) k p
+    (answer-refused _ _ k p e)

@@ -7,17 +7,17 @@ use native.Mathlib.Omega.{arith}
 use lib.ListN.{length, getD, take, replicate}
 use lib.Seq.{take-at}
 use Rattle.planning.specs.Basics.{refused, done}
-use Rattle.planning.specs.Calls.{Read, lent, lentBytes, writeCall, writeBytes, readCall, readList}
-use Rattle.planning.specs.Sheet.{Sheet, sheetBits, sheetBytes, sheetSize, sheetOf, sheetCheck, stepsAt, stepsIn}
+use Rattle.planning.specs.Calls.{Read, lent, lentBytes, writeCall, writeBytes, readCall, readList, readMarks}
+use Rattle.planning.specs.Sheet.{Sheet, markWidth, sheetBits, sheetBytes, sheetSize, sheetOf, sheetCheck, stepsAt, marksAt, editionIn, stepsIn}
 use Rattle.bits.proofs.Pack.{length-packed}
 use Rattle.sheet.proofs.Checks.{Fitting, fitting}
-use Rattle.sheet.proofs.Copying.{length-stepsAt}
+use Rattle.sheet.proofs.Copying.{length-stepsAt, length-marksAt}
 use Rattle.sheet.proofs.Entries.{all-below}
 use Rattle.sheet.proofs.RoundTrip.{reads-back, writes-again}
 use Rattle.sheet.specs.Again.{ReadsAs, WritesAs}
-use Rattle.sheet.specs.Answers.{sheet, headingOf}
+use Rattle.sheet.specs.Answers.{handedOut, headingOf}
 
-length-sheetBytes : (x : Sheet) → length (sheetBytes x) ≡ sheetSize (length (x .steps))
+length-sheetBytes : (x : Sheet) → length (sheetBytes x) ≡ sheetSize (x .edition) (length (x .steps))
 unfolding sheetBytes
 length-sheetBytes x = length-packed _ (sheetBits x)
 
@@ -35,15 +35,30 @@ module _ (x : Sheet) (n : ℕ) (e : List ℕ) where
       let back : ReadsAs (sheetBytes x) x = reads-back x (record { short = f .short; small = all-below 1024 0 (x .steps) (omega arith) (f .below); cost = h }) in
       (q ∙ sym (rw (c, z) refl), λ j d. let i : j ≡ k = cc in rw (i, q, take-at (sheetBytes x) (replicate (n - k) 0) k z) back)
 
-module _ (s : List ℕ) (n : ℕ) (e : List ℕ) where
-  pub read-refused : (m p : ℕ) → readCall s n ≡ refused m p → e ≡ replicate n 65535
-      → (e ≡ readList s n) × ((h : Read) → readCall s n ≡ done h → WritesAs (sheet (take (h .steps) e) (h .cost) (h .real′)) s)
-  unfolding readList lent
-  read-refused m p c q = (q ∙ sym (rw c refl), λ h d. let u : _≡_ {A = ℕ} 0 1 = cc in absurd (omega arith))
+-- what reading leaves in the list d and in the mark area e
+pub record Left (s : List ℕ) (n m : ℕ) (d e : List ℕ) : Type 0 where
+  pub list : d ≡ readList s n m
+  pub marks : e ≡ readMarks s n m
+  pub again : (h : Read) → readCall s n m ≡ done h → WritesAs (handedOut h d e) s
 
-  pub read-done : readCall s n ≡ done (headingOf s) → sheetCheck s ≡ none → ((k : ℕ) → getD s k 0 < 256) → e ≡ stepsAt s 53 (stepsIn s) ++ replicate (n - stepsIn s) 65535
-      → (e ≡ readList s n) × ((h : Read) → readCall s n ≡ done h → WritesAs (sheet (take (h .steps) e) (h .cost) (h .real′)) s)
-  unfolding readList lent sheetOf headingOf
-  read-done c ok small q =
-      let z : length (stepsAt s 53 (stepsIn s)) ≡ stepsIn s = length-stepsAt s 53 (stepsIn s) in
-      (q ∙ sym (rw (c, z) refl), λ h d. let i : h ≡ headingOf s = cc in rw (i, q, take-at (stepsAt s 53 (stepsIn s)) (replicate (n - stepsIn s) 65535) (stepsIn s) z) (writes-again s ok small))
+module _ (s : List ℕ) (n m : ℕ) (d e : List ℕ) where
+  pub read-refused : (k p : ℕ) → readCall s n m ≡ refused k p → d ≡ replicate n 65535 → e ≡ replicate m 0 → Left s n m d e
+  unfolding readList readMarks lent lentBytes
+  read-refused k p c q r = record { list = q ∙ sym (rw c refl); marks = r ∙ sym (rw c refl); again = λ h z. let u : _≡_ {A = ℕ} 0 1 = cc in absurd (omega arith) }
+
+  pub read-done : readCall s n m ≡ done (headingOf s) → sheetCheck s ≡ none → ((k : ℕ) → getD s k 0 < 256)
+      → d ≡ stepsAt s (markWidth (editionIn s)) 53 (stepsIn s) ++ replicate (n - stepsIn s) 65535
+      → e ≡ marksAt s (markWidth (editionIn s)) 53 (stepsIn s) ++ replicate (m - stepsIn s) 0 → Left s n m d e
+  unfolding readList readMarks lent lentBytes sheetOf headingOf
+  read-done c ok small q r =
+      let w = markWidth (editionIn s) in
+      let z : length (stepsAt s w 53 (stepsIn s)) ≡ stepsIn s = length-stepsAt s w 53 (stepsIn s) in
+      let y : length (marksAt s w 53 (stepsIn s)) ≡ stepsIn s = length-marksAt s w 53 (stepsIn s) in
+      record {
+        list = q ∙ sym (rw (c, z) refl);
+        marks = r ∙ sym (rw (c, y) refl);
+        again =
+            λ h t. let i : h ≡ headingOf s = cc in
+            rw (i, q, r, take-at (stepsAt s w 53 (stepsIn s)) (replicate (n - stepsIn s) 65535) (stepsIn s) z, take-at (marksAt s w 53 (stepsIn s)) (replicate (m - stepsIn s) 0) (stepsIn s) y)
+            (writes-again s ok small);
+      }

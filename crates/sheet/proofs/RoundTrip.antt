@@ -1,7 +1,7 @@
 -- The round trip, about the definitions: a sheet that is written is read as it was, and a sheet that is accepted is written again
 -- as it was. Bits packed into bytes are read back as the numbers that they stand for; the bits of an accepted sheet are those
 -- of its fields, and zeros behind them.
-use mathlib.Core.Bool.{Bool, true, false}
+use mathlib.Core.Bool.{Bool, true, false, not, _&&_}
 use mathlib.Core.List.{List, [], _∷_, _++_, append-assoc, append-nil}
 use mathlib.Core.Option.{none}
 use mathlib.Core.Path.{_≡_, refl, sym, ap, _∙_}
@@ -15,14 +15,16 @@ use lib.ListN.{length, getD, drop, length-append, drop-of-length-le}
 use lib.Pow.{high, pow-add}
 use lib.Seq.{drop-drop, getD-drop, drop-cons}
 use Rattle.planning.specs.Basics.{oneIf, bitAt, bitsAt, done}
-use Rattle.planning.specs.Calls.{notBelow, lent, lentBytes, readCall, readList, writeCall, writeBytes}
+use Rattle.planning.specs.Calls.{notBelow, lent, lentBytes, readCall, readList, readMarks, writeCall, writeBytes}
 use Rattle.planning.specs.Record.{endsAt}
-use Rattle.planning.specs.Sheet.{Sheet, bitsOf, stepBits, sheetBits, numberIn, packed, sheetEnd, sheetSize, sheetBytes, stepsAt, stepsIn, sheetOf, sheetCheck}
+use Rattle.planning.specs.Sheet.{Sheet, bitsOf, markWidth, editionOf, markOf, marksOf, stepBits, sheetBits, numberIn, packed, sheetEnd, sheetSize, sheetBytes}
+use Rattle.planning.specs.Sheet.{stepsAt, marksAt, editionIn, stepsIn, sheetOf, sheetCheck}
 use Rattle.bits.proofs.Pack.{length-bitsOf, length-packed, packed-none, packed-byte, bitsOf-add, drop-bitsOf, numberIn-bitsOf, packed-same, Same, same-prefix, same-zeros}
 use Rattle.bits.proofs.Window.{bitsAt-lt, bitsAt-whole}
 use Rattle.sheet.proofs.Checks.{accepted, front-passed, end-passes, reads, writes}
 use Rattle.sheet.proofs.Copying.{length-stepsAt}
 use Rattle.sheet.proofs.Entries.{none-over}
+use Rattle.sheet.proofs.Fields.{markWidth-le, markWidth-suc}
 use Rattle.sheet.specs.Again.{ReadsAs, WritesAs}
 use Rattle.sheet.specs.Answers.{heading, headingOf}
 
@@ -98,10 +100,10 @@ bits-nil : Bits []
 unfolding Bits
 bits-nil k = omega arith
 
-bits-stepBits : (l : List ℕ) → Bits (stepBits l)
+bits-stepBits : (e : ℕ) (l ms : List ℕ) → Bits (stepBits e l ms)
 unfolding stepBits
-bits-stepBits [] = bits-nil
-bits-stepBits (i ∷ l) = bits-bitsOf 10 i (stepBits l) (bits-stepBits l)
+bits-stepBits e [] ms = bits-nil
+bits-stepBits e (i ∷ l) ms = bits-bitsOf (markWidth e) (markOf e (getD ms 0 0)) _ (bits-bitsOf 10 i _ (bits-stepBits e l (drop 1 ms)))
 
 -- a field, and what stands behind it
 module _ (bs : List ℕ) (p w v : ℕ) (r : List ℕ) (e : drop p bs ≡ bitsOf w v ++ r) where
@@ -111,27 +113,45 @@ module _ (bs : List ℕ) (p w v : ℕ) (r : List ℕ) (e : drop p bs ≡ bitsOf 
   field-behind : drop (p + w) bs ≡ r
   field-behind = sym (drop-drop w p bs) ∙ rw (e, drop-bitsOf w v r) refl
 
-length-stepBits : (l : List ℕ) → length (stepBits l) ≡ 10 * length l
+length-stepBits : (e : ℕ) (l ms : List ℕ) → length (stepBits e l ms) ≡ (markWidth e + 10) * length l
 unfolding stepBits
-length-stepBits [] = refl
-length-stepBits (i ∷ l) = rw (length-append, length-bitsOf, length-stepBits l) (omega arith)
+length-stepBits e [] ms = omega arith
+length-stepBits e (i ∷ l) ms = rw (length-append, length-append, length-bitsOf, length-bitsOf, length-stepBits e l (drop 1 ms)) (omega arith)
 
 numberIn-nil : (w : ℕ) → numberIn w [] ≡ 0
 unfolding numberIn
 numberIn-nil zero = refl
 numberIn-nil (suc w) = rw (numberIn-nil w) (omega arith)
 
--- steps that are packed are read back
-steps-back : (n p : ℕ) (bs l : List ℕ) → Bits bs → drop p bs ≡ stepBits l → p + 10 * length l ≤ 8 * n → ((k : ℕ) → getD l k 0 < 1024) → stepsAt (packed n bs) p (length l) ≡ l
-unfolding stepsAt stepBits
-steps-back n p bs [] h e f small = refl
-steps-back n p bs (i ∷ l) h e f small =
-    rw (
-      bitsAt-packed n p 10 bs h (omega arith),
-      field-number bs p 10 i (stepBits l) e (small 0),
-      steps-back n (p + 10) bs l h
-          (field-behind bs p 10 i (stepBits l) e) (omega arith) (λ k. small (suc k)),
-    ) refl
+-- a mark fits its bits
+markOf-fits : (e m : ℕ) → markOf e m < 2 ^ markWidth e
+unfolding markOf markWidth oneIf
+markOf-fits e m = go (eqb e 1) (eqb m 0)
+  where
+    go : (b c : Bool) → oneIf (not b && not c) < 2 ^ oneIf (not b)
+    go true c = omega arith
+    go false true = omega arith
+    go false false = omega arith
+
+-- marks and steps that are packed are read back
+steps-back : (n p e : ℕ) (bs l ms : List ℕ) → Bits bs → drop p bs ≡ stepBits e l ms → p + (markWidth e + 10) * length l ≤ 8 * n → ((k : ℕ) → getD l k 0 < 1024)
+    → (stepsAt (packed n bs) (markWidth e) p (length l) ≡ l) × (marksAt (packed n bs) (markWidth e) p (length l) ≡ marksOf e l ms)
+unfolding stepsAt marksAt stepBits marksOf
+steps-back n p e bs [] ms h q f small = (refl, refl)
+steps-back n p e bs (i ∷ l) ms h q f small =
+    let w = markWidth e in
+    let m = markOf e (getD ms 0 0) in
+    let r = bitsOf 10 i ++ stepBits e l (drop 1 ms) in
+    let d : drop (p + w) bs ≡ r = field-behind bs p w m r q in
+    let mark : bitsAt (packed n bs) p w ≡ m = bitsAt-packed n p w bs h (omega arith) ∙ field-number bs p w m r q (markOf-fits e (getD ms 0 0)) in
+    let step : bitsAt (packed n bs) (p + w) 10 ≡ i = bitsAt-packed n (p + w) 10 bs h (omega arith) ∙ field-number bs (p + w) 10 i (stepBits e l (drop 1 ms)) d (small 0) in
+    let back = steps-back n (p + w + 10) e bs l (drop 1 ms) h (field-behind bs (p + w) 10 i (stepBits e l (drop 1 ms)) d) (omega arith) (λ k. small (suc k)) in
+    (rw (step, back .0) refl, rw (mark, back .1) refl)
+
+length-marksOf : (e : ℕ) (l ms : List ℕ) → length (marksOf e l ms) ≡ length l
+unfolding marksOf
+length-marksOf e [] ms = refl
+length-marksOf e (i ∷ l) ms = ap suc (length-marksOf e l (drop 1 ms))
 
 -- what can be written
 pub record Writable (x : Sheet) : Type 0 where
@@ -152,35 +172,42 @@ oneIf-lt false = omega arith
 module _ (x : Sheet) (g : Writable x) where
   bits : Bits (sheetBits x)
   unfolding sheetBits
-  bits = bits-bitsOf 4 1 _ (bits-bitsOf 1 (oneIf (x .real)) _ (bits-bitsOf 16 (length (x .steps)) _ (bits-bitsOf 32 (x .cost) _ (bits-stepBits (x .steps)))))
+  bits =
+      bits-bitsOf 4 (editionOf (x .edition)) _
+      (bits-bitsOf 1 (oneIf (x .real)) _ (bits-bitsOf 16 (length (x .steps)) _ (bits-bitsOf 32 (x .cost) _ (bits-stepBits (x .edition) (x .steps) (x .marks)))))
 
   real-on : List ℕ
-  real-on = bitsOf 1 (oneIf (x .real)) ++ (bitsOf 16 (length (x .steps)) ++ (bitsOf 32 (x .cost) ++ stepBits (x .steps)))
+  real-on = bitsOf 1 (oneIf (x .real)) ++ (bitsOf 16 (length (x .steps)) ++ (bitsOf 32 (x .cost) ++ stepBits (x .edition) (x .steps) (x .marks)))
 
-  behind-0 : drop 0 (sheetBits x) ≡ bitsOf 4 1 ++ real-on
+  behind-0 : drop 0 (sheetBits x) ≡ bitsOf 4 (editionOf (x .edition)) ++ real-on
   unfolding sheetBits real-on
   behind-0 = refl
 
-  behind-4 : drop 4 (sheetBits x) ≡ bitsOf 1 (oneIf (x .real)) ++ (bitsOf 16 (length (x .steps)) ++ (bitsOf 32 (x .cost) ++ stepBits (x .steps)))
+  behind-4 : drop 4 (sheetBits x) ≡ bitsOf 1 (oneIf (x .real)) ++ (bitsOf 16 (length (x .steps)) ++ (bitsOf 32 (x .cost) ++ stepBits (x .edition) (x .steps) (x .marks)))
   unfolding real-on
-  behind-4 = field-behind (sheetBits x) 0 4 1 _ behind-0
+  behind-4 = field-behind (sheetBits x) 0 4 (editionOf (x .edition)) _ behind-0
 
-  behind-5 : drop 5 (sheetBits x) ≡ bitsOf 16 (length (x .steps)) ++ (bitsOf 32 (x .cost) ++ stepBits (x .steps))
+  behind-5 : drop 5 (sheetBits x) ≡ bitsOf 16 (length (x .steps)) ++ (bitsOf 32 (x .cost) ++ stepBits (x .edition) (x .steps) (x .marks))
   behind-5 = field-behind (sheetBits x) 4 1 (oneIf (x .real)) _ behind-4
 
-  behind-21 : drop 21 (sheetBits x) ≡ bitsOf 32 (x .cost) ++ stepBits (x .steps)
+  behind-21 : drop 21 (sheetBits x) ≡ bitsOf 32 (x .cost) ++ stepBits (x .edition) (x .steps) (x .marks)
   behind-21 = field-behind (sheetBits x) 5 16 (length (x .steps)) _ behind-5
 
-  behind-53 : drop 53 (sheetBits x) ≡ stepBits (x .steps)
+  behind-53 : drop 53 (sheetBits x) ≡ stepBits (x .edition) (x .steps) (x .marks)
   behind-53 = field-behind (sheetBits x) 21 32 (x .cost) _ behind-21
 
   -- the fields of the bytes
   field-at : (p w : ℕ) → p + w ≤ 53 → bitsAt (sheetBytes x) p w ≡ numberIn w (drop p (sheetBits x))
   unfolding sheetBytes sheetSize sheetEnd
-  field-at p w h = bitsAt-packed (sheetSize (length (x .steps))) p w (sheetBits x) bits (omega arith)
+  field-at p w h = bitsAt-packed (sheetSize (x .edition) (length (x .steps))) p w (sheetBits x) bits (omega arith)
 
-  edition-back : bitsAt (sheetBytes x) 0 4 ≡ 1
-  edition-back = field-at 0 4 (omega arith) ∙ field-number (sheetBits x) 0 4 1 _ behind-0 (omega arith)
+  edition-back : editionIn (sheetBytes x) ≡ editionOf (x .edition)
+  unfolding editionIn editionOf
+  edition-back = field-at 0 4 (omega arith) ∙ field-number (sheetBits x) 0 4 (editionOf (x .edition)) _ behind-0 (omega (arith, markWidth-le (x .edition)))
+
+  width-back : markWidth (editionIn (sheetBytes x)) ≡ markWidth (x .edition)
+  unfolding editionOf
+  width-back = ap markWidth edition-back ∙ markWidth-suc (markWidth (x .edition)) (markWidth-le (x .edition))
 
   real-back : eqb (bitsAt (sheetBytes x) 4 1) 1 ≡ x .real
   real-back = rw (field-at 4 1 (omega arith), field-number (sheetBits x) 4 1 (oneIf (x .real)) _ behind-4 (oneIf-lt (x .real))) (eqb-oneIf (x .real))
@@ -192,51 +219,67 @@ module _ (x : Sheet) (g : Writable x) where
   cost-back : bitsAt (sheetBytes x) 21 32 ≡ x .cost
   cost-back = field-at 21 32 (omega arith) ∙ field-number (sheetBits x) 21 32 (x .cost) _ behind-21 (g .cost)
 
-  list-back : stepsAt (sheetBytes x) 53 (length (x .steps)) ≡ x .steps
+  list-back : (stepsAt (sheetBytes x) (markWidth (x .edition)) 53 (length (x .steps)) ≡ x .steps)
+      × (marksAt (sheetBytes x) (markWidth (x .edition)) 53 (length (x .steps)) ≡ marksOf (x .edition) (x .steps) (x .marks))
   unfolding sheetBytes sheetSize sheetEnd
-  list-back = steps-back (sheetSize (length (x .steps))) 53 (sheetBits x) (x .steps) bits behind-53 (omega arith) (g .small)
+  list-back = steps-back (sheetSize (x .edition) (length (x .steps))) 53 (x .edition) (sheetBits x) (x .steps) (x .marks) bits behind-53 (omega arith) (g .small)
 
-  -- a sheet that is written is read as it was
-  pub sheet-back : sheetOf (sheetBytes x) ≡ x
+  -- a sheet that is written is read as it was, with its edition as 1 or 2 and its marks as 0 and 1
+  pub sheet-back : sheetOf (sheetBytes x) ≡ record {
+    edition = editionOf (x .edition);
+    steps = x .steps;
+    marks = marksOf (x .edition) (x .steps) (x .marks);
+    cost = x .cost;
+    real = x .real;
+  }
   unfolding sheetOf
-  sheet-back = rw (count-back, list-back, cost-back, real-back) refl
+  sheet-back = rw (width-back, edition-back, count-back, list-back .0, list-back .1, cost-back, real-back) refl
 
-  bytes-count : length (sheetBytes x) ≡ (53 + 10 * length (x .steps) + 7) / 8
-  unfolding sheetBytes sheetSize sheetEnd
+  end : ℕ
+  end = 53 + (markWidth (x .edition) + 10) * length (x .steps)
+
+  end-back : sheetEnd (editionIn (sheetBytes x)) (stepsIn (sheetBytes x)) ≡ end
+  unfolding sheetEnd end
+  end-back = rw (width-back, count-back) refl
+
+  bytes-count : length (sheetBytes x) ≡ (end + 7) / 8
+  unfolding sheetBytes sheetSize sheetEnd end
   bytes-count = length-packed _ (sheetBits x)
 
-  padding-back : (w : ℕ) → 53 + 10 * length (x .steps) + w ≤ 8 * length (sheetBytes x) → bitsAt (sheetBytes x) (53 + 10 * length (x .steps)) w ≡ 0
-  unfolding sheetBytes sheetSize sheetEnd
+  padding-back : (w : ℕ) → end + w ≤ 8 * length (sheetBytes x) → bitsAt (sheetBytes x) end w ≡ 0
+  unfolding sheetBytes sheetSize sheetEnd end
   padding-back w h =
-      let e : drop (53 + 10 * length (x .steps)) (sheetBits x) ≡ [] = sym (drop-drop (10 * length (x .steps)) 53 (sheetBits x)) ∙ rw behind-53
-      (drop-of-length-le (stepBits (x .steps)) {i = 10 * length (x .steps)} (rw length-stepBits (omega arith))) in
-      bitsAt-packed (sheetSize (length (x .steps))) (53 + 10 * length (x .steps)) w (sheetBits x) bits (omega (arith, bytes-count)) ∙ rw (e, numberIn-nil) refl
+      let n = (markWidth (x .edition) + 10) * length (x .steps) in
+      let l = stepBits (x .edition) (x .steps) (x .marks) in
+      let e : drop end (sheetBits x) ≡ [] = sym (drop-drop n 53 (sheetBits x)) ∙ rw behind-53 (drop-of-length-le l {i = n} (rw length-stepBits (omega arith))) in
+      bitsAt-packed (sheetSize (x .edition) (length (x .steps))) end w (sheetBits x) bits (omega (arith, bytes-count)) ∙ rw (e, numberIn-nil) refl
 
-  ends-back : endsAt (sheetBytes x) (53 + 10 * stepsIn (sheetBytes x)) ≡ true
+  ends-back : endsAt (sheetBytes x) (sheetEnd (editionIn (sheetBytes x)) (stepsIn (sheetBytes x))) ≡ true
   unfolding endsAt
   ends-back =
-      rw (
-        count-back,
-        eq-eqb (length (sheetBytes x)) ((53 + 10 * length (x .steps) + 7) / 8) bytes-count,
-        padding-back
-            (8 * length (sheetBytes x) - (53 + 10 * length (x .steps))) (omega (arith, bytes-count)),
-      ) refl
+      rw (end-back, eq-eqb (length (sheetBytes x)) ((end + 7) / 8) bytes-count, padding-back (8 * length (sheetBytes x) - end) (omega (arith, bytes-count))) refl
 
   pub check-back : sheetCheck (sheetBytes x) ≡ none
+  unfolding end editionOf
   check-back =
-      front-passed (sheetBytes x) (omega (arith, bytes-count)) edition-back (omega (arith, bytes-count)) (omega (arith, count-back, g .short)) (omega (arith, bytes-count))
-      ∙ end-passes (sheetBytes x) (omega (arith, bytes-count, count-back)) ends-back
+      front-passed (sheetBytes x) (omega (arith, bytes-count)) (omega (arith, edition-back)) (omega (arith, edition-back, markWidth-le (x .edition)))
+      (omega (arith, bytes-count)) (omega (arith, count-back, g .short)) (omega (arith, bytes-count))
+      ∙ end-passes (sheetBytes x) (omega (arith, bytes-count, end-back)) ends-back
 
-  heading-back : headingOf (sheetBytes x) ≡ heading (length (x .steps)) (x .cost) (x .real)
+  heading-back : headingOf (sheetBytes x) ≡ heading (length (x .steps)) (x .cost) (editionOf (x .edition)) (x .real)
   unfolding headingOf
-  heading-back = rw (sheet-back, count-back) refl
+  heading-back = rw (sheet-back, count-back, edition-back) refl
 
   pub reads-back : ReadsAs (sheetBytes x) x
-  unfolding readList lent
+  unfolding readList readMarks lent lentBytes
   reads-back =
-      let a : (n : ℕ) → length (x .steps) ≤ n → readCall (sheetBytes x) n ≡ done (heading (length (x .steps)) (x .cost) (x .real)) = λ n h. reads (sheetBytes x)
-      n check-back (omega (arith, count-back, g .short)) (omega (arith, count-back)) ∙ ap done heading-back in
-      record { answer = a; list = λ n h. rw (a n h, sheet-back) refl }
+      let a : (n m : ℕ) → length (x .steps) ≤ n → length (x .steps) ≤ m → readCall (sheetBytes x) n m ≡ done (heading (length (x .steps)) (x .cost) (editionOf (x .edition)) (x .real)) =
+      λ n m h l. reads (sheetBytes x) n m check-back (omega (arith, count-back, g .short)) (omega (arith, count-back)) ∙ ap done heading-back in
+      record {
+        answer = a;
+        list = λ n m h l. rw (a n m h l, sheet-back) refl;
+        marks = λ n m h l. rw (a n m h l, sheet-back, length-marksOf) refl;
+      }
 
 -- The w bits of a byte list from position p on.
 bitsFrom : List ℕ → ℕ → ℕ → List ℕ
@@ -282,12 +325,42 @@ bitsOf-bitsAt s p (suc w) =
     ∙ rw (bitsOf-bitsAt s p w, one-bit s (p + w)) (sym (bitsFrom-add s p w 1))
     ∙ ap (bitsFrom s p) (add-one w)
 
-stepBits-stepsAt : (s : List ℕ) (p n : ℕ) → stepBits (stepsAt s p n) ≡ bitsFrom s p (10 * n)
-unfolding stepBits stepsAt
-stepBits-stepsAt s p zero = sym (bitsFrom-none s p)
-stepBits-stepsAt s p (suc n) =
-    let e : 10 * suc n ≡ 10 + 10 * n = omega arith in
-    rw (e, bitsFrom-add s p 10 (10 * n), ← bitsOf-bitsAt s p 10, ← stepBits-stepsAt s (p + 10) n) refl
+-- of the editions 1 and 2: the edition and the marks that are read are written as they are
+edition-again : (e : ℕ) → 1 ≤ e → e ≤ 2 → editionOf e ≡ e
+unfolding editionOf markWidth oneIf
+edition-again zero h l = absurd (omega arith)
+edition-again (suc zero) h l = refl
+edition-again (suc (suc zero)) h l = refl
+edition-again (suc (suc (suc e))) h l = absurd (omega arith)
+
+mark-again : (s : List ℕ) (e p : ℕ) → 1 ≤ e → e ≤ 2 → markOf e (bitsAt s p (markWidth e)) ≡ bitsAt s p (markWidth e)
+unfolding markOf markWidth bitsAt oneIf
+mark-again s zero p h l = absurd (omega arith)
+mark-again s (suc zero) p h l = refl
+mark-again s (suc (suc zero)) p h l = go (bitsAt s p 1) (bitsAt-lt s p 1)
+  where
+    go : (b : ℕ) → b < 2 → oneIf (not (eqb b 0)) ≡ b
+    go zero h = refl
+    go (suc zero) h = refl
+    go (suc (suc b)) h = absurd (omega arith)
+mark-again s (suc (suc (suc e))) p h l = absurd (omega arith)
+
+stepBits-again : (s : List ℕ) (e p n : ℕ) → 1 ≤ e → e ≤ 2
+    → stepBits e (stepsAt s (markWidth e) p n) (marksAt s (markWidth e) p n) ≡ bitsFrom s p ((markWidth e + 10) * n)
+unfolding stepBits stepsAt marksAt
+stepBits-again s e p zero h l = let z : (markWidth e + 10) * 0 ≡ 0 = omega arith in sym (rw z (bitsFrom-none s p))
+stepBits-again s e p (suc n) h l =
+    let w = markWidth e in
+    let k : (w + 10) * suc n ≡ w + (10 + (w + 10) * n) = omega arith in
+    rw (
+      mark-again s e p h l,
+      k,
+      bitsFrom-add s p w (10 + (w + 10) * n),
+      bitsFrom-add s (p + w) 10 ((w + 10) * n),
+      ← bitsOf-bitsAt s p w,
+      ← bitsOf-bitsAt s (p + w) 10,
+      ← stepBits-again s e (p + w + 10) n h l,
+    ) refl
 
 whole-byte : (n v : ℕ) (r : List ℕ) → v < 256 → packed (suc n) (bitsOf 8 v ++ r) ≡ v ∷ packed n r
 unfolding bitsOf
@@ -310,44 +383,50 @@ bit-back zero h = refl
 bit-back (suc zero) h = refl
 bit-back (suc (suc b)) h = absurd (omega arith)
 
-steps-small : (s : List ℕ) (p n i : ℕ) → getD (stepsAt s p n) i 0 < 1024
+steps-small : (s : List ℕ) (w p n i : ℕ) → getD (stepsAt s w p n) i 0 < 1024
 unfolding stepsAt
-steps-small s p zero i = omega arith
-steps-small s p (suc n) zero = bitsAt-lt s p 10
-steps-small s p (suc n) (suc i) = steps-small s (p + 10) n i
+steps-small s w p zero i = omega arith
+steps-small s w p (suc n) zero = bitsAt-lt s (p + w) 10
+steps-small s w p (suc n) (suc i) = steps-small s w (p + w + 10) n i
 
 zeros-behind : (w : ℕ) (xs : List ℕ) → Same (xs ++ (bitsOf w 0 ++ [])) (xs ++ [])
 zeros-behind w xs = same-prefix xs (bitsOf w 0 ++ []) [] (same-zeros w [] (λ k. refl))
 
 module _ (s : List ℕ) (ok : sheetCheck s ≡ none) where
-  edition-bits : bitsOf 4 1 ≡ bitsFrom s 0 4
-  edition-bits = ap (bitsOf 4) (sym (accepted s ok .edition)) ∙ bitsOf-bitsAt s 0 4
+  edition-bits : bitsOf 4 (editionOf (editionIn s)) ≡ bitsFrom s 0 4
+  unfolding editionIn
+  edition-bits = ap (bitsOf 4) (edition-again (editionIn s) (accepted s ok .least) (accepted s ok .most)) ∙ bitsOf-bitsAt s 0 4
+
+  count-bits : bitsOf 16 (stepsIn s) ≡ bitsFrom s 5 16
+  unfolding stepsIn
+  count-bits = bitsOf-bitsAt s 5 16
 
   real-bit : bitsOf 1 (oneIf (eqb (bitsAt s 4 1) 1)) ≡ bitsFrom s 4 1
   real-bit = ap (bitsOf 1) (bit-back (bitsAt s 4 1) (bitsAt-lt s 4 1)) ∙ bitsOf-bitsAt s 4 1
 
   -- the bits of the sheet that was read are those of the bytes
-  bits-again : sheetBits (sheetOf s) ≡ bitsFrom s 0 (53 + 10 * stepsIn s)
-  unfolding sheetBits sheetOf stepsIn
+  bits-again : sheetBits (sheetOf s) ≡ bitsFrom s 0 (sheetEnd (editionIn s) (stepsIn s))
+  unfolding sheetBits sheetOf sheetEnd
   bits-again =
+      let n = (markWidth (editionIn s) + 10) * stepsIn s in
       rw (
         edition-bits,
-        length-stepsAt s 53 (bitsAt s 5 16),
+        length-stepsAt s (markWidth (editionIn s)) 53 (stepsIn s),
         real-bit,
-        bitsOf-bitsAt s 5 16,
+        count-bits,
         bitsOf-bitsAt s 21 32,
-        stepBits-stepsAt s 53 (bitsAt s 5 16),
-        bitsFrom-add s 0 53 (10 * bitsAt s 5 16),
+        stepBits-again s (editionIn s) 53 (stepsIn s) (accepted s ok .least) (accepted s ok .most),
+        bitsFrom-add s 0 53 n,
         bitsFrom-add s 0 21 32,
         bitsFrom-add s 0 5 16,
         bitsFrom-add s 0 4 1,
       ) (simp append-assoc)
 
-  size-again : sheetSize (length (sheetOf s .steps)) ≡ length s
-  unfolding sheetOf sheetSize sheetEnd
-  size-again = rw (length-stepsAt s 53 (stepsIn s)) (sym (accepted s ok .ends))
+  size-again : sheetSize (sheetOf s .edition) (length (sheetOf s .steps)) ≡ length s
+  unfolding sheetOf sheetSize
+  size-again = rw (length-stepsAt s (markWidth (editionIn s)) 53 (stepsIn s)) (sym (accepted s ok .ends))
 
-  padded : (e w : ℕ) → e ≡ 53 + 10 * stepsIn s → w ≡ 8 * length s - e → bitsFrom s 0 (8 * length s) ≡ bitsFrom s 0 e ++ (bitsOf w 0 ++ [])
+  padded : (e w : ℕ) → e ≡ sheetEnd (editionIn s) (stepsIn s) → w ≡ 8 * length s - e → bitsFrom s 0 (8 * length s) ≡ bitsFrom s 0 e ++ (bitsOf w 0 ++ [])
   padded e w q z =
       let k : 8 * length s ≡ e + w = omega (arith, accepted s ok .ends) in
       let b : bitsAt s e w ≡ 0 = rw (z, q) (accepted s ok .padding) in
@@ -357,7 +436,7 @@ module _ (s : List ℕ) (ok : sheetCheck s ≡ none) where
   pub bytes-again : ((k : ℕ) → getD s k 0 < 256) → sheetBytes (sheetOf s) ≡ s
   unfolding sheetBytes
   bytes-again small =
-      let e : ℕ = 53 + 10 * stepsIn s in
+      let e : ℕ = sheetEnd (editionIn s) (stepsIn s) in
       let w : ℕ = 8 * length s - e in
       rw (size-again, bits-again)
       (ap (packed (length s)) (sym (append-nil (bitsFrom s 0 e)))
@@ -367,11 +446,11 @@ module _ (s : List ℕ) (ok : sheetCheck s ≡ none) where
 
   short-again : length (sheetOf s .steps) ≤ 32768
   unfolding sheetOf
-  short-again = rw (length-stepsAt s 53 (stepsIn s)) (accepted s ok .few)
+  short-again = rw (length-stepsAt s (markWidth (editionIn s)) 53 (stepsIn s)) (accepted s ok .few)
 
   below-again : notBelow 1024 0 (sheetOf s .steps) ≡ none
   unfolding sheetOf
-  below-again = none-over 1024 0 (stepsAt s 53 (stepsIn s)) (steps-small s 53 (stepsIn s))
+  below-again = none-over 1024 0 _ (steps-small s (markWidth (editionIn s)) 53 (stepsIn s))
 
   pub writes-again : ((k : ℕ) → getD s k 0 < 256) → WritesAs (sheetOf s) s
   unfolding writeBytes lentBytes

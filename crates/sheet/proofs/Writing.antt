@@ -1,179 +1,225 @@
--- Writing the steps: a word of five bits and four steps fills five bytes and leaves five bits; the last three steps at most are padded.
-use mathlib.Core.List.{List, [], _∷_, _++_, append-assoc, append-nil}
+-- Writing the steps: eight entries behind five bits fill as many bytes as an entry has bits and leave five bits; the last seven at most are
+-- padded.
+use mathlib.Core.List.{List, _++_, append-assoc, append-nil}
 use mathlib.Core.Path.{_≡_, refl, sym, ap, _∙_}
-use Prim.Native.Nat.{ℕ, suc, _+_, _-_, _*_, _/_, _%_, _^_, _<_, _≤_}
-use native.Mathlib.Nat.{div-add-mod'}
+use Prim.Native.Nat.{ℕ, zero, suc, _+_, _-_, _*_, _/_, _%_, _^_, _<_, _≤_, min}
+use native.Mathlib.Nat.{div-add-mod', mul-assoc, mul-le-mul-left}
 use native.Mathlib.Omega.{arith}
 use lib.ListN.{length, getD, take, drop, length-append, length-drop}
-use lib.Seq.{drop-cons, length-take-le, take-at, getD-drop}
+use lib.Pow.{pow-add, pow-pos}
+use lib.Seq.{length-take-le, take-at, drop-drop}
 use Rattle.planning.specs.Basics.{oneIf}
-use Rattle.planning.specs.Sheet.{Sheet, bitsOf, stepBits, sheetBits, packed, sheetSize, sheetEnd, sheetBytes}
-use Rattle.bits.proofs.Pack.{bitsOf-add, bitsOf-low, bitsOf-split, packed-front, length-packed, packed-same, Same, same-prefix, same-zeros}
-
--- a step behind the bits of a number
-put : (w v i : ℕ) (r : List ℕ) → i < 1024 → bitsOf (w + 10) (v * 1024 + i) ++ r ≡ bitsOf w v ++ (bitsOf 10 i ++ r)
-put w v i r h = rw (bitsOf-add w 10 v i h, append-assoc) refl
-
--- three steps behind five bits
-put-three : (v a b c : ℕ) (r : List ℕ) → a < 1024 → b < 1024 → c < 1024
-    → bitsOf 35 (((v * 1024 + a) * 1024 + b) * 1024 + c) ++ r ≡ bitsOf 5 v ++ (bitsOf 10 a ++ (bitsOf 10 b ++ (bitsOf 10 c ++ r)))
-put-three v a b c r ha hb hc = put 25 ((v * 1024 + a) * 1024 + b) c r hc ∙ put 15 (v * 1024 + a) b (bitsOf 10 c ++ r) hb ∙ put 5 v a (bitsOf 10 b ++ (bitsOf 10 c ++ r)) ha
-
-drop-four : (l : List ℕ) (i : ℕ) → i + 4 ≤ length l → drop i l ≡ getD l i 0 ∷ getD l (i + 1) 0 ∷ getD l (i + 2) 0 ∷ getD l (i + 3) 0 ∷ drop (i + 4) l
-drop-four l i h =
-    let e1 : suc i ≡ i + 1 = omega arith in
-    let e2 : suc (i + 1) ≡ i + 2 = omega arith in
-    let e3 : suc (i + 2) ≡ i + 3 = omega arith in
-    let e4 : suc (i + 3) ≡ i + 4 = omega arith in
-    rw (drop-cons l i 0 (omega arith), e1, drop-cons l (i + 1) 0 (omega arith), e2, drop-cons l (i + 2) 0 (omega arith), e3, drop-cons l (i + 3) 0 (omega arith), e4) refl
-
-zeros : Same (bitsOf 5 0 ++ []) []
-zeros = same-zeros 5 [] (λ k. refl)
-
--- three steps at most, with zeros for what is missing
-padded : (m : List ℕ) → length m ≤ 3
-    → Same (bitsOf 10 (getD m 0 0) ++ (bitsOf 10 (getD m 1 0) ++ (bitsOf 10 (getD m 2 0) ++ (bitsOf 5 0 ++ [])))) (stepBits m)
-unfolding stepBits
-padded [] h = same-zeros 10 _ (same-zeros 10 _ (same-zeros 10 _ zeros))
-padded (x ∷ []) h = same-prefix (bitsOf 10 x) _ [] (same-zeros 10 _ (same-zeros 10 _ zeros))
-padded (x ∷ y ∷ []) h = same-prefix (bitsOf 10 x) _ _ (same-prefix (bitsOf 10 y) _ [] (same-zeros 10 _ zeros))
-padded (x ∷ y ∷ z ∷ []) h =
-    same-prefix (bitsOf 10 x) _ _ (same-prefix (bitsOf 10 y) _ _ (same-prefix (bitsOf 10 z) _ [] zeros))
-padded (x ∷ y ∷ z ∷ u ∷ m) h = absurd (omega arith)
-
-forty : (v : ℕ) → bitsOf 40 (v * 32) ≡ bitsOf 35 v ++ (bitsOf 5 0 ++ [])
-forty v = let e : v * 32 ≡ v * 2 ^ 5 + 0 = omega arith in rw (e, append-nil) (bitsOf-add 35 5 v 0 (omega arith))
-
-module _ (l : List ℕ) (small : (k : ℕ) → getD l k 0 < 1024) (v i a b c : ℕ) (ea : a ≡ getD l i 0) (eb : b ≡ getD l (i + 1) 0) (ec : c ≡ getD l (i + 2) 0) where
-  pub four-behind : (d : ℕ) → d ≡ getD l (i + 3) 0 → i + 4 ≤ length l
-      → bitsOf 45 ((((v * 1024 + a) * 1024 + b) * 1024 + c) * 1024 + d) ++ stepBits (drop (i + 4) l) ≡ bitsOf 5 v ++ stepBits (drop i l)
-  unfolding stepBits
-  four-behind d ed h =
-      rw (drop-four l i h, ea, eb, ec, ed)
-      (put 35 _ (getD l (i + 3) 0) (stepBits (drop (i + 4) l)) (small (i + 3))
-      ∙ put-three v (getD l i 0) (getD l (i + 1) 0) (getD l (i + 2) 0) (bitsOf 10 (getD l (i + 3) 0) ++ stepBits (drop (i + 4) l)) (small i) (small (i + 1)) (small (i + 2)))
-
-  pub last-behind : length l < i + 4 → (n : ℕ) → packed n (bitsOf 40 ((((v * 1024 + a) * 1024 + b) * 1024 + c) * 32)) ≡ packed n (bitsOf 5 v ++ stepBits (drop i l))
-  last-behind h n =
-      let e0 : i + 0 ≡ i = omega arith in
-      let fa : a ≡ getD (drop i l) 0 0 = ea ∙ sym (rw (getD-drop i l 0 0, e0) refl) in
-      let fb : b ≡ getD (drop i l) 1 0 = eb ∙ sym (getD-drop i l 1 0) in
-      let fc : c ≡ getD (drop i l) 2 0 = ec ∙ sym (getD-drop i l 2 0) in
-      let p : Same (bitsOf 10 a ++ (bitsOf 10 b ++ (bitsOf 10 c ++ (bitsOf 5 0 ++ [])))) (stepBits (drop i l)) = rw (fa, fb, fc) (padded (drop i l) (rw length-drop (omega arith))) in
-      rw (forty (((v * 1024 + a) * 1024 + b) * 1024 + c), put-three v a b c (bitsOf 5 0 ++ []) (rw ea (small i)) (rw eb (small (i + 1))) (rw ec (small (i + 2))))
-      (packed-same n _ _ (same-prefix (bitsOf 5 v) _ (stepBits (drop i l)) p))
-
--- the next word, out of the five bits left of the one before and four steps, left aligned
-next-word : (word a b c d r : ℕ) → word % 524288 ≡ 0 → a < 1024 → b < 1024 → c < 1024 → d < 1024
-    → r ≡ word % 16777216 * 1099511627776 + a * 562949953421312 + b * 549755813888 + c * 536870912 + d * 524288
-    → (r % 524288 ≡ 0) × (r / 524288 ≡ (((word / 524288 % 32 * 1024 + a) * 1024 + b) * 1024 + c) * 1024 + d)
-next-word word a b c d r z ha hb hc hd e = (omega arith, omega arith)
+use Rattle.planning.specs.Sheet.{Sheet, bitsOf, editionOf, stepBits, sheetBits, packed, sheetSize, sheetEnd, sheetBytes}
+use Rattle.bits.proofs.Pack.{bitsOf-add, bitsOf-low, packed-front, packed-none, length-packed, packed-same, same-prefix}
+use Rattle.sheet.specs.Fields.{fourOf, eightBits}
+use Rattle.sheet.proofs.Fields.{fields, upTo, fields-split, fields-padded, fields-eight, four-fields}
 
 -- the low bits of a number are those of its remainder
-low-bits : (m v : ℕ) → bitsOf m (v % 2 ^ m) ≡ bitsOf m v
+pub low-bits : (m v : ℕ) → bitsOf m (v % 2 ^ m) ≡ bitsOf m v
 low-bits m v = sym (ap (bitsOf m) (sym (div-add-mod' v (2 ^ m))) ∙ bitsOf-low m (v / 2 ^ m) (v % 2 ^ m))
 
-pub word-behind : (l : List ℕ) (small : (k : ℕ) → getD l k 0 < 1024) (word i a b c d : ℕ) → word % 524288 ≡ 0 → i + 4 ≤ length l
-    → a ≡ getD l i 0 → b ≡ getD l (i + 1) 0 → c ≡ getD l (i + 2) 0 → d ≡ getD l (i + 3) 0
-    → (r : ℕ) → r ≡ word % 16777216 * 1099511627776 + a * 562949953421312 + b * 549755813888 + c * 536870912 + d * 524288
-    → (r % 524288 ≡ 0) × (bitsOf 45 (r / 524288) ++ stepBits (drop (i + 4) l) ≡ bitsOf 5 (word / 524288) ++ stepBits (drop i l))
-word-behind l small word i a b c d z h ea eb ec ed r e =
-    let n = next-word word a b c d r z (rw ea (small i)) (rw eb (small (i + 1))) (rw ec (small (i + 2))) (rw ed (small (i + 3))) e in
-    (n .0, rw (n .1) (four-behind l small (word / 524288 % 32) i a b c ea eb ec d ed h ∙ rw (low-bits 5 (word / 524288)) refl))
+-- m low bits of a number do not see what stands above n of them
+low-of : (m n a b : ℕ) → m ≤ n → bitsOf m (a * 2 ^ n + b) ≡ bitsOf m b
+low-of m n a b h =
+    let k : n ≡ n - m + m = omega arith in
+    let e : a * 2 ^ n ≡ a * 2 ^ (n - m) * 2 ^ m = ap (λ (j : ℕ). a * 2 ^ j) k ∙ rw (pow-add 2 (n - m) m, ← mul-assoc) refl in
+    rw e (bitsOf-low m (a * 2 ^ (n - m)) b)
 
--- the first five bytes of a word
-word-bytes : (m w : ℕ) → packed (5 + m) (bitsOf 64 w) ≡ packed 5 (bitsOf 45 (w / 524288)) ++ packed m (bitsOf 5 (w / 524288) ++ bitsOf 19 w)
-word-bytes m w = rw (bitsOf-split 45 19 w) (packed-front 5 m 45 5 (w / 524288) (bitsOf 19 w) refl)
+-- a number left aligned in a word
+pub word-bits : (n m v r : ℕ) → n + m ≡ 64 → r ≡ v * 2 ^ m → bitsOf 64 r ≡ bitsOf n v ++ bitsOf m 0
+word-bits n m v r h e =
+    let z : r ≡ v * 2 ^ m + 0 = e ∙ omega arith in
+    ap (λ (k : ℕ). bitsOf k r) (sym h) ∙ rw z (bitsOf-add n m v 0 (pow-pos m))
 
--- The area while the steps are written: what is packed of the whole is what stands in front and what is packed of the word and the rest.
-pub record Writing (l : List ℕ) (head size : ℕ) (d₀ d : List ℕ) (word at i : ℕ) : Type 0 where
-  pub low : word % 524288 ≡ 0
-  pub passed : i ≤ length l
-  pub place : 4 * at ≡ 4 + 5 * i
-  pub long : length d ≡ length d₀
-  pub so-far : take 1 d₀ ++ packed (size - 1) (bitsOf 45 head ++ stepBits l) ≡ take at d ++ packed (size - at) (bitsOf 45 (word / 524288) ++ stepBits (drop i l))
+-- a number in front of m bits, of which the low n count
+cut-above : (n m a b : ℕ) → b < 2 ^ m → bitsOf (n + m) (a % 2 ^ n * 2 ^ m + b) ≡ bitsOf (n + m) (a * 2 ^ m + b)
+cut-above n m a b h = rw (bitsOf-add n m (a % 2 ^ n) b h, bitsOf-add n m a b h, low-bits n a) refl
 
-pub writing-start : (l : List ℕ) (head size : ℕ) (d : List ℕ) → Writing l head size d d (head % 35184372088832 * 524288) 1 0
-writing-start l head size d =
-    let e : head % 35184372088832 * 524288 / 524288 ≡ head % 2 ^ 45 = omega arith in
-    record { low = omega arith; passed = omega arith; place = omega arith; long = refl; so-far = rw (e, low-bits 45 head) refl }
+-- both words, with marks of no bit and of one
+module _ (w a b : ℕ) where
+  pub first-plain : w ≡ 0 → bitsOf 64 ((b * 1099511627776 + a) * 524288) ≡ bitsOf (5 + 4 * (w + 10)) (b * 2 ^ (4 * (w + 10)) + a) ++ bitsOf (19 - 4 * w) 0
+  first-plain z = rw z (word-bits 45 19 (b * 2 ^ 40 + a) _ refl refl)
+
+  pub first-marked : w ≡ 1 → bitsOf 64 ((b * 17592186044416 + a) * 32768) ≡ bitsOf (5 + 4 * (w + 10)) (b * 2 ^ (4 * (w + 10)) + a) ++ bitsOf (19 - 4 * w) 0
+  first-marked z = rw z (word-bits 49 15 (b * 2 ^ 44 + a) _ refl refl)
+
+  pub second-plain : w ≡ 0 → b < 2 ^ (4 * (w + 10)) → bitsOf 64 ((a % 2097152 * 1099511627776 + b) * 8) ≡ bitsOf 61 (a * 2 ^ (4 * (w + 10)) + b) ++ bitsOf 3 0
+  second-plain z h = let l : b < 2 ^ 40 = rw z at h in rw z (word-bits 61 3 (a % 2 ^ 21 * 2 ^ 40 + b) _ refl refl ∙ rw (cut-above 21 40 a b l) refl)
+
+  pub second-marked : w ≡ 1 → b < 2 ^ (4 * (w + 10)) → bitsOf 64 ((a % 131072 * 17592186044416 + b) * 8) ≡ bitsOf 61 (a * 2 ^ (4 * (w + 10)) + b) ++ bitsOf 3 0
+  second-marked z h = let l : b < 2 ^ 44 = rw z at h in rw z (word-bits 61 3 (a % 2 ^ 17 * 2 ^ 44 + b) _ refl refl ∙ rw (cut-above 17 44 a b l) refl)
+
+-- the bytes in front of a number do not see what stands behind it
+packed-prefix : (n w v : ℕ) (r : List ℕ) → 8 * n ≤ w → packed n (bitsOf w v ++ r) ≡ packed n (bitsOf w v)
+packed-prefix n w v r h =
+    let k : n ≡ n + 0 = omega arith in
+    ap (λ (j : ℕ). packed j (bitsOf w v ++ r)) k ∙ packed-front n 0 w (w - 8 * n) v r (omega arith) ∙ rw (packed-none, append-nil) refl
+
+-- Eight entries behind five bits, as two numbers of which the second has the end of the first.
+module _ (w : ℕ) (h : w ≤ 1) (five a b : ℕ) (ha : a < 2 ^ (4 * (w + 10))) (hb : b < 2 ^ (4 * (w + 10))) where
+  first : ℕ
+  first = five * 2 ^ (4 * (w + 10)) + a
+
+  second : ℕ
+  second = a * 2 ^ (4 * (w + 10)) + b
+
+  eight-first : eightBits w five a b ≡ bitsOf (5 + 4 * (w + 10)) first ++ bitsOf (4 * (w + 10)) b
+  unfolding eightBits first
+  eight-first = rw (bitsOf-add 5 (4 * (w + 10)) five a ha, append-assoc) refl
+
+  first-second : bitsOf (21 - 4 * w) first ++ bitsOf (4 * (w + 10)) b ≡ bitsOf 61 second
+  unfolding first second
+  first-second =
+      let k : 61 ≡ 21 - 4 * w + 4 * (w + 10) = omega arith in
+      rw (k, bitsOf-add (21 - 4 * w) (4 * (w + 10)) a b hb, low-of (21 - 4 * w) (4 * (w + 10)) five a (omega arith)) refl
+
+  -- n bytes of the first and c of the second
+  eight-bytes : (n c : ℕ) → n ≤ w + 3 → (0 < c → n ≡ w + 3) → c ≤ 7 → packed (n + c) (eightBits w five a b) ≡ packed n (bitsOf (5 + 4 * (w + 10)) first) ++ packed c (bitsOf 61 second)
+  eight-bytes n zero l e m =
+      let k : n + 0 ≡ n = omega arith in
+      rw (k, eight-first, packed-none, append-nil) (packed-prefix n (5 + 4 * (w + 10)) first _ (omega arith))
+  eight-bytes n (suc c) l e m =
+      let q : n ≡ w + 3 = e (omega arith) in
+      rw (q, eight-first, packed-front (w + 3) (suc c) (5 + 4 * (w + 10)) (21 - 4 * w) first (bitsOf (4 * (w + 10)) b) (omega arith), first-second) refl
+
+  -- what stands behind them
+  pub eight-front : (m : ℕ) (r : List ℕ) → packed (w + 10 + m) (eightBits w five a b ++ r) ≡ packed (w + 10) (eightBits w five a b) ++ packed m (bitsOf 5 b ++ r)
+  unfolding first
+  eight-front m r =
+      let n = 4 * (w + 10) in
+      let v = first * 2 ^ n + b in
+      let e : eightBits w five a b ≡ bitsOf (5 + n + n) v = eight-first ∙ sym (bitsOf-add (5 + n) n first b hb) in
+      rw (e, packed-front (w + 10) m (5 + n + n) 5 v r (omega arith), low-of 5 n first b (omega arith)) refl
 
 -- the bytes in front after a write from a place on
-front-after : (d p e : List ℕ) (at n k : ℕ) → length p ≡ n → at ≤ length d → k ≡ at + n → take k (take at d ++ p ++ e) ≡ take at d ++ p
-front-after d p e at n k q h z = take-at (take at d ++ p) e k (rw (length-append, length-take-le at d h, q) (sym z))
+pub front-after : (d e p q r : List ℕ) (at n : ℕ) → at ≤ length d → length p ≡ n → e ≡ take at d ++ (p ++ q) ++ r → take (at + n) e ≡ take at d ++ p
+front-after d e p q r at n h l g =
+    rw (g, ← append-assoc (take at d) p q, append-assoc (take at d ++ p) q r)
+    (take-at (take at d ++ p) (q ++ r) (at + n) (rw (length-append, length-take-le at d h, l) refl))
 
--- a word written by five bytes or more
-word-after : (d e r : List ℕ) (at m w : ℕ) → at ≤ length d → e ≡ take at d ++ packed (5 + m) (bitsOf 64 w) ++ r → take (at + 5) e ≡ take at d ++ packed 5 (bitsOf 45 (w / 524288))
-word-after d e r at m w h q =
-    let p = packed 5 (bitsOf 45 (w / 524288)) in
-    let t = packed m (bitsOf 5 (w / 524288) ++ bitsOf 19 w) in
-    let g : e ≡ take at d ++ p ++ (t ++ r) = q ∙ rw (word-bytes m w) (simp append-assoc) in
-    rw g (front-after d p (t ++ r) at 5 (at + 5) (length-packed 5 (bitsOf 45 (w / 524288))) h refl)
+-- Two words written one behind the other: n bytes of the first stay, c of the second count.
+module _ (w : ℕ) (h : w ≤ 1) (five a b : ℕ) (ha : a < 2 ^ (4 * (w + 10))) (hb : b < 2 ^ (4 * (w + 10))) (d e f : List ℕ) (at n c : ℕ) where
+  both-written : (x y j k : ℕ) (r t : List ℕ)
+      → bitsOf 64 x ≡ bitsOf (5 + 4 * (w + 10)) (five * 2 ^ (4 * (w + 10)) + a) ++ bitsOf (19 - 4 * w) 0
+      → bitsOf 64 y ≡ bitsOf 61 (a * 2 ^ (4 * (w + 10)) + b) ++ bitsOf 3 0
+      → at + n ≤ length d → length e ≡ length d → n ≤ w + 3 → (0 < c → n ≡ w + 3) → c ≤ 7
+      → e ≡ take at d ++ packed (n + j) (bitsOf 64 x) ++ r → f ≡ take (at + n) e ++ packed (c + k) (bitsOf 64 y) ++ t
+      → take (at + (n + c)) f ≡ take at d ++ packed (n + c) (eightBits w five a b)
+  unfolding first second
+  both-written x y j k r t ex ey room long l z m we wf =
+      let v = five * 2 ^ (4 * (w + 10)) + a in
+      let u = a * 2 ^ (4 * (w + 10)) + b in
+      let px : packed (n + j) (bitsOf 64 x) ≡ packed n (bitsOf (5 + 4 * (w + 10)) v) ++ packed j (bitsOf (5 + 4 * (w + 10) - 8 * n) v ++ bitsOf (19 - 4 * w) 0) =
+      rw ex (packed-front n j (5 + 4 * (w + 10)) (5 + 4 * (w + 10) - 8 * n) v (bitsOf (19 - 4 * w) 0) (omega arith)) in
+      let py : packed (c + k) (bitsOf 64 y) ≡ packed c (bitsOf 61 u) ++ packed k (bitsOf (61 - 8 * c) u ++ bitsOf 3 0) =
+      rw ey (packed-front c k 61 (61 - 8 * c) u (bitsOf 3 0) (omega arith)) in
+      let te : take (at + n) e ≡ take at d ++ packed n (bitsOf (5 + 4 * (w + 10)) v) =
+      front-after d e (packed n (bitsOf (5 + 4 * (w + 10)) v)) (packed j (bitsOf (5 + 4 * (w + 10) - 8 * n) v ++ bitsOf (19 - 4 * w) 0)) r at n (omega arith) (length-packed n _) (we ∙ rw px refl) in
+      let tf : take (at + n + c) f ≡ take (at + n) e ++ packed c (bitsOf 61 u) =
+      front-after e f (packed c (bitsOf 61 u)) (packed k (bitsOf (61 - 8 * c) u ++ bitsOf 3 0)) t (at + n) c (omega (arith, long)) (length-packed c _) (wf ∙ rw py refl) in
+      let s : at + (n + c) ≡ at + n + c = omega arith in
+      rw (s, tf, te, eight-bytes w h five a b ha hb n c l z m, append-assoc) refl
 
-module _ (l : List ℕ) (head size : ℕ) (d₀ d : List ℕ) (word at i : ℕ) (g : Writing l head size d₀ d word at i) (room : size ≤ length d₀) (es : size ≡ sheetSize (length l)) where
-  -- a word written: its five bits and the steps from i on are left
-  word-written : (e r : List ℕ) (m : ℕ) → e ≡ take at d ++ packed (5 + m) (bitsOf 64 word) ++ r
-      → take 1 d₀ ++ packed (size - 1) (bitsOf 45 head ++ stepBits l) ≡ take (at + 5) e ++ packed (size - (at + 5)) (bitsOf 5 (word / 524288) ++ stepBits (drop i l))
-  unfolding sheetSize sheetEnd
-  word-written e r m q =
-      let k : size - at ≡ 5 + (size - (at + 5)) = omega (arith, g .place, g .passed) in
-      g .so-far
-      ∙ rw (k, packed-front 5 (size - (at + 5)) 45 5 (word / 524288) (stepBits (drop i l)) refl, ← append-assoc, word-after d e r at m word (omega (arith, g .place, g .passed)) q) refl
+-- the same as the code has them: eight bytes of each, and as many as are left
+module _ (w : ℕ) (h : w ≤ 1) (five a b : ℕ) (ha : a < 2 ^ (4 * (w + 10))) (hb : b < 2 ^ (4 * (w + 10))) (d e f : List ℕ) (at x y : ℕ)
+    (ex : bitsOf 64 x ≡ bitsOf (5 + 4 * (w + 10)) (five * 2 ^ (4 * (w + 10)) + a) ++ bitsOf (19 - 4 * w) 0)
+    (ey : bitsOf 64 y ≡ bitsOf 61 (a * 2 ^ (4 * (w + 10)) + b) ++ bitsOf 3 0) (long : length e ≡ length d) where
+  pub eight-written : at + w + 11 ≤ length d → e ≡ take at d ++ packed 8 (bitsOf 64 x) ++ drop (at + 8) d
+      → f ≡ take (at + w + 3) e ++ packed 8 (bitsOf 64 y) ++ drop (at + w + 3 + 8) e → take (at + (w + 10)) f ≡ take at d ++ packed (w + 10) (eightBits w five a b)
+  eight-written room we wf =
+      let p : at + w + 3 ≡ at + (w + 3) = omega arith in
+      let q : w + 10 ≡ w + 3 + 7 = omega arith in
+      let n : 8 ≡ w + 3 + (5 - w) = omega arith in
+      rw q
+      (both-written w h five a b ha hb d e f at (w + 3) 7 x y (5 - w) 1 _ _ ex ey (omega arith) long (omega arith) (λ z. refl) (omega arith)
+      (we ∙ ap (λ (k : ℕ). take at d ++ packed k (bitsOf 64 x) ++ drop (at + 8) d) n)
+      (wf ∙ ap (λ (k : ℕ). take k e ++ packed 8 (bitsOf 64 y) ++ drop (at + w + 3 + 8) e) p))
 
-  pub writing-turn : (e : List ℕ) (v : ℕ) → i + 4 ≤ length l → v % 524288 ≡ 0
-      → bitsOf 45 (v / 524288) ++ stepBits (drop (i + 4) l) ≡ bitsOf 5 (word / 524288) ++ stepBits (drop i l)
-      → length e ≡ length d → e ≡ take at d ++ packed 8 (bitsOf 64 word) ++ drop (at + 8) d → Writing l head size d₀ e v (at + 5) (i + 4)
-  writing-turn e v h z w n q =
-      record {
-        low = z;
-        passed = h;
-        place = omega (arith, g .place);
-        long = n ∙ g .long;
-        so-far = word-written e (drop (at + 8) d) 3 q ∙ rw w refl;
-      }
+  pub last-written : (count n : ℕ) → n ≡ min count (w + 3) → count ≤ w + 10 → at + count ≤ length d → e ≡ take at d ++ packed n (bitsOf 64 x) ++ drop (at + n) d
+      → f ≡ take (at + n) e ++ packed (count - n) (bitsOf 64 y) ++ drop (at + n + (count - n)) e → take (at + count) f ≡ take at d ++ packed count (eightBits w five a b)
+  last-written count n g m room we wf =
+      let q : count ≡ n + (count - n) = omega arith in
+      let i : n ≡ n + 0 = omega arith in
+      let j : count - n ≡ count - n + 0 = omega arith in
+      rw q
+      (both-written w h five a b ha hb d e f at n (count - n) x y 0 0 _ _ ex ey (omega arith) long (omega arith) (λ z. omega arith) (omega arith)
+      (we ∙ ap (λ (k : ℕ). take at d ++ packed k (bitsOf 64 x) ++ drop (at + n) d) i)
+      (wf ∙ ap (λ (k : ℕ). take (at + n) e ++ packed k (bitsOf 64 y) ++ drop (at + n + (count - n)) e) j))
 
-  pub writing-end : (e f : List ℕ) (v : ℕ) → length l < i + 4 → ((n : ℕ) → packed n (bitsOf 40 v) ≡ packed n (bitsOf 5 (word / 524288 % 32) ++ stepBits (drop i l)))
-      → length e ≡ length d → e ≡ take at d ++ packed 5 (bitsOf 64 word) ++ drop (at + 5) d
-      → f ≡ take (at + 5) e ++ packed (size - at - 5) (bitsOf 40 v) ++ drop (at + 5 + (size - at - 5)) e → take size f ≡ take 1 d₀ ++ packed (size - 1) (bitsOf 45 head ++ stepBits l)
-  unfolding sheetSize sheetEnd
-  writing-end e f v h w n q p =
-      let k : size - (at + 5) ≡ size - at - 5 = omega arith in
-      let b : bitsOf 5 (word / 524288 % 32) ≡ bitsOf 5 (word / 524288) = low-bits 5 (word / 524288) in
-      sym
-      (word-written e (drop (at + 5) d) 0 q
-      ∙ rw (
-        k,
-        ← b,
-        ← w (size - at - 5),
-        p,
-        front-after e (packed (size - at - 5) (bitsOf 40 v)) (drop (at + 5 + (size - at - 5)) e) (at + 5) (size - at - 5) size
-            (length-packed (size - at - 5) (bitsOf 40 v)) (omega (arith, g .place, g .long, g .passed)) (omega (arith, g .place, g .passed)),
-      ) refl)
+-- The area while the steps are written: what is packed of the whole is what stands in front and what is packed of five bits and the rest.
+pub record Writing (w : ℕ) (es : List ℕ) (head size : ℕ) (d₀ d : List ℕ) (five at i : ℕ) : Type 0 where
+  pub few : five < 32
+  pub passed : i ≤ length es
+  pub place : 8 * at ≡ 48 + (w + 10) * i
+  pub long : length d ≡ length d₀
+  pub so-far : take 6 d₀ ++ packed (size - 6) (bitsOf 5 head ++ fields (w + 10) es) ≡ take at d ++ packed (size - at) (bitsOf 5 five ++ fields (w + 10) (drop i es))
 
-  -- what the calls ask
-  pub writing-room : i + 4 ≤ length l → at + 8 ≤ length d
-  unfolding sheetSize sheetEnd
-  writing-room h = omega (arith, g .place)
+pub writing-start : (w : ℕ) (es : List ℕ) (head size : ℕ) (d : List ℕ) → Writing w es head size d d (head % 32) 6 0
+writing-start w es head size d = record { few = omega arith; passed = omega arith; place = omega arith; long = refl; so-far = rw (low-bits 5 head) refl }
 
-  pub writing-last : length l < i + 4 → (at + 5 ≤ size) × (size ≤ length d) × (8 * (size - at - 5) ≤ 40)
-  unfolding sheetSize sheetEnd
-  writing-last h = (omega (arith, g .place), omega arith, omega (arith, g .place))
+module _ (w : ℕ) (h : w ≤ 1) (es : List ℕ) (head size : ℕ) (d₀ d : List ℕ) (five at i : ℕ) (g : Writing w es head size d₀ d five at i)
+    (es-size : size ≡ (53 + (w + 10) * length es + 7) / 8) (room : size ≤ length d₀) where
+  -- w times the entries from i + k on
+  left : (k : ℕ) → i + k ≤ length es → w * length es ≡ w * (i + k + (length es - (i + k)))
+  left k l = ap (λ (n : ℕ). w * n) (omega arith)
+
+  pub writing-room : i + 8 ≤ length es → at + w + 11 ≤ length d
+  writing-room l = omega (arith, g .place, g .long, left 8 l)
+
+  pub writing-last : length es < i + 8 → (at ≤ size) × (size - at ≤ w + 10) × (size ≤ length d)
+  writing-last l =
+      let n : ℕ = length es - i in
+      let e : w * length es ≡ w * (i + n) = ap (λ (k : ℕ). w * k) (omega (arith, g .passed)) in
+      let u : w * n ≤ w * 7 = mul-le-mul-left w (omega (arith, g .passed)) in
+      (omega (arith, g .place, g .passed, e), omega (arith, g .place, g .passed, e, u), omega (arith, g .long))
+
+  module _ (small : (k : ℕ) → getD es k 0 < 2 ^ (w + 10)) (a b : ℕ) (ea : a ≡ fourOf (w + 10) es i) (eb : b ≡ fourOf (w + 10) es (i + 4))
+      (ha : a < 2 ^ (4 * (w + 10))) (hb : b < 2 ^ (4 * (w + 10))) where
+    eight-is : eightBits w five a b ≡ bitsOf 5 five ++ fields (w + 10) (upTo 8 (drop i es))
+    unfolding eightBits
+    eight-is = rw (four-fields (w + 10) es i a small ea, four-fields (w + 10) es (i + 4) b small eb, fields-eight (w + 10) i es) refl
+
+    pub writing-turn : (e : List ℕ) → i + 8 ≤ length es → length e ≡ length d → take (at + (w + 10)) e ≡ take at d ++ packed (w + 10) (eightBits w five a b)
+        → Writing w es head size d₀ e (b % 32) (at + (w + 10)) (i + 8)
+    writing-turn e l n q =
+        let k : size - at ≡ w + 10 + (size - (at + (w + 10))) = omega (arith, g .place, left 8 l) in
+        let s : bitsOf 5 five ++ fields (w + 10) (drop i es) ≡ eightBits w five a b ++ fields (w + 10) (drop (i + 8) es) =
+        rw (eight-is, fields-split (w + 10) 8 (drop i es) (rw length-drop (omega arith)), drop-drop 8 i es, append-assoc) refl in
+        record {
+          few = omega arith;
+          passed = l;
+          place = omega (arith, g .place);
+          long = n ∙ g .long;
+          so-far =
+              g .so-far ∙ rw (s, k, eight-front w h five a b ha hb (size - (at + (w + 10))) (fields (w + 10) (drop (i + 8) es)), ← append-assoc, ← q, ← low-bits 5 b) refl;
+        }
+
+    pub writing-end : (e : List ℕ) → length es < i + 8 → take (at + (size - at)) e ≡ take at d ++ packed (size - at) (eightBits w five a b)
+        → take size e ≡ take 6 d₀ ++ packed (size - 6) (bitsOf 5 head ++ fields (w + 10) es)
+    writing-end e l q =
+        let k : at + (size - at) ≡ size = omega (arith, writing-last l) in
+        let p : packed (size - at) (eightBits w five a b) ≡ packed (size - at) (bitsOf 5 five ++ fields (w + 10) (drop i es)) =
+        rw eight-is (packed-same (size - at) _ _ (same-prefix (bitsOf 5 five) _ _ (fields-padded (w + 10) 8 (drop i es) (rw length-drop (omega arith))))) in
+        rw k at q ∙ rw p (sym (g .so-far))
 
 -- the 53 bits before the steps as one number
-pub front-bits : (r n c : ℕ) → r < 2 → n < 65536 → c < 4294967296 → bitsOf 53 (((2 + r) * 65536 + n) * 4294967296 + c) ≡ bitsOf 4 1 ++ (bitsOf 1 r ++ (bitsOf 16 n ++ bitsOf 32 c))
-front-bits r n c hr hn hc =
-    bitsOf-add 21 32 ((2 + r) * 65536 + n) c hc
-    ∙ rw (bitsOf-add 5 16 (2 + r) n hn, bitsOf-add 4 1 1 r hr, append-assoc, append-assoc) refl
+pub front-bits : (w r n c : ℕ) → w ≤ 1 → r < 2 → n < 65536 → c < 4294967296
+    → bitsOf 53 ((((w + 1) * 2 + r) * 65536 + n) * 4294967296 + c) ≡ bitsOf 4 (suc w) ++ (bitsOf 1 r ++ (bitsOf 16 n ++ bitsOf 32 c))
+front-bits w r n c h hr hn hc =
+    let e : w + 1 ≡ suc w = omega arith in
+    bitsOf-add 21 32 (((w + 1) * 2 + r) * 65536 + n) c hc
+    ∙ rw (bitsOf-add 5 16 ((w + 1) * 2 + r) n hn, bitsOf-add 4 1 (w + 1) r hr, e, append-assoc, append-assoc) refl
 
 -- the bytes in front, once the front and the steps are written
 pub sheet-written : (x : Sheet) (v size : ℕ) (d d₁ d₂ : List ℕ)
-    → bitsOf 53 v ≡ bitsOf 4 1 ++ (bitsOf 1 (oneIf (x .real)) ++ (bitsOf 16 (length (x .steps)) ++ bitsOf 32 (x .cost)))
-    → size ≡ sheetSize (length (x .steps)) → d₁ ≡ take 0 d ++ packed 1 (bitsOf 53 v) ++ drop 1 d
-    → take size d₂ ≡ take 1 d₁ ++ packed (size - 1) (bitsOf 45 v ++ stepBits (x .steps)) → take size d₂ ≡ sheetBytes x
+    → bitsOf 53 v ≡ bitsOf 4 (editionOf (x .edition)) ++ (bitsOf 1 (oneIf (x .real)) ++ (bitsOf 16 (length (x .steps)) ++ bitsOf 32 (x .cost)))
+    → size ≡ sheetSize (x .edition) (length (x .steps)) → d₁ ≡ take 0 d ++ packed 6 (bitsOf 53 v) ++ drop 6 d
+    → take size d₂ ≡ take 6 d₁ ++ packed (size - 6) (bitsOf 5 v ++ stepBits (x .edition) (x .steps) (x .marks)) → take size d₂ ≡ sheetBytes x
 unfolding sheetBytes sheetBits sheetSize sheetEnd
 sheet-written x v size d d₁ d₂ e z q w =
-    let k : size ≡ 1 + (size - 1) = omega arith in
-    let b : sheetBits x ≡ bitsOf 53 v ++ stepBits (x .steps) = rw e (simp append-assoc) in
-    let p : packed 1 (bitsOf 53 v) ++ packed (size - 1) (bitsOf 45 v ++ stepBits (x .steps)) ≡ packed size (sheetBits x) =
-    sym (ap (λ (n : ℕ). packed n (sheetBits x)) k ∙ rw b (packed-front 1 (size - 1) 53 45 v (stepBits (x .steps)) refl)) in
-    w ∙ rw (q, take-at (packed 1 (bitsOf 53 v)) (drop 1 d) 1 (length-packed 1 (bitsOf 53 v))) (p ∙ ap (λ (n : ℕ). packed n (sheetBits x)) z)
+    let k : size ≡ 6 + (size - 6) = omega arith in
+    let r = stepBits (x .edition) (x .steps) (x .marks) in
+    let b : sheetBits x ≡ bitsOf 53 v ++ r = rw e (simp append-assoc) in
+    let p : packed 6 (bitsOf 53 v) ++ packed (size - 6) (bitsOf 5 v ++ r) ≡ packed size (sheetBits x) =
+    sym (ap (λ (n : ℕ). packed n (sheetBits x)) k ∙ rw b (packed-front 6 (size - 6) 53 5 v r refl)) in
+    w ∙ rw (q, take-at (packed 6 (bitsOf 53 v)) (drop 6 d) 6 (length-packed 6 (bitsOf 53 v))) (p ∙ ap (λ (n : ℕ). packed n (sheetBits x)) z)

@@ -2,22 +2,27 @@
 use Prim.Native.Nat.{ℕ}
 use mathlib.Core.Bool.{Bool}
 use mathlib.Core.List.{List, [], _∷_, _++_}
+use lib.ListN.{take}
 use Rattle.planning.specs.Basics.{Check, check, inOrder, Answer, refused, done}
 use Rattle.planning.specs.Record.{endsAt}
-use Rattle.planning.specs.Sheet.{Sheet, sheetOf, sheetEnd, stepsIn, stepsChecks}
+use Rattle.planning.specs.Sheet.{Sheet, sheetOf, markWidth, sheetEnd, editionIn, stepsIn, stepsChecks}
 use Rattle.planning.specs.Calls.{Read}
 use Rattle.sheet.specs.declared.Reading.{Reading}
 use Rattle.sheet.specs.declared.Reading.the-variants as reading
 
--- the sheet of a list, a cost and a verdict
-abbrev pub sheet : List ℕ → ℕ → Bool → Sheet
-sheet l c b = record { steps = l; cost = c; real = b }
+-- the sheet of an edition, a list, marks, a cost and a verdict
+abbrev pub sheet : ℕ → List ℕ → List ℕ → ℕ → Bool → Sheet
+sheet e l ms c b = record { edition = e; steps = l; marks = ms; cost = c; real = b }
 
-abbrev pub heading : ℕ → ℕ → Bool → Read
-heading n c b = record { steps = n; cost = c; real′ = b }
+abbrev pub heading : ℕ → ℕ → ℕ → Bool → Read
+heading n c e b = record { steps = n; cost = c; edition = e; real′ = b }
+
+-- the sheet that a reader is handed: what is told of it, and the fronts of the list l and of the mark area ms
+abbrev pub handedOut : Read → List ℕ → List ℕ → Sheet
+handedOut h l ms = sheet (h .edition) (take (h .steps) l) (take (h .steps) ms) (h .cost) (h .real′)
 
 unfoldable pub readingAs : Reading → Answer Read
-readingAs (reading.Plan n c b) = done (heading n c b)
+readingAs (reading.Plan n c e b) = done (heading n c e b)
 readingAs (reading.Refused f) = refused (f .number) (f .place)
 
 abbrev pub declined : ℕ → ℕ → Answer Read
@@ -25,8 +30,9 @@ declined n p = refused n p
 
 -- what a sheet's fields before the steps say of its plan
 unfoldable pub headingOf : List ℕ → Read
-headingOf s = heading (stepsIn s) (sheetOf s .cost) (sheetOf s .real)
+headingOf s = heading (stepsIn s) (sheetOf s .cost) (editionIn s) (sheetOf s .real)
 
--- the checks from the first step on
+-- the checks from the first mark or step on
 unfoldable pub endCheck : List ℕ → Check
-endCheck s = inOrder (stepsChecks s 53 (stepsIn s) ++ (check (endsAt s (sheetEnd (stepsIn s))) 12 (sheetEnd (stepsIn s)) ∷ []))
+endCheck s =
+    inOrder (stepsChecks s (markWidth (editionIn s)) 53 (stepsIn s) ++ (check (endsAt s (sheetEnd (editionIn s) (stepsIn s))) 12 (sheetEnd (editionIn s) (stepsIn s)) ∷ []))

@@ -23,7 +23,7 @@ pub fn check(tasks: &[Task]) -> Case {
     let reference = |records: &Records, _: &mut Lent| {
         [records.iter().map(|bytes| refusal::code(&record::check(bytes))).sum(), 0, 0, 0]
     };
-    Case::new(records, Lent::new(0, 0, 0), library, reference)
+    Case::new(records, Lent::list(0), library, reference)
 }
 
 pub fn forward(task: &Task) -> Case {
@@ -35,7 +35,7 @@ pub fn forward(task: &Task) -> Case {
         let run = entry::forward(bytes, &mut lent.plan).unwrap();
         [0, run.steps.into(), run.reached.into(), 0]
     };
-    Case::new(record::write(task), Lent::new(1024, 0, 0), library, reference)
+    Case::new(record::write(task), Lent::list(1024), library, reference)
 }
 
 /// Forward runs of one record after the other.
@@ -52,7 +52,7 @@ pub fn forward_each(tasks: &[Task]) -> Case {
             [0, run.steps.into(), run.reached.into(), 0]
         }))
     };
-    Case::new(records(tasks), Lent::new(1024, 0, 0), library, reference)
+    Case::new(records(tasks), Lent::list(1024), library, reference)
 }
 
 pub fn relax(task: &Task) -> Case {
@@ -63,7 +63,7 @@ pub fn relax(task: &Task) -> Case {
     let reference = |bytes: &Vec<u8>, lent: &mut Lent| {
         [0, entry::relax(bytes, &mut lent.plan).unwrap().into(), 0, 0]
     };
-    Case::new(record::write(task), Lent::new(1024, 0, 0), library, reference)
+    Case::new(record::write(task), Lent::list(1024), library, reference)
 }
 
 /// A record and a list of actions.
@@ -83,7 +83,7 @@ pub fn judge(task: &Task, steps: usize) -> Case {
         let [relaxed, red_black, real] = runs.map(|run| u64::from(run.steps));
         [0, relaxed, red_black, real]
     };
-    Case::new((record::write(task), rounds(task, steps)), Lent::new(0, 0, 0), library, reference)
+    Case::new((record::write(task), rounds(task, steps)), Lent::list(0), library, reference)
 }
 
 fn rounds(task: &Task, steps: usize) -> Vec<u16> {
@@ -100,7 +100,7 @@ pub fn newest(task: &Task, steps: usize) -> Case {
         let newest = entry::newest(bytes, list, &mut lent.plan).unwrap();
         [0, newest.steps.into(), newest.runs.into(), 0]
     };
-    Case::new((record::write(task), rounds(task, steps)), Lent::new(64, 0, 0), library, reference)
+    Case::new((record::write(task), rounds(task, steps)), Lent::list(64), library, reference)
 }
 
 fn library_numbers(result: mardiskos::lent::PlanResult) -> Answer {
@@ -114,60 +114,78 @@ fn reference_numbers(answer: Result<entry::PlanResult, Refusal>) -> Answer {
     }
 }
 
-/// Records planned one after another into the same lists.
+/// Records planned one after another into the same lists and mark area.
 pub fn plan(tasks: &[Task], room: usize) -> Case {
     let library = |records: &Records, lent: &mut Lent| {
-        let (plan, work) = (&mut lent.plan, &mut lent.work);
-        sum(records.iter().map(|bytes| library_numbers(mardiskos::lent::plan(bytes, plan, work))))
+        let Lent { plan, work, marks, .. } = lent;
+        sum(records.iter().map(|b| library_numbers(mardiskos::lent::plan(b, plan, work, marks))))
     };
     let reference = |records: &Records, lent: &mut Lent| {
-        let (plan, work) = (&mut lent.plan, &mut lent.work);
-        sum(records.iter().map(|bytes| reference_numbers(entry::plan(bytes, plan, work))))
+        let Lent { plan, work, marks, .. } = lent;
+        sum(records.iter().map(|b| reference_numbers(entry::plan(b, plan, work, marks))))
     };
-    Case::new(records(tasks), Lent::new(room, room, 0), library, reference)
+    Case::new(records(tasks), Lent::steps(room), library, reference)
 }
 
 /// The repaired plan of a task as a relaxed plan.
 pub fn repair(task: &Task) -> Case {
     let library = |(bytes, list): &Listed, lent: &mut Lent| {
-        library_numbers(mardiskos::lent::repair(bytes, list, &mut lent.plan, &mut lent.work))
+        let Lent { plan, work, marks, .. } = lent;
+        library_numbers(mardiskos::lent::repair(bytes, list, plan, work, marks))
     };
     let reference = |(bytes, list): &Listed, lent: &mut Lent| {
-        reference_numbers(entry::repair(bytes, list, &mut lent.plan, &mut lent.work))
+        let Lent { plan, work, marks, .. } = lent;
+        reference_numbers(entry::repair(bytes, list, plan, work, marks))
     };
     let bytes = record::write(task);
-    let mut lent = Lent::new(MAX_STEPS, MAX_STEPS, 0);
-    let steps = entry::plan(&bytes, &mut lent.plan, &mut lent.work).unwrap().steps as usize;
-    let list = lent.plan[..steps].to_vec();
+    let mut lent = Lent::steps(MAX_STEPS);
+    let Lent { plan, work, marks, .. } = &mut lent;
+    let steps = entry::plan(&bytes, plan, work, marks).unwrap().steps as usize;
+    let list = plan[..steps].to_vec();
     Case::new((bytes, list), lent, library, reference)
 }
 
-fn steps(random: &mut Random, count: usize) -> Vec<u16> {
-    (0..count).map(|_| random.below(1024) as u16).collect()
+/// What a sheet is written of.
+struct Drawn {
+    edition: u32,
+    steps: Vec<u16>,
+    marks: Vec<u8>,
 }
 
-pub fn write_sheet(random: &mut Random, count: usize) -> Case {
-    let library = |list: &Vec<u16>, lent: &mut Lent| {
-        let size = mardiskos::lent::write_sheet(list, 12_345, true, &mut lent.bytes);
+const COST: u32 = 12_345;
+
+/// So many steps, each marked in one of two cases; as a sheet of edition 1 they are not marked.
+fn drawn(random: &mut Random, edition: u32, count: usize) -> Drawn {
+    let steps = (0..count).map(|_| random.below(1024) as u16).collect();
+    let marks = (0..count).map(|_| random.below(2) as u8).collect();
+    Drawn { edition, steps, marks }
+}
+
+pub fn write_sheet(random: &mut Random, edition: u32, count: usize) -> Case {
+    let library = |Drawn { edition, steps, marks }: &Drawn, lent: &mut Lent| {
+        let bytes = &mut lent.bytes;
+        let size = mardiskos::lent::write_sheet(steps, marks, *edition, COST, true, bytes);
         [size.code, size.bytes.into(), 0, 0]
     };
-    let reference = |list: &Vec<u16>, lent: &mut Lent| {
-        [0, sheet::write(list, 12_345, true, &mut lent.bytes).unwrap().into(), 0, 0]
+    let reference = |Drawn { edition, steps, marks }: &Drawn, lent: &mut Lent| {
+        let bytes = &mut lent.bytes;
+        [0, sheet::write(steps, marks, *edition, COST, true, bytes).unwrap().into(), 0, 0]
     };
-    let lent = Lent::new(0, 0, sheet::size(count));
-    Case::new(steps(random, count), lent, library, reference)
+    let lent = Lent::bytes(sheet::size(edition, count));
+    Case::new(drawn(random, edition, count), lent, library, reference)
 }
 
-pub fn read_sheet(random: &mut Random, count: usize) -> Case {
+pub fn read_sheet(random: &mut Random, edition: u32, count: usize) -> Case {
     let library = |bytes: &Vec<u8>, lent: &mut Lent| {
-        let sheet = mardiskos::lent::read_sheet(bytes, &mut lent.plan);
-        [sheet.code, sheet.steps.into(), sheet.cost.into(), sheet.real.into()]
+        let sheet = mardiskos::lent::read_sheet(bytes, &mut lent.plan, &mut lent.marks);
+        [sheet.code, sheet.steps.into(), sheet.cost.into(), sheet.edition.into()]
     };
     let reference = |bytes: &Vec<u8>, lent: &mut Lent| {
-        let sheet = sheet::read(bytes, &mut lent.plan).unwrap();
-        [0, sheet.steps.into(), sheet.cost.into(), sheet.real.into()]
+        let sheet = sheet::read(bytes, &mut lent.plan, &mut lent.marks).unwrap();
+        [0, sheet.steps.into(), sheet.cost.into(), sheet.edition.into()]
     };
-    let mut bytes = vec![0; sheet::size(count)];
-    sheet::write(&steps(random, count), 12_345, true, &mut bytes).unwrap();
-    Case::new(bytes, Lent::new(count, 0, 0), library, reference)
+    let Drawn { steps, marks, .. } = drawn(random, edition, count);
+    let mut bytes = vec![0; sheet::size(edition, count)];
+    sheet::write(&steps, &marks, edition, COST, true, &mut bytes).unwrap();
+    Case::new(bytes, Lent::marked(count), library, reference)
 }

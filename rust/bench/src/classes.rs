@@ -102,9 +102,11 @@ fn plans() -> Vec<Class> {
 
 fn sheets() -> Vec<Class> {
     vec![
-        // 8,192n drawn steps.
-        Class::new("sheet written, 32,768 steps", |r, n| write_sheet(r, 8_192 * n)),
-        Class::new("sheet read, 32,768 steps", |r, n| read_sheet(r, 8_192 * n)),
+        // 8,192n drawn steps; in edition 2 every second one marked, on average.
+        Class::new("sheet written, edition 1", |r, n| write_sheet(r, 1, 8_192 * n)),
+        Class::new("sheet read, edition 1", |r, n| read_sheet(r, 1, 8_192 * n)),
+        Class::new("sheet written, edition 2", |r, n| write_sheet(r, 2, 8_192 * n)),
+        Class::new("sheet read, edition 2", |r, n| read_sheet(r, 2, 8_192 * n)),
     ]
 }
 

@@ -13,17 +13,35 @@ const LEAST_ROUNDS: usize = 10;
 pub struct Lent {
     pub plan: Vec<u16>,
     pub work: Vec<u16>,
+    pub marks: Vec<u8>,
     pub bytes: Vec<u8>,
 }
 
 impl Lent {
-    pub fn new(plan: usize, work: usize, bytes: usize) -> Self {
-        Lent { plan: vec![0; plan], work: vec![0; work], bytes: vec![0; bytes] }
+    /// A plan list of so many entries, and nothing else.
+    pub fn list(entries: usize) -> Self {
+        Lent { plan: vec![0; entries], work: vec![], marks: vec![], bytes: vec![] }
+    }
+
+    /// Plan list, work list and mark area for so many steps.
+    pub fn steps(count: usize) -> Self {
+        Lent { work: vec![0; count], ..Lent::marked(count) }
+    }
+
+    /// Plan list and mark area for so many steps.
+    pub fn marked(count: usize) -> Self {
+        Lent { marks: vec![0; count], ..Lent::list(count) }
+    }
+
+    /// So many bytes for a sheet.
+    pub fn bytes(count: usize) -> Self {
+        Lent { bytes: vec![0; count], ..Lent::list(0) }
     }
 
     fn clear(&mut self) {
         self.plan.fill(0);
         self.work.fill(0);
+        self.marks.fill(0);
         self.bytes.fill(0);
     }
 }

@@ -105,7 +105,7 @@ pub fn rounds(record: &[u8], len: usize) -> Vec<u16> {
 
 fn plan(record: &[u8]) -> Vec<u16> {
     let (mut list, mut work) = (vec![0; 300], vec![0; 300]);
-    let _ = entry::plan(record, &mut list, &mut work);
+    let _ = entry::plan(record, &mut list, &mut work, &mut [0; 300]);
     front(list)
 }
 

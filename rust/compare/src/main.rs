@@ -3,8 +3,8 @@
 //! `compare [SUITE..] [--seed N] [--count N]` runs the named suites, by default all. It stops at
 //! the first difference with a non-zero status and the input as hex, and fails too if the planner's suite drew hardly
 //! any record that passes only because facts set again make no arcs, or whose plan tells the rule for paths from one
-//! that comes close to it, or whose searches tell the count from one that comes close. What is handed to the library
-//! lies against forbidden pages, so that a touch outside ends the run too.
+//! that comes close to it, or whose searches tell the count from one that comes close, or whose marks tell the rule for
+//! marks. What is handed to the library lies against forbidden pages, so that a touch outside ends the run too.
 
 mod check;
 mod newest;

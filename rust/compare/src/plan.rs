@@ -4,6 +4,7 @@ use compare::guard::Guarded;
 use compare::lent::Lent;
 use compare::lists;
 use compare::suite::{hex, list_hex, require, same, same_lent, same_of, Options};
+use generate::marks::{marked_by, unmarked, OTHERS as OTHER_MARKS};
 use generate::repair::{self, OTHERS};
 use generate::searches::{Asked, Count, OTHERS as OTHER_COUNTS};
 use generate::{extremes, gates, mixture, Random};
@@ -22,7 +23,9 @@ const LEAST_GAINED: usize = 16;
 const LEAST_OTHERS: [usize; OTHERS.len()] = [8, 16, 80];
 /// By each of the counts that come close to 6.9 one record in so many must have another number.
 const LEAST_COUNTS: [usize; OTHER_COUNTS.len()] = [10, 60, 10, 5];
-/// Records with more actions or longer plans are left out of both.
+/// By each of the rules that come close to 6.10 one record in so many must have other marks.
+const LEAST_MARKS: [usize; OTHER_MARKS.len()] = [5, 200];
+/// Records with more actions or longer plans are left out of all three.
 const COUNTED_ACTIONS: usize = 60;
 const COUNTED_STEPS: usize = 100;
 /// Two repairs must have more searches than 16 bits count; one is of a caller's list with so many entries.
@@ -36,8 +39,10 @@ pub fn run(options: &Options) -> Result<String, String> {
         relaxed: Guarded::new(MOST_ENTRIES),
         plan: Lent::new(MOST_ENTRIES),
         work: Lent::new(MOST_ENTRIES),
+        marks: Lent::new(MOST_ENTRIES),
         room: vec![0; MAX_STEPS],
         calls: 0,
+        unmarked: [0; 2],
         most_searches: 0,
         planned: 0,
         searched: 0,
@@ -45,6 +50,7 @@ pub fn run(options: &Options) -> Result<String, String> {
         gained: 0,
         others: [0; OTHERS.len()],
         counts: [0; OTHER_COUNTS.len()],
+        markings: [0; OTHER_MARKS.len()],
     };
     plans.examples()?;
     plans.many_searches()?;
@@ -61,9 +67,12 @@ struct Plans {
     relaxed: Guarded<u16>,
     plan: Lent<u16>,
     work: Lent<u16>,
+    marks: Lent<u8>,
     /// Room for the longest plan.
     room: Vec<u16>,
     calls: usize,
+    /// Plans with marked steps that were taken away: of the planner, and of callers' lists.
+    unmarked: [usize; 2],
     /// Of one call.
     most_searches: u32,
     planned: usize,
@@ -76,14 +85,19 @@ struct Plans {
     others: [usize; OTHERS.len()],
     /// Records whose path searches would be another number by each of the counts that come close to 6.9.
     counts: [usize; OTHER_COUNTS.len()],
+    /// Records whose marks would be others by each of the rules that come close to 6.10.
+    markings: [usize; OTHER_MARKS.len()],
 }
 
+/// The lengths lent: plan list, work list, mark area.
+type Room = [usize; 3];
+
 impl Plans {
-    /// The store examples: the planner with every short list lent, and every short list repaired.
+    /// The store examples: the planner with all short lists and mark areas lent, and every short list repaired.
     fn examples(&mut self) -> Result<(), String> {
         for (_, bytes) in examples::files() {
-            for (plan, work) in (0..10).flat_map(|plan| (0..10).map(move |work| (plan, work))) {
-                self.call(&bytes, None, plan, work)?;
+            for number in 0..1000 {
+                self.call(&bytes, None, [number / 100, number / 10 % 10, number % 10])?;
             }
             let task = record::read(&bytes).unwrap_or_default();
             for list in lists::every_short(&task) {
@@ -134,7 +148,7 @@ impl Plans {
         self.gained += usize::from(passes && gates::was_cyclic(task));
     }
 
-    /// Where something is inserted: what other rules for paths and other counts of searches give.
+    /// Where something is inserted: what other rules for paths and marks and other counts of searches give.
     fn count_rules(
         &mut self,
         bytes: &[u8],
@@ -148,39 +162,50 @@ impl Plans {
             return Ok(());
         }
         let relaxed = self.room[..relaxed].to_vec();
-        let mut plan = vec![0; steps];
-        entry::plan(bytes, &mut plan, &mut self.room).unwrap();
+        let (mut plan, mut marks) = (vec![0; steps], vec![0; steps]);
+        entry::plan(bytes, &mut plan, &mut self.room, &mut marks).unwrap();
         for (count, rule) in self.others.iter_mut().zip(OTHERS) {
             let other = repair::repaired(task, &relaxed, rule).unwrap();
             *count += usize::from(other != plan);
         }
-        let asked = repair::asked(task, &relaxed).unwrap();
-        for (count, other) in self.counts.iter_mut().zip(OTHER_COUNTS) {
-            *count += usize::from(asked.searches(other) != searches as usize);
+        for (count, other) in self.markings.iter_mut().zip(OTHER_MARKS) {
+            *count += usize::from(marked_by(other, &plan, &marks) != marks);
         }
-        same_searches(&asked, searches, || input(bytes, None))
+        let worded = repair::worded(task, &relaxed).unwrap();
+        for (count, other) in self.counts.iter_mut().zip(OTHER_COUNTS) {
+            *count += usize::from(worded.asked.searches(other) != searches as usize);
+        }
+        let names = ["marks word by word", "marks of the reference"];
+        same_of(names, [worded.marks, marks], || input(bytes, None))?;
+        same_searches(&worded.asked, searches, || input(bytes, None))
     }
 
     /// What was compared, or that too few records have gates or tell rules and counts apart.
     fn summary(self, records: usize) -> Result<String, String> {
-        let Plans { calls, most_searches, planned, searched, .. } = self;
-        let Plans { gated, gained, others, counts, .. } = self;
+        let Plans { calls, most_searches, planned, searched, unmarked, .. } = self;
+        let Plans { gated, gained, others, counts, markings, .. } = self;
         let gates =
             format!("{gated} with gates set again, {gained} pass 7 only since that is no arc");
         let rules = format!("other plans by other rules: {}", listed(&others, &OTHERS));
         let numbers = format!("other searches by other counts: {}", listed(&counts, &OTHER_COUNTS));
+        let marks = format!("other marks by other rules: {}", listed(&markings, &OTHER_MARKS));
         let few = |counts: &[usize], least: &[usize]| {
             counts.iter().zip(least).any(|(&count, least)| count < records / least)
         };
         if few(&others, &LEAST_OTHERS)
             || few(&counts, &LEAST_COUNTS)
+            || few(&markings, &LEAST_MARKS)
             || few(&[gained], &[LEAST_GAINED])
         {
-            return Err(format!("too few of {records} records: {gates}; {rules}; {numbers}"));
+            let counted = format!("{gates}; {rules}; {numbers}; {marks}");
+            return Err(format!("too few of {records} records: {counted}"));
         }
         let answers = format!("{planned} with a plan, {searched} searched");
         let calls = format!("{calls} calls with up to {most_searches} searches");
-        Ok(format!("{records} records ({answers}; {gates}; {rules}; {numbers}), {calls}"))
+        let [own, callers] = unmarked;
+        let taken = format!("marked steps taken away from {own} plans and {callers} of callers");
+        let counted = format!("{answers}; {gates}; {rules}; {numbers}; {marks}; {taken}");
+        Ok(format!("{records} records ({counted}), {calls}"))
     }
 
     /// The reference's answer with all the room that counts.
@@ -190,10 +215,10 @@ impl Plans {
         relaxed: Option<&[u16]>,
     ) -> Result<entry::PlanResult, Refusal> {
         let mut work = std::mem::take(&mut self.room);
-        let mut plan = vec![0; MAX_STEPS];
+        let (mut plan, mut marks) = (vec![0; MAX_STEPS], vec![0; MAX_STEPS]);
         let answer = match relaxed {
-            Some(relaxed) => entry::repair(bytes, relaxed, &mut plan, &mut work),
-            None => entry::plan(bytes, &mut plan, &mut work),
+            Some(relaxed) => entry::repair(bytes, relaxed, &mut plan, &mut work, &mut marks),
+            None => entry::plan(bytes, &mut plan, &mut work, &mut marks),
         };
         self.room = work;
         answer
@@ -209,7 +234,7 @@ impl Plans {
         self.around(bytes, Some(&relaxed), answer)
     }
 
-    /// Capacities around the result's length, list and work list varied apart.
+    /// Capacities around the result's length, the lists and the mark area varied apart.
     fn around(
         &mut self,
         bytes: &[u8],
@@ -220,44 +245,70 @@ impl Plans {
             Ok(result) => result.steps as usize,
             Err(_) => self.random.below(20),
         };
-        for (plan, work) in capacities(&mut self.random, steps) {
-            self.call(bytes, relaxed, plan, work)?;
+        self.call(bytes, relaxed, [steps; 3])?;
+        if answer.is_ok() {
+            self.take_away(bytes, relaxed, steps)?;
+        }
+        for room in rooms(&mut self.random, steps) {
+            self.call(bytes, relaxed, room)?;
         }
         if self.random.chance(1, 200) {
-            let plan = self.random.within(32_760, MOST_ENTRIES);
-            let work = self.random.within(32_760, MOST_ENTRIES);
-            self.call(bytes, relaxed, plan, work)?;
+            let room = [0; 3].map(|_| self.random.within(32_760, MOST_ENTRIES));
+            self.call(bytes, relaxed, room)?;
         }
         Ok(())
     }
 
-    fn call(
+    /// Takes the marked steps away from the library's plan, which lies there: the relaxed plan is left, and the
+    /// library's repair of it is the same plan with the same marks.
+    fn take_away(
         &mut self,
         bytes: &[u8],
         relaxed: Option<&[u16]>,
-        plan: usize,
-        work: usize,
+        steps: usize,
     ) -> Result<(), String> {
-        self.calls += 1;
+        let (plan, marks) = (self.plan.library().to_vec(), self.marks.library().to_vec());
+        let left = unmarked(&plan, &marks);
+        let names = ["without the marked steps", "relaxed plan"];
+        let own = relaxed.is_none().then(|| lists::relaxed_plan(bytes));
+        let went_in = own.as_deref().or(relaxed).unwrap_or_default();
+        same_of(names, [&left[..], went_in], || input(bytes, relaxed))?;
+        if left.len() < steps {
+            self.unmarked[usize::from(relaxed.is_some())] += 1;
+        }
+        self.refill([steps; 3]);
+        self.library(bytes, Some(&left));
+        let again = (self.plan.library().to_vec(), self.marks.library().to_vec());
+        same_of(["repaired again", "before"], [again, (plan, marks)], || input(bytes, relaxed))
+    }
+
+    fn refill(&mut self, [plan, work, marks]: Room) {
         self.plan.refill(&mut self.random, plan);
         self.work.refill(&mut self.random, work);
+        self.marks.refill(&mut self.random, marks);
+    }
+
+    fn call(&mut self, bytes: &[u8], relaxed: Option<&[u16]>, room: Room) -> Result<(), String> {
+        self.calls += 1;
+        self.refill(room);
         let library = self.library(bytes, relaxed);
         let reference = plan_result(self.reference(bytes, relaxed));
         self.most_searches = self.most_searches.max(library.searches);
-        let input = || format!("{}\nlent: {plan} and {work}", input(bytes, relaxed));
+        let input = || format!("{}\nlent: {room:?}", input(bytes, relaxed));
         same(library, reference, input)?;
         same_lent("plan list", self.plan.difference(), input)?;
-        same_lent("work list", self.work.difference(), input)
+        same_lent("work list", self.work.difference(), input)?;
+        same_lent("mark area", self.marks.difference(), input)
     }
 
     fn library(&mut self, bytes: &[u8], relaxed: Option<&[u16]>) -> PlanResult {
         let record = self.record.copy(bytes);
-        let (plan, work) = (self.plan.library(), self.work.library());
+        let (plan, work, marks) = (self.plan.library(), self.work.library(), self.marks.library());
         match relaxed {
             Some(relaxed) => {
-                mardiskos::lent::repair(record, self.relaxed.copy(relaxed), plan, work)
+                mardiskos::lent::repair(record, self.relaxed.copy(relaxed), plan, work, marks)
             }
-            None => mardiskos::lent::plan(record, plan, work),
+            None => mardiskos::lent::plan(record, plan, work, marks),
         }
     }
 
@@ -266,10 +317,11 @@ impl Plans {
         bytes: &[u8],
         relaxed: Option<&[u16]>,
     ) -> Result<entry::PlanResult, Refusal> {
-        let (plan, work) = (self.plan.reference(), self.work.reference());
+        let Plans { plan, work, marks, .. } = self;
+        let (plan, work, marks) = (plan.reference(), work.reference(), marks.reference());
         match relaxed {
-            Some(relaxed) => entry::repair(bytes, relaxed, plan, work),
-            None => entry::plan(bytes, plan, work),
+            Some(relaxed) => entry::repair(bytes, relaxed, plan, work, marks),
+            None => entry::plan(bytes, plan, work, marks),
         }
     }
 
@@ -300,8 +352,9 @@ impl Plans {
         task: &Task,
         result: entry::PlanResult,
     ) -> Result<(), String> {
-        let mut plan = vec![0; result.steps as usize];
-        entry::plan(bytes, &mut plan, &mut self.room).unwrap();
+        let steps = result.steps as usize;
+        let (mut plan, mut marks) = (vec![0; steps], vec![0; steps]);
+        entry::plan(bytes, &mut plan, &mut self.room, &mut marks).unwrap();
         let judged = entry::judge(bytes, &plan).unwrap();
         let relaxed = entry::relax(bytes, &mut self.room).unwrap();
         let sound = judged.red_black.plan
@@ -343,16 +396,12 @@ fn listed(counts: &[usize], names: &[impl Debug]) -> String {
     named.collect::<Vec<_>>().join(", ")
 }
 
-fn capacities(random: &mut Random, steps: usize) -> [(usize, usize); 5] {
+/// Each of the three alone is too short, or all are long enough, or any.
+fn rooms(random: &mut Random, steps: usize) -> [Room; 6] {
     let less = steps.saturating_sub(1);
-    let more = steps + random.below(6);
-    [
-        (steps, steps),
-        (steps + 1, more),
-        (less, more),
-        (more, less),
-        (random.below(steps + 3), random.below(steps + 3)),
-    ]
+    let [a, b, c] = [0; 3].map(|_| steps + random.below(6));
+    let [d, e, f, g, h] = [0; 5].map(|_| random.below(steps + 3));
+    [[steps + 1, a, b], [less, a, b], [a, less, b], [a, b, less], [d, e, c], [f, g, h]]
 }
 
 fn plan_result(answer: Result<entry::PlanResult, Refusal>) -> PlanResult {

@@ -5,6 +5,7 @@ pub mod damage;
 pub mod extremes;
 pub mod gates;
 pub mod listings;
+pub mod marks;
 pub mod mixture;
 pub mod prices;
 pub mod random;

@@ -74,16 +74,31 @@ pub fn repaired(task: &Task, relaxed: &[u16], rule: Rule) -> Option<Vec<u16>> {
     Some(repair(task, relaxed, rule)?.plan)
 }
 
+/// A repair by the rule of 6.7.
+pub struct Worded {
+    pub plan: Vec<u16>,
+    /// The mark of each step (6.10).
+    pub marks: Vec<u8>,
+    /// Where it asks for paths.
+    pub asked: Asked,
+}
+
+/// The same with all that is to be known of it.
+pub fn worded(task: &Task, relaxed: &[u16]) -> Option<Worded> {
+    let Repair { plan, marks, asked, .. } = repair(task, relaxed, Rule::Cheapest)?;
+    Some(Worded { plan, marks, asked })
+}
+
 /// Where the repair of a relaxed plan asks for paths, if the painting is accepted.
 pub fn asked(task: &Task, relaxed: &[u16]) -> Option<Asked> {
-    Some(repair(task, relaxed, Rule::Cheapest)?.asked)
+    Some(worded(task, relaxed)?.asked)
 }
 
 fn repair<'a>(task: &'a Task, relaxed: &[u16], rule: Rule) -> Option<Repair<'a>> {
     let mut repair = Repair::new(task, painting(task).ok()?.order, rule);
     for &number in relaxed {
         repair.restore(task.preconditions(number.into()));
-        repair.apply(number);
+        repair.apply(number, 0);
     }
     repair.restore(&task.goals().collect::<Vec<_>>());
     Some(repair)
@@ -98,6 +113,7 @@ struct Repair<'a> {
     /// Red facts held, and black facts held at any time.
     held: Vec<u64>,
     plan: Vec<u16>,
+    marks: Vec<u8>,
     asked: Asked,
 }
 
@@ -106,15 +122,17 @@ impl<'a> Repair<'a> {
         let current: Vec<usize> = task.variables.iter().map(|v| v.initial.into()).collect();
         let held = current.iter().map(|&value| 1 << value).collect();
         let asked = Asked::new(order.len());
-        Repair { task, rule, order, current, held, plan: Vec::new(), asked }
+        let (plan, marks) = Default::default();
+        Repair { task, rule, order, current, held, plan, marks, asked }
     }
 
-    fn apply(&mut self, number: u16) {
+    fn apply(&mut self, number: u16, mark: u8) {
         for fact in self.task.effects(number.into()) {
             self.current[fact.variable()] = fact.value();
             self.held[fact.variable()] |= 1 << fact.value();
         }
         self.plan.push(number);
+        self.marks.push(mark);
     }
 
     fn restore(&mut self, wanted: &[Fact]) {
@@ -123,7 +141,7 @@ impl<'a> Repair<'a> {
         let unmet = wanted.iter().any(unmet);
         let (moves, places) = self.moves(wanted);
         self.asked.stops.push(Stop { unmet, places });
-        moves.into_iter().for_each(|number| self.apply(number));
+        moves.into_iter().for_each(|number| self.apply(number, 1));
     }
 
     /// The moves to what is wanted, none if nothing is unmet, and the places where a path is asked for.

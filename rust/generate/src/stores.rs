@@ -282,7 +282,7 @@ pub fn office_store(random: &mut Random) -> Task {
     let mut room = [0; 512];
     loop {
         let task = store(random, LARGE);
-        let answer = entry::plan(&record::write(&task), &mut room, &mut [0; 512]);
+        let answer = entry::plan(&record::write(&task), &mut room, &mut [0; 512], &mut [0; 512]);
         if answer.is_ok_and(|result| result.steps > 0) {
             return task;
         }

@@ -75,13 +75,15 @@ fn cycles_and_order_are_as_worded() {
     assert!(cyclic > 1000 && gained > 3000, "{cyclic} {gained}");
 }
 
-type Planned = (Result<entry::PlanResult, Refusal>, Vec<u16>);
+type Planned = (Result<entry::PlanResult, Refusal>, Vec<u16>, Vec<u8>);
 
 fn plan(task: &Task, room: usize) -> Planned {
-    let (mut plan, mut work) = (vec![0; room], vec![0; room]);
-    let answer = entry::plan(&record::write(task), &mut plan, &mut work);
-    plan.truncate(answer.map_or(0, |result| result.steps as usize));
-    (answer, plan)
+    let (mut plan, mut work, mut marks) = (vec![0; room], vec![0; room], vec![0; room]);
+    let answer = entry::plan(&record::write(task), &mut plan, &mut work, &mut marks);
+    let steps = answer.map_or(0, |result| result.steps as usize);
+    plan.truncate(steps);
+    marks.truncate(steps);
+    (answer, plan, marks)
 }
 
 #[test]
@@ -124,7 +126,7 @@ fn plans_and_their_absence_with_gates() {
     for _ in 0..100_000 {
         let task = mixture::small_task(random);
         let task = gates::with_gates(random, &task);
-        let (answer, list) = plan(&task, bound(&task).min(MAX_STEPS));
+        let (answer, list, _) = plan(&task, bound(&task).min(MAX_STEPS));
         let searched = search::has_red_black_plan(&task, 400);
         let was_cyclic = gates::was_cyclic(&task);
         match answer {

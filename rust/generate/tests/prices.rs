@@ -9,7 +9,7 @@ const ROOM: usize = 400;
 
 fn plan(task: &Task) -> (Result<entry::PlanResult, Refusal>, Vec<u16>) {
     let (mut plan, mut work) = (vec![0; ROOM], vec![0; ROOM]);
-    let answer = entry::plan(&record::write(task), &mut plan, &mut work);
+    let answer = entry::plan(&record::write(task), &mut plan, &mut work, &mut [0; ROOM]);
     plan.truncate(answer.map_or(0, |result| result.steps as usize));
     (answer, plan)
 }

@@ -6,7 +6,8 @@ use reference::{record, search, Refusal, Task};
 
 fn plan(task: &Task) -> (Result<PlanResult, Refusal>, Vec<u16>) {
     let (mut plan, mut work) = (vec![0; MAX_STEPS], vec![0; MAX_STEPS]);
-    let answer = entry::plan(&record::write(task), &mut plan, &mut work);
+    let mut marks = vec![0; MAX_STEPS];
+    let answer = entry::plan(&record::write(task), &mut plan, &mut work, &mut marks);
     plan.truncate(answer.map_or(0, |result| result.steps as usize));
     (answer, plan)
 }
@@ -56,9 +57,11 @@ fn repair_is_stable() {
     for _ in 0..2000 {
         let task = stores::store(random, stores::SMALL);
         let (Ok(result), list) = plan(&task) else { continue };
-        let (mut again, mut work) = (list.clone(), list.clone());
-        let answer = entry::repair(&record::write(&task), &list, &mut again, &mut work);
+        let (mut again, mut work, mut marks) = (list.clone(), list.clone(), vec![1; list.len()]);
+        let bytes = record::write(&task);
+        let answer = entry::repair(&bytes, &list, &mut again, &mut work, &mut marks);
         assert_eq!((answer, again), (Ok(PlanResult { searches: 0, ..result }), list));
+        assert!(marks.iter().all(|&mark| mark == 0));
     }
 }
 

@@ -57,9 +57,18 @@ pub struct Plan {
     pub searches: u32,
     /// Whether it is a plan in a real run.
     pub real: bool,
+    /// A mark for each step: 1 for an inserted move, 0 for an action of the relaxed plan. An action may stand in one plan
+    /// with either.
+    pub marks: Vec<u8>,
 }
 
 impl Plan {
+    /// The steps that are not marked: the relaxed plan that was repaired. Repairing it gives the same plan with the same
+    /// marks.
+    pub fn unmarked(&self) -> Vec<u16> {
+        unmarked(&self.steps, &self.marks)
+    }
+
     /// The steps that run for real: the front of the plan, the whole of it where only a goal is missed.
     pub fn runnable(&self) -> &[u16] {
         &self.steps[..self.runs]
@@ -75,6 +84,17 @@ pub struct Sheet {
     pub cost: u32,
     /// The verdict that was written; nothing checks it.
     pub real: bool,
+    /// A mark for each step, 0 or 1; all 0 in edition 1.
+    pub marks: Vec<u8>,
+    /// 1 or 2.
+    pub edition: u32,
+}
+
+impl Sheet {
+    /// The steps that are not marked: on a sheet of edition 2 of a repaired plan, the relaxed plan.
+    pub fn unmarked(&self) -> Vec<u16> {
+        unmarked(&self.steps, &self.marks)
+    }
 }
 
 /// Checks a record. Refuses with 1 to 6, and so does every other call that takes a record.
@@ -186,7 +206,12 @@ pub fn relax(record: &[u8]) -> Result<Vec<u16>, Refusal> {
 /// assert_eq!(mardiskos::plan(&record)?.steps, [1, 2, 6, 3, 4]);
 ///
 /// let record = std::fs::read("../../examples/lift.record")?;
-/// assert_eq!(mardiskos::plan(&record)?.searches, 6);
+/// let plan = mardiskos::plan(&record)?;
+/// assert_eq!(plan.searches, 6);
+///
+/// // Action 2 stands there as an action of the relaxed plan and as an inserted move.
+/// assert_eq!((plan.steps.as_slice(), plan.marks.as_slice()), ([0, 2, 3, 4, 2, 1].as_slice(), [0, 0, 1, 0, 1, 1].as_slice()));
+/// assert_eq!(plan.unmarked(), mardiskos::relax(&record)?);
 /// # Ok(())
 /// # }
 /// ```
@@ -205,9 +230,9 @@ pub fn plan(record: &[u8]) -> Result<Plan, Refusal> {
 /// # }
 /// ```
 pub fn plan_within(record: &[u8], room: usize) -> Result<Plan, Refusal> {
-    let (mut plan, mut work) = (list(room), list(room));
-    let planned = lent::plan(record, &mut plan, &mut work);
-    plan_of(planned, plan)
+    let (mut plan, mut work, mut marks) = (list(room), list(room), vec![0; room]);
+    let planned = lent::plan(record, &mut plan, &mut work, &mut marks);
+    plan_of(planned, plan, marks)
 }
 
 /// The same for the caller's own relaxed plan. Refuses with 7, 8, 13, 9 and 11 too.
@@ -215,7 +240,8 @@ pub fn plan_within(record: &[u8], room: usize) -> Result<Plan, Refusal> {
 /// ```
 /// # fn main() -> Result<(), Box<dyn std::error::Error>> {
 /// let record = std::fs::read("../../examples/two-shelves.record")?;
-/// assert_eq!(mardiskos::repair(&record, &[0, 2, 3])?.steps, [0, 2, 1, 3]);
+/// let plan = mardiskos::repair(&record, &[0, 2, 3])?;
+/// assert_eq!((plan.steps.as_slice(), plan.marks.as_slice()), ([0, 2, 1, 3].as_slice(), [0, 0, 1, 0].as_slice()));
 ///
 /// let refusal = mardiskos::repair(&record, &[2, 0, 3]).unwrap_err();
 /// assert_eq!((refusal.number(), refusal.place), (9, 0));
@@ -228,54 +254,92 @@ pub fn repair(record: &[u8], relaxed: &[u16]) -> Result<Plan, Refusal> {
 
 /// The repair with room for so many steps: a longer plan is refused with 11.
 pub fn repair_within(record: &[u8], relaxed: &[u16], room: usize) -> Result<Plan, Refusal> {
-    let (mut plan, mut work) = (list(room), list(room));
-    let repaired = lent::repair(record, relaxed, &mut plan, &mut work);
-    plan_of(repaired, plan)
+    let (mut plan, mut work, mut marks) = (list(room), list(room), vec![0; room]);
+    let repaired = lent::repair(record, relaxed, &mut plan, &mut work, &mut marks);
+    plan_of(repaired, plan, marks)
 }
 
-/// The bytes of a plan sheet. Refuses with 13 alone.
+/// The bytes of a plan sheet. Edition 1 gives one of edition 1, which has no marks; any other number gives edition 2. There a
+/// byte other than 0 marks its step, a step without a byte is not marked, and bytes behind the last step are not looked
+/// at. Refuses with 13 alone.
 ///
 /// ```
 /// # fn main() -> Result<(), mardiskos::Refusal> {
-/// let sheet = mardiskos::write_sheet(&[0, 2, 1, 3], 10, true)?;
-/// assert_eq!(sheet.len(), 12);
+/// let sheet = mardiskos::write_sheet(&[0, 2, 1, 3], &[0, 0, 1, 0], 2, 10, true)?;
+/// assert_eq!(sheet.len(), 13);
 ///
 /// let read = mardiskos::read_sheet(&sheet)?;
 /// assert_eq!((read.steps.as_slice(), read.cost, read.real), ([0, 2, 1, 3].as_slice(), 10, true));
+/// assert_eq!((read.marks.as_slice(), read.edition), ([0, 0, 1, 0].as_slice(), 2));
+/// assert_eq!(read.unmarked(), [0, 2, 3]);
+///
+/// // The same sheet, with marks of other bytes, and of another number than 1.
+/// assert_eq!(mardiskos::write_sheet(&[0, 2, 1, 3], &[0, 0, 2], 17, 10, true)?, sheet);
 /// # Ok(())
 /// # }
 /// ```
-pub fn write_sheet(steps: &[u16], cost: u32, real: bool) -> Result<Vec<u8>, Refusal> {
+pub fn write_sheet(
+    steps: &[u16],
+    marks: &[u8],
+    edition: u32,
+    cost: u32,
+    real: bool,
+) -> Result<Vec<u8>, Refusal> {
     let mut bytes = vec![0; MAX_SHEET];
-    let size = lent::write_sheet(steps, cost, real, &mut bytes);
+    let size = lent::write_sheet(steps, marks, edition, cost, real, &mut bytes);
     outcome(size.code)?;
     bytes.truncate(size.bytes as usize);
     Ok(bytes)
 }
 
-/// Reads a plan sheet. Refuses with 12 alone.
+/// Reads a plan sheet of edition 1 or 2. Written again with what stands in it, it has the same bytes. Refuses with 12 alone.
 ///
 /// ```
+/// # fn main() -> Result<(), mardiskos::Refusal> {
 /// assert_eq!(mardiskos::read_sheet(&[0x18]).unwrap_err().to_string().split(':').next(), Some("refused 12 5"));
+///
+/// let first = mardiskos::write_sheet(&[0, 2, 1, 3], &[], 1, 10, true)?;
+/// let read = mardiskos::read_sheet(&first)?;
+/// assert_eq!((read.marks.as_slice(), read.edition), ([0; 4].as_slice(), 1));
+/// assert_eq!(mardiskos::write_sheet(&read.steps, &read.marks, read.edition, read.cost, read.real)?, first);
+/// # Ok(())
+/// # }
 /// ```
 pub fn read_sheet(bytes: &[u8]) -> Result<Sheet, Refusal> {
-    let mut steps = list(MAX_STEPS);
-    let sheet = lent::read_sheet(bytes, &mut steps);
+    let (mut steps, mut marks) = (list(MAX_STEPS), vec![0; MAX_STEPS]);
+    let sheet = lent::read_sheet(bytes, &mut steps, &mut marks);
     outcome(sheet.code)?;
-    Ok(Sheet { steps: front(steps, sheet.steps), cost: sheet.cost, real: sheet.real })
+    Ok(Sheet {
+        steps: front(steps, sheet.steps),
+        cost: sheet.cost,
+        real: sheet.real,
+        marks: front(marks, sheet.steps),
+        edition: sheet.edition,
+    })
+}
+
+/// The steps whose mark is 0. A step without a mark is not marked.
+///
+/// ```
+/// assert_eq!(mardiskos::unmarked(&[0, 2, 1, 3], &[0, 0, 1]), [0, 2, 3]);
+/// ```
+pub fn unmarked(steps: &[u16], marks: &[u8]) -> Vec<u16> {
+    let marked = |step: usize| marks.get(step).is_some_and(|&mark| mark != 0);
+    let kept = steps.iter().enumerate().filter(|&(step, _)| !marked(step));
+    kept.map(|(_, &number)| number).collect()
 }
 
 fn list(entries: usize) -> Vec<u16> {
     vec![0; entries]
 }
 
-fn front(mut list: Vec<u16>, steps: u32) -> Vec<u16> {
+fn front<T>(mut list: Vec<T>, steps: u32) -> Vec<T> {
     list.truncate(steps as usize);
     list.shrink_to_fit();
     list
 }
 
-fn plan_of(result: lent::PlanResult, list: Vec<u16>) -> Result<Plan, Refusal> {
+fn plan_of(result: lent::PlanResult, list: Vec<u16>, marks: Vec<u8>) -> Result<Plan, Refusal> {
     outcome(result.code)?;
     Ok(Plan {
         steps: front(list, result.steps),
@@ -283,5 +347,6 @@ fn plan_of(result: lent::PlanResult, list: Vec<u16>) -> Result<Plan, Refusal> {
         runs: result.runs as usize,
         searches: result.searches,
         real: result.real,
+        marks: front(marks, result.steps),
     })
 }

@@ -6,7 +6,7 @@ mod refusal;
 
 pub use calls::{check, forward, judge, newest, read_sheet, relax, write_sheet};
 pub use calls::{plan, plan_within, repair, repair_within};
-pub use calls::{ForwardRun, Judgement, Newest, Plan, Run, Sheet};
+pub use calls::{unmarked, ForwardRun, Judgement, Newest, Plan, Run, Sheet};
 pub use refusal::{outcome, Reason, Refusal};
 
 /// The most steps that a plan, a list or a sheet has.
@@ -17,5 +17,5 @@ pub const MAX_VARIABLES: usize = 64;
 pub const MAX_ACTIONS: usize = 1_024;
 /// The bytes of the longest record.
 pub const MAX_RECORD: usize = 49_315;
-/// The bytes of the longest sheet.
-pub const MAX_SHEET: usize = 40_967;
+/// The bytes of the longest sheet, which is of edition 2.
+pub const MAX_SHEET: usize = 45_063;

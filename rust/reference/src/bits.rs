@@ -22,12 +22,16 @@ impl<'a> Bits<'a> {
     /// At least 57 bits from `at` on, left aligned; bits behind the end are 0.
     #[inline(always)]
     pub fn window(self, at: usize) -> u64 {
-        let first = at / 8;
-        let word = match self.bytes.get(first..first + 8) {
+        self.word(at / 8) << (at % 8)
+    }
+
+    /// The 64 bits from a byte on; bits behind the end are 0.
+    #[inline(always)]
+    pub fn word(self, first: usize) -> u64 {
+        match self.bytes.get(first..first + 8) {
             Some(eight) => u64::from_be_bytes(eight.try_into().unwrap()),
             None => self.tail(first),
-        };
-        word << (at % 8)
+        }
     }
 
     /// The field of `width` bits at `at`, `width` from 1 to 57.

@@ -127,30 +127,51 @@ pub fn repair(
     relaxed: &[u16],
     plan: &mut [u16],
     work: &mut [u16],
+    marks: &mut [u8],
 ) -> Result<PlanResult, Refusal> {
-    let capacity = plan.len().min(work.len()).min(MAX_STEPS);
-    let answer = with(record, |Room { task, painting, repair, .. }| {
-        painting.check(task)?;
-        check_length(relaxed)?;
-        check_relaxed_plan(task, relaxed)?;
-        let repaired = repair.run(task, painting, relaxed, &mut plan[..capacity])?;
-        Ok(verdict(task, painting.black, plan, repaired))
-    });
-    fill_rest(plan, answer.map_or(0, |result| result.steps));
-    work.fill(NO_ENTRY);
-    answer
+    marked(plan, work, marks, |plan, marks| {
+        with(record, |Room { task, painting, repair, .. }| {
+            painting.check(task)?;
+            check_length(relaxed)?;
+            check_relaxed_plan(task, relaxed)?;
+            let repaired = repair.run(task, painting, relaxed, plan, marks)?;
+            Ok(verdict(task, painting.black, plan, repaired))
+        })
+    })
 }
 
 /// The planner: from a record to a repaired plan.
-pub fn plan(record: &[u8], plan: &mut [u16], work: &mut [u16]) -> Result<PlanResult, Refusal> {
-    let capacity = plan.len().min(work.len()).min(MAX_STEPS);
-    let answer = with(record, |Room { task, forward, painting, repair, .. }| {
-        painting.check(task)?;
-        forward.run(task)?;
-        forward.keep_needed(task);
-        let repaired = repair.run(task, painting, &forward.actions, &mut plan[..capacity])?;
-        Ok(verdict(task, painting.black, plan, repaired))
-    });
+pub fn plan(
+    record: &[u8],
+    plan: &mut [u16],
+    work: &mut [u16],
+    marks: &mut [u8],
+) -> Result<PlanResult, Refusal> {
+    marked(plan, work, marks, |plan, marks| {
+        with(record, |Room { task, forward, painting, repair, .. }| {
+            painting.check(task)?;
+            forward.run(task)?;
+            forward.keep_needed(task);
+            let repaired = repair.run(task, painting, &forward.actions, plan, marks)?;
+            Ok(verdict(task, painting.black, plan, repaired))
+        })
+    })
+}
+
+/// Calls `repair` with plan list and mark area cut to the capacity (7.2), the marks at 0, and leaves all that is lent
+/// as 7.4 to 7.6 and 7.10 say.
+fn marked(
+    plan: &mut [u16],
+    work: &mut [u16],
+    marks: &mut [u8],
+    repair: impl FnOnce(&mut [u16], &mut [u8]) -> Result<PlanResult, Refusal>,
+) -> Result<PlanResult, Refusal> {
+    let capacity = plan.len().min(work.len()).min(marks.len()).min(MAX_STEPS);
+    marks.fill(0);
+    let answer = repair(&mut plan[..capacity], &mut marks[..capacity]);
+    if answer.is_err() {
+        marks[..capacity].fill(0);
+    }
     fill_rest(plan, answer.map_or(0, |result| result.steps));
     work.fill(NO_ENTRY);
     answer

@@ -14,7 +14,7 @@ fn lines(record: &[u8]) -> Result<String, Refusal> {
     let mut plan = vec![0; ENTRIES];
     let mut work = vec![0; ENTRIES];
     let mut relaxed = vec![0; ENTRIES];
-    let result = entry::plan(record, &mut plan, &mut work)?;
+    let result = entry::plan(record, &mut plan, &mut work, &mut [0; ENTRIES])?;
     let kept = entry::relax(record, &mut relaxed)?;
     let reached = entry::forward(record, &mut work)?.reached;
     let real = if result.real { "real" } else { "unreal" };

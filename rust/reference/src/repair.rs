@@ -41,20 +41,22 @@ impl Repair {
     }
 
     /// Repairs a relaxed plan into the list, whose length is the capacity; answers 11 as soon as the
-    /// steps do not fit: they are only added, never taken away.
+    /// steps do not fit: they are only added, never taken away. The marks have the same length and
+    /// are 0 at first; those of inserted moves are set.
     pub fn run(
         &mut self,
         task: &Task,
         painting: &Painting,
         relaxed: &[u16],
         plan: &mut [u16],
+        marks: &mut [u8],
     ) -> Result<Repaired, Refusal> {
         let capacity = plan.len();
         let full = |_: Full| Refusal::new(11, capacity);
         if painting.black == 0 {
             return copy(relaxed, plan).map_err(full);
         }
-        let mut course = Course::start(self, task, painting, plan);
+        let mut course = Course::start(self, task, painting, plan, marks);
         relaxed.iter().try_for_each(|&number| course.take(number)).map_err(full)?;
         course.finish().map_err(full)?;
         Ok(course.done)
@@ -109,6 +111,7 @@ struct Course<'a> {
     painting: &'a Painting,
     room: &'a mut Repair,
     plan: &'a mut [u16],
+    marks: &'a mut [u8],
     done: Repaired,
     /// The value of each black variable.
     current: [u8; 64],
@@ -127,6 +130,7 @@ impl<'a> Course<'a> {
         task: &'a Task,
         painting: &'a Painting,
         plan: &'a mut [u16],
+        marks: &'a mut [u8],
     ) -> Self {
         room.fresh.clear();
         room.held.start(task);
@@ -135,7 +139,7 @@ impl<'a> Course<'a> {
         task.variables.iter().zip(&mut current).for_each(|(v, now)| *now = v.initial);
         let applied = Numbers::default();
         let done = Repaired::default();
-        Course { task, painting, room, plan, done, current, applied, prepared: false }
+        Course { task, painting, room, plan, marks, done, current, applied, prepared: false }
     }
 
     #[cold]
@@ -224,6 +228,7 @@ impl<'a> Course<'a> {
             self.done.searches += places.len();
             self.support(places)?;
             self.push(number)?;
+            self.marks[self.done.steps - 1] = 1;
             self.current[v] = value as u8;
         }
         Ok(())

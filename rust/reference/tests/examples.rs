@@ -8,15 +8,19 @@ use std::path::{Path, PathBuf};
 
 const REST: u16 = NO_ENTRY;
 
-/// The planner with lists of the given lengths; both lists come back.
-fn plan(task: &Task, lent: usize, work: usize) -> (Result<PlanResult, Refusal>, Vec<u16>) {
-    let mut plan = vec![7; lent];
-    let mut work = vec![9; work];
-    let answer = reference::plan(&record::write(task), &mut plan, &mut work);
+/// The planner with lists and mark area of the given lengths; plan and marks come back.
+fn marked(task: &Task, lent: [usize; 3]) -> (Result<PlanResult, Refusal>, Vec<u16>, Vec<u8>) {
+    let (mut plan, mut work, mut marks) = (vec![7; lent[0]], vec![9; lent[1]], vec![5; lent[2]]);
+    let answer = reference::plan(&record::write(task), &mut plan, &mut work, &mut marks);
     assert!(work.iter().all(|&entry| entry == REST));
-    if answer.is_err() {
-        assert!(plan.iter().all(|&entry| entry == REST));
-    }
+    let steps = answer.map_or(0, |result| result.steps as usize);
+    assert!(plan[steps..].iter().all(|&entry| entry == REST));
+    assert!(marks[steps..].iter().all(|&mark| mark == 0));
+    (answer, plan, marks)
+}
+
+fn plan(task: &Task, lent: usize, work: usize) -> (Result<PlanResult, Refusal>, Vec<u16>) {
+    let (answer, plan, _) = marked(task, [lent, work, 50_000]);
     (answer, plan)
 }
 
@@ -180,6 +184,59 @@ fn searches_with_nothing_to_find_count_too() {
     assert_eq!(listing::listing(&record::write(&task)), expected);
 }
 
+/// 12.24, and the other examples.
+#[test]
+fn marks() {
+    let tasks: [(Task, &[u8]); 7] = [
+        (examples::two_shelves(), &[0, 0, 1, 0]),
+        (examples::lift(), &[0, 0, 1, 0, 1, 1]),
+        (examples::door(), &[0, 0, 1, 0, 1, 1, 1]),
+        (examples::lit_return(), &[0, 0, 1, 0, 1]),
+        (examples::detour(), &[0, 0, 0, 1, 1]),
+        (examples::tray(), &[0, 0]),
+        (examples::goal_met(), &[]),
+    ];
+    for (task, expected) in tasks {
+        let steps = expected.len();
+        for lent in [[steps; 3], [steps + 2, steps + 1, steps + 3], [steps, steps, 40_000]] {
+            let (answer, _, marks) = marked(&task, lent);
+            assert_eq!(answer.unwrap().steps as usize, steps);
+            assert_eq!(marks[..steps], *expected);
+        }
+    }
+}
+
+#[test]
+fn the_mark_area_counts() {
+    let full = |place| Err(Refusal::new(11, place));
+    assert_eq!(marked(&examples::lift(), [7, 6, 5]).0, full(5));
+    assert_eq!(marked(&examples::lift(), [40_000, 40_000, 5]).0, full(5));
+    assert_eq!(marked(&examples::two_shelves(), [4, 4, 3]).0, full(3));
+    assert_eq!(marked(&examples::two_shelves(), [4, 3, 2]).0, full(2));
+    assert_eq!(marked(&examples::two_shelves(), [2, 3, 4]).0, full(2));
+    assert_eq!(marked(&examples::tray(), [2, 2, 1]).0, full(1));
+    assert_eq!(marked(&examples::two_shelves(), [4, 4, 0]).0, full(0));
+}
+
+/// Repairs the relaxed plan that is left when the marked steps are taken away.
+#[test]
+fn without_the_marked_steps_the_relaxed_plan_is_left() {
+    for (name, bytes) in examples::files() {
+        let (mut plan, mut work, mut marks) = ([0; 16], [0; 16], [0; 16]);
+        let answer = reference::plan(&bytes, &mut plan, &mut work, &mut marks);
+        let Ok(result) = answer else { continue };
+        let steps = result.steps as usize;
+        let kept = (0..steps).filter(|&i| marks[i] == 0).map(|i| plan[i]);
+        let kept: Vec<u16> = kept.collect();
+        let mut relaxed = [0; 16];
+        let count = reference::relax(&bytes, &mut relaxed).unwrap() as usize;
+        assert_eq!(kept, relaxed[..count], "{name}");
+        let (mut again, mut remarked) = ([1; 16], [1; 16]);
+        let repaired = reference::repair(&bytes, &kept, &mut again, &mut work, &mut remarked);
+        assert_eq!((repaired, again, remarked), (answer, plan, marks), "{name}");
+    }
+}
+
 #[test]
 fn runs_of_lit_return() {
     let bytes = record::write(&examples::lit_return());
@@ -251,11 +308,17 @@ fn the_specification_shows_the_files() {
 #[test]
 fn the_specification_shows_the_sheets() {
     let (shown, mut bytes) = (shown(), [0; 16]);
-    for (list, cost, real) in [(&[0, 2, 1, 3][..], 10, true), (&[0, 1], 2, false), (&[], 0, true)] {
-        let size = reference::write_sheet(list, cost, real, &mut bytes).unwrap() as usize;
-        let hex: String = bytes[..size].iter().map(|byte| format!("{byte:02x}")).collect();
+    let mut shows = |list: &[u16], marks: &[u8], edition, cost, real| {
+        let size = reference::write_sheet(list, marks, edition, cost, real, &mut bytes).unwrap();
+        let sheet = &bytes[..size as usize];
+        let hex: String = sheet.iter().map(|byte| format!("{byte:02x}")).collect();
         assert!(shown.contains(&hex), "{list:?}");
-    }
+    };
+    shows(&[0, 2, 1, 3], &[], 1, 10, true);
+    shows(&[0, 1], &[], 1, 2, false);
+    shows(&[], &[], 1, 0, true);
+    shows(&[0, 2, 1, 3], &[0, 0, 1, 0], 2, 10, true);
+    shows(&[0, 2, 3, 4, 2, 1], &[0, 0, 1, 0, 1, 1], 2, 11, true);
 }
 
 #[test]
@@ -299,18 +362,21 @@ fn judging_two_shelves() {
 fn repair_of_a_callers_relaxed_plan() {
     let bytes = record::write(&examples::two_shelves());
     let repair = |relaxed: &[u16]| {
-        let (mut plan, mut work) = ([1; 8], [1; 8]);
-        let answer = reference::repair(&bytes, relaxed, &mut plan, &mut work);
+        let (mut plan, mut work, mut marks) = ([1; 8], [1; 8], [9; 7]);
+        let answer = reference::repair(&bytes, relaxed, &mut plan, &mut work, &mut marks);
         assert_eq!(work, [REST; 8]);
-        (answer, plan)
+        (answer, plan, marks)
     };
-    let (answer, plan) = repair(&[0, 0, 2, 3]);
+    let (answer, plan, marks) = repair(&[0, 0, 2, 3]);
     assert_eq!(answer, Ok(PlanResult { steps: 6, cost: 18, runs: 6, searches: 2, real: true }));
     assert_eq!(plan, [0, 1, 0, 2, 1, 3, REST, REST]);
+    assert_eq!(marks, [0, 1, 0, 0, 1, 0, 0]);
+    let (_, plan, marks) = repair(&[0, 2, 1, 3]);
+    assert_eq!((plan[..5].to_vec(), marks), (vec![0, 2, 1, 3, REST], [0; 7]));
     let faulty: [(&[u16], usize); 5] =
         [(&[2], 0), (&[0, 3, 9], 1), (&[0, 9, 3], 1), (&[0, 2], 2), (&[], 0)];
     for (relaxed, place) in faulty {
-        assert_eq!(repair(relaxed), (Err(Refusal::new(9, place)), [REST; 8]));
+        assert_eq!(repair(relaxed), (Err(Refusal::new(9, place)), [REST; 8], [0; 7]));
     }
     assert_eq!(repair(&[9; 32_769]).0, Err(Refusal::new(13, 32_768)));
 }

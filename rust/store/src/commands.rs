@@ -6,7 +6,7 @@ use crate::files::Files;
 use crate::list::{self, Listed};
 use crate::outcome::Failure;
 use crate::plan::Plan;
-use crate::show::Shown;
+use crate::show::{Shown, Which};
 use crate::{explain, pictures, tasks, Store};
 
 pub type Outcome = Result<(), Failure>;
@@ -29,6 +29,7 @@ struct Command {
 }
 
 const DRAWING: &[&str] = &["--dot", "--plain"];
+const SHOWING: &[&str] = &["--relaxed"];
 
 #[rustfmt::skip]
 const COMMANDS: [Command; 12] = [
@@ -36,15 +37,15 @@ const COMMANDS: [Command; 12] = [
         what: "the record; with --names its names beside it, in OUT.names", run: tasks::record },
     Command { name: "text", takes: "FILE [OUT]", counts: (1, 2), flags: &[],
         what: "the store as text, templates written out", run: tasks::as_text },
-    Command { name: "plan", takes: "FILE [LIST]", counts: (1, 2), flags: &[],
+    Command { name: "plan", takes: "FILE [LIST] [--relaxed]", counts: (1, 2), flags: SHOWING,
         what: "a plan with names, or a list of actions and whether it is a plan", run: tasks::plan },
     Command { name: "newest", takes: "FILE [LIST]", counts: (1, 2), flags: &[],
         what: "the value that each variable was set to last, by a plan or a list of actions", run: tasks::newest },
-    Command { name: "repair", takes: "FILE LIST", counts: (2, 2), flags: &[],
+    Command { name: "repair", takes: "FILE LIST [--relaxed]", counts: (2, 2), flags: SHOWING,
         what: "the repair of a relaxed plan", run: tasks::repair },
     Command { name: "sheet", takes: "FILE [OUT]", counts: (1, 2), flags: &[],
-        what: "the sheet of a plan", run: tasks::sheet },
-    Command { name: "read", takes: "SHEET [FILE]", counts: (1, 2), flags: &[],
+        what: "the sheet of a plan, of edition 2", run: tasks::sheet },
+    Command { name: "read", takes: "SHEET [FILE] [--relaxed]", counts: (1, 2), flags: SHOWING,
         what: "what a sheet says, and what the judge says of it in a store", run: tasks::read },
     Command { name: "explain", takes: "NUMBER PLACE [FILE [LIST]]", counts: (2, 4), flags: &[],
         what: "a refusal in words; FILE is a sheet for 12", run: tasks::explain },
@@ -91,12 +92,22 @@ fn help(call: &mut Call) -> Outcome {
 const HELP: &str = "
 FILE is a store as text or a record, which is known by its content; - is standard input or output.
 LIST holds actions by name or number, or is what the listing program prints.
+Moves that the repair inserted are shown as such; --relaxed leaves them out, and the relaxed plan is left.
 Status 0: all is well. 1: refused, or no plan. 2: a wrong call, a wrong text, or a file that fails.
 ";
 
 impl Call<'_> {
     pub fn has(&self, flag: &str) -> bool {
         self.flags.contains(&flag)
+    }
+
+    /// Which steps of a plan are to be shown. Without marks none can be left out; `why` says why there are none.
+    pub fn which(&self, plan: &Plan, why: &str) -> Result<Which, Failure> {
+        match (self.has("--relaxed"), &plan.marks) {
+            (false, _) => Ok(Which::All),
+            (true, Some(_)) => Ok(Which::Relaxed),
+            (true, None) => Err(Failure::Error(format!("--relaxed has nothing to go by: {why}"))),
+        }
     }
 
     pub fn store(&mut self, place: usize) -> Result<Store, Failure> {
@@ -129,7 +140,7 @@ impl Call<'_> {
         let text = self.files.text(file)?;
         match list::read(&text, store).map_err(|error| Failure::of_file(file, error))? {
             Listed::Refused(refusal) => Err(refused(store, refusal)),
-            Listed::Plan(plan) if plan.inserted().is_none() => {
+            Listed::Apart => {
                 Err(Failure::of_file(file, "the relaxed plan is not part of the plan"))
             }
             Listed::Plan(plan) => Ok(plan),

@@ -23,10 +23,6 @@ pub fn repair(record: &[u8], relaxed: &[u16], room: usize) -> Result<Plan, Refus
     mardiskos::repair_within(record, relaxed, room).map_err(refused)
 }
 
-pub fn relax(record: &[u8]) -> Result<Vec<u16>, Refusal> {
-    mardiskos::relax(record).map_err(refused)
-}
-
 pub fn judge(record: &[u8], list: &[u16]) -> Result<Judgement, Refusal> {
     mardiskos::judge(record, list).map_err(refused)
 }
@@ -37,7 +33,8 @@ pub fn newest(record: &[u8], list: &[u16]) -> Result<Newest, Refusal> {
 }
 
 pub fn write_sheet(sheet: &Sheet) -> Result<Vec<u8>, Refusal> {
-    mardiskos::write_sheet(&sheet.steps, sheet.cost, sheet.real).map_err(refused)
+    let Sheet { steps, marks, edition, cost, real } = sheet;
+    mardiskos::write_sheet(steps, marks, *edition, *cost, *real).map_err(refused)
 }
 
 pub fn read_sheet(bytes: &[u8]) -> Result<Sheet, Refusal> {

@@ -13,17 +13,26 @@ pub enum Listed {
     Plan(Plan),
     /// The listing program's line for a refusal.
     Refused(Refusal),
+    /// The listing program's lines for a plan and for a relaxed plan that is not part of it.
+    Apart,
+}
+
+/// What the lines say of a plan.
+#[derive(Default)]
+struct Lists {
+    steps: Vec<u16>,
+    relaxed: Option<Vec<u16>>,
 }
 
 /// The words that start the listing program's lines.
 const WORDS: [&str; 6] = ["reached", "relaxed", "plan", "real", "unreal", "refused"];
 
 pub fn read(text: &str, store: &Store) -> Result<Listed, Error> {
-    let mut plan = Plan::default();
+    let mut lists = Lists::default();
     for mut line in lines(text) {
         let Some(first) = line.peek().cloned() else { continue };
         if !WORDS.contains(&first.text.as_str()) {
-            plan.steps.extend(entries(&mut line, store)?);
+            lists.steps.extend(entries(&mut line, store)?);
             continue;
         }
         if store.action(&first.text).is_some() {
@@ -31,28 +40,32 @@ pub fn read(text: &str, store: &Store) -> Result<Listed, Error> {
             return Err(first.error(format!("`{}` {message}: write the number", first.text)));
         }
         line.token();
-        if let Some(refusal) = listing_line(&first.text, &mut line, store, &mut plan)? {
+        if let Some(refusal) = listing_line(&first.text, &mut line, store, &mut lists)? {
             return Ok(Listed::Refused(refusal));
         }
     }
-    Ok(Listed::Plan(plan))
+    let plan = match lists.relaxed {
+        None => Some(Plan::list(lists.steps)),
+        Some(relaxed) => Plan::repaired(lists.steps, &relaxed),
+    };
+    Ok(plan.map_or(Listed::Apart, Listed::Plan))
 }
 
 fn listing_line(
     word: &str,
     line: &mut Line,
     store: &Store,
-    plan: &mut Plan,
+    lists: &mut Lists,
 ) -> Result<Option<Refusal>, Error> {
     match word {
         "relaxed" => {
             let count = line.number("a count of steps", MAX_STEPS)?;
-            plan.relaxed = Some(counted(line, store, count)?);
+            lists.relaxed = Some(counted(line, store, count)?);
         }
         "plan" => {
             let count = line.number("a count of steps", MAX_STEPS)?;
             line.number("a cost", u32::MAX as usize)?;
-            plan.steps = counted(line, store, count)?;
+            lists.steps = counted(line, store, count)?;
         }
         "refused" => {
             let number = line.number("a refusal's number", 31)?;

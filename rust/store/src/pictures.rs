@@ -3,7 +3,7 @@
 use crate::commands::{refused, Call, Outcome};
 use crate::outcome::{complain, Failure};
 use crate::picture::{causal, chart, dot, graphviz, values, Picture};
-use crate::show;
+use crate::show::{self, Which};
 
 pub fn graph(call: &mut Call) -> Outcome {
     let store = call.store(0)?;
@@ -37,7 +37,8 @@ fn draw(call: &Call, out: usize, picture: Picture) -> Outcome {
 pub fn chart(call: &mut Call) -> Outcome {
     let store = call.store(0)?;
     let plan = call.plan(&store)?;
-    let shown = show::plan(&store, &plan).map_err(|refusal| refused(&store, refusal))?;
+    let shown =
+        show::plan(&store, &plan, Which::All).map_err(|refusal| refused(&store, refusal))?;
     call.put(2, chart::chart(&store, &plan).as_bytes())?;
     shown.fault.map_or(Ok(()), |fault| Err(Failure::No(fault)))
 }

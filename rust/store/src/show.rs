@@ -1,6 +1,7 @@
 //! Plans, sheets and newest values in words.
 
 use mardiskos::Judgement;
+use reference::entry::MAX_STEPS;
 use reference::state::{Semantics, State};
 use reference::{Fact, Refusal};
 
@@ -15,9 +16,17 @@ pub struct Shown {
     pub fault: Option<String>,
 }
 
+/// Which steps are shown.
+#[derive(Clone, Copy, Debug, PartialEq, Eq)]
+pub enum Which {
+    All,
+    /// Those that are not inserted moves.
+    Relaxed,
+}
+
 /// The plan, one step a line, behind a line of its count, cost and verdict, and of the path searches if it
 /// was repaired here.
-pub fn plan(store: &Store, plan: &Plan) -> Result<Shown, Refusal> {
+pub fn plan(store: &Store, plan: &Plan, which: Which) -> Result<Shown, Refusal> {
     let judged = judge(&store.record(), &plan.steps)?;
     let (verdict, runs) = (verdict(judged.real.is_plan), running(judged.real.steps));
     let (count, cost) = (steps(plan.steps.len()), plan.cost(store));
@@ -26,7 +35,7 @@ pub fn plan(store: &Store, plan: &Plan) -> Result<Shown, Refusal> {
         format!("{count}, cost {cost}, {verdict}: {runs}{}\n", searches.unwrap_or_default());
     let fault = red_black_fault(store, plan, &judged);
     text += &fault.iter().map(|fault| format!("{fault}\n")).collect::<String>();
-    text += &step_lines(store, plan);
+    text += &step_lines(store, plan, which);
     if !judged.real.is_plan {
         text += &format!("real run: {}\n", trouble(store, &plan.steps, &Semantics::real()));
     }
@@ -57,23 +66,22 @@ pub fn newest(store: &Store, list: &[u16]) -> Result<String, Refusal> {
 }
 
 /// A sheet without a store: the numbers of its steps.
-pub fn sheet(sheet: &Sheet) -> String {
-    let digits = digits(sheet.steps.len());
-    let numbered = sheet.steps.iter().enumerate();
-    let lines = numbered.map(|(step, action)| format!("{step:digits$}  action {action}\n"));
-    std::iter::once(sheet_head(sheet)).chain(lines).collect()
+pub fn sheet(sheet: &Sheet, which: Which) -> String {
+    sheet_head(sheet)
+        + &lines(&Plan::on(sheet), which, |number| (format!("action {number}"), String::new()))
 }
 
 fn sheet_head(sheet: &Sheet) -> String {
     let (count, verdict) = (steps(sheet.steps.len()), verdict(sheet.real));
-    format!("sheet: {count}, cost {}, {verdict}\n", sheet.cost)
+    let edition = if sheet.edition == 1 { "1, without marks" } else { "2" };
+    format!("sheet of edition {edition}: {count}, cost {}, {verdict}\n", sheet.cost)
 }
 
 /// A sheet in a store: its steps with names, and what the judge says of them there.
-pub fn sheet_in(store: &Store, sheet: &Sheet) -> Result<Shown, Refusal> {
+pub fn sheet_in(store: &Store, sheet: &Sheet, which: Which) -> Result<Shown, Refusal> {
     let judged = judge(&store.record(), &sheet.steps)?;
-    let plan = Plan::known(store, sheet.steps.clone());
-    let mut text = sheet_head(sheet) + &step_lines(store, &plan);
+    let plan = Plan::on(sheet);
+    let mut text = sheet_head(sheet) + &step_lines(store, &plan, which);
     text += &format!("judge: cost {}, {}\n", plan.cost(store), verdicts(&judged));
     if !judged.real.is_plan {
         text += &format!("real run: {}\n", trouble(store, &plan.steps, &Semantics::real()));
@@ -90,7 +98,27 @@ fn contradiction(store: &Store, sheet: &Sheet, judged: &Judgement) -> Option<Str
         return Some(format!("the sheet says cost {}, its steps cost {cost}", sheet.cost));
     }
     let (said, is) = (verdict(sheet.real), verdict(judged.real.is_plan));
-    (said != is).then(|| format!("the sheet says {said}, its steps are {is}"))
+    if said != is {
+        return Some(format!("the sheet says {said}, its steps are {is}"));
+    }
+    misfit(store, sheet).map(str::to_owned)
+}
+
+/// Marks that are not those of the repair, where the painting is accepted.
+fn misfit(store: &Store, sheet: &Sheet) -> Option<&'static str> {
+    if sheet.edition == 1 {
+        return None;
+    }
+    match library::repair(&store.record(), &sheet.unmarked(), MAX_STEPS) {
+        Ok(plan) if (&plan.steps, &plan.marks) == (&sheet.steps, &sheet.marks) => None,
+        Ok(_) => {
+            Some("the sheet's marks do not fit: the repair of its other steps is another plan")
+        }
+        Err(Refusal { number: 9, .. }) => {
+            Some("the sheet's marks do not fit: its other steps are no relaxed plan")
+        }
+        Err(_) => None,
+    }
 }
 
 fn verdicts(judged: &Judgement) -> String {
@@ -111,22 +139,35 @@ fn verdict(real: bool) -> &'static str {
     }
 }
 
-fn step_lines(store: &Store, plan: &Plan) -> String {
-    let actions = || plan.steps.iter().map(|&number| &store.actions[number as usize]);
-    let width = actions().map(|action| action.name.chars().count()).max().unwrap_or(0);
-    let digits = digits(plan.steps.len());
-    let inserted = plan.inserted().unwrap_or_else(|| vec![false; plan.steps.len()]);
-    let steps = actions().zip(inserted).enumerate();
-    let lines = steps.map(|(step, (action, inserted))| {
-        let mark = if inserted { "  (inserted)" } else { "" };
-        let line = format!("{step:digits$}  {:width$}  ", action.name);
-        format!("{}\n", (line + &store.facts(&action.sets) + mark).trim_end())
-    });
-    lines.collect()
+/// The steps with the names of their actions and what these set.
+fn step_lines(store: &Store, plan: &Plan, which: Which) -> String {
+    lines(plan, which, |number| {
+        let action = &store.actions[number as usize];
+        (action.name.clone(), store.facts(&action.sets))
+    })
 }
 
-fn digits(steps: usize) -> usize {
-    steps.saturating_sub(1).to_string().len()
+/// A line for each step: its number in the plan, two words for its action, and whether it is inserted. Where inserted
+/// moves are left out, a line before these says how many.
+fn lines(plan: &Plan, which: Which, words: impl Fn(u16) -> (String, String)) -> String {
+    let left_out = |step: &usize| which == Which::Relaxed && plan.is_inserted(*step);
+    let shown: Vec<usize> = (0..plan.steps.len()).filter(|step| !left_out(step)).collect();
+    let words = |step: usize| words(plan.steps[step]);
+    let width = shown.iter().map(|&step| words(step).0.chars().count()).max().unwrap_or(0);
+    let digits = plan.steps.len().saturating_sub(1).to_string().len();
+    let line = |step: usize| {
+        let (name, sets) = words(step);
+        let mark = if plan.is_inserted(step) { "  (inserted)" } else { "" };
+        let line = format!("{step:digits$}  {name:width$}  {sets}");
+        format!("{}\n", (line.trim_end().to_owned() + mark))
+    };
+    let lines: String = shown.iter().map(|&step| line(step)).collect();
+    match which {
+        Which::All => lines,
+        Which::Relaxed => {
+            format!("{} left out\n{lines}", counted(plan.inserted(), "inserted move"))
+        }
+    }
 }
 
 pub fn steps(count: usize) -> String {

@@ -7,6 +7,7 @@ use crate::commands::{refused, Call, Outcome};
 use crate::library::{self, Sheet};
 use crate::outcome::Failure;
 use crate::plan::Plan;
+use crate::show::Which;
 use crate::{explain, names, show, text};
 
 pub fn record(call: &mut Call) -> Outcome {
@@ -29,7 +30,8 @@ pub fn as_text(call: &mut Call) -> Outcome {
 pub fn plan(call: &mut Call) -> Outcome {
     let store = call.store(0)?;
     let plan = call.plan(&store)?;
-    call.show(&store, show::plan(&store, &plan))
+    let which = call.which(&plan, "the list does not tell its inserted moves")?;
+    call.show(&store, show::plan(&store, &plan, which))
 }
 
 pub fn newest(call: &mut Call) -> Outcome {
@@ -44,17 +46,22 @@ pub fn newest(call: &mut Call) -> Outcome {
 pub fn repair(call: &mut Call) -> Outcome {
     let store = call.store(0)?;
     let relaxed = call.list(1, &store)?.steps;
-    let repaired = Plan::repair(&store, relaxed.clone()).map_err(|refusal| {
+    let repaired = Plan::repair(&store, &relaxed).map_err(|refusal| {
         Failure::Refused(refusal, explain::in_words(&store, refusal, Some(&relaxed)))
     })?;
-    call.show(&store, show::plan(&store, &repaired))
+    let which = if call.has("--relaxed") { Which::Relaxed } else { Which::All };
+    call.show(&store, show::plan(&store, &repaired, which))
 }
+
+/// The edition that sheets are written in.
+const EDITION: u32 = 2;
 
 pub fn sheet(call: &mut Call) -> Outcome {
     let store = call.store(0)?;
     let planned =
         library::plan(&store.record(), MAX_STEPS).map_err(|refusal| refused(&store, refusal))?;
-    let sheet = Sheet { steps: planned.steps, cost: planned.cost, real: planned.real };
+    let mardiskos::Plan { steps, marks, cost, real, .. } = planned;
+    let sheet = Sheet { steps, marks, edition: EDITION, cost, real };
     let bytes = library::write_sheet(&sheet).map_err(|refusal| refused(&store, refusal))?;
     call.put(1, &bytes)
 }
@@ -63,11 +70,12 @@ pub fn read(call: &mut Call) -> Outcome {
     let bytes = call.files.bytes(call.arguments[0])?;
     let sheet = library::read_sheet(&bytes)
         .map_err(|refusal| Failure::Refused(refusal, explain::sheet::in_words(&bytes, refusal)))?;
+    let which = call.which(&Plan::on(&sheet), "a sheet of edition 1 has no marks")?;
     if call.arguments.len() == 1 {
-        return call.files.print(show::sheet(&sheet).as_bytes());
+        return call.files.print(show::sheet(&sheet, which).as_bytes());
     }
     let store = call.store(1)?;
-    let shown = show::sheet_in(&store, &sheet).map_err(|refusal| {
+    let shown = show::sheet_in(&store, &sheet, which).map_err(|refusal| {
         Failure::Refused(refusal, explain::in_words(&store, refusal, Some(&sheet.steps)))
     })?;
     call.show(&store, Ok(shown))

@@ -4,7 +4,7 @@ mod common;
 
 use common::{example, path, EXAMPLES};
 use store::plan::Plan;
-use store::show;
+use store::show::{self, Which};
 
 #[test]
 fn each_text_gives_the_bytes_of_the_record_beside_it() {
@@ -35,7 +35,7 @@ fn two_shelves_shows_its_inserted_move() {
 2  drive-back  carriage = shelf-0  (inserted)
 3  put-down    box = shelf-0
 ";
-    assert_eq!(show::plan(&store, &plan).unwrap().text, expected);
+    assert_eq!(show::plan(&store, &plan, Which::All).unwrap().text, expected);
 }
 
 #[test]
@@ -49,7 +49,7 @@ fn the_cheaper_way_out_is_taken() {
 2  drive-back  carriage = shelf-0  (inserted)
 3  put-down    box = shelf-0
 ";
-    assert_eq!(show::plan(&store, &plan).unwrap().text, expected);
+    assert_eq!(show::plan(&store, &plan, Which::All).unwrap().text, expected);
 }
 
 #[test]
@@ -66,7 +66,7 @@ fn drives_set_the_gate_shut_again() {
 5  drive-back  gate = shut, carriage = home  (inserted)
 6  open        gate = open  (inserted)
 ";
-    assert_eq!(show::plan(&store, &plan).unwrap().text, expected);
+    assert_eq!(show::plan(&store, &plan, Which::All).unwrap().text, expected);
 }
 
 #[test]
@@ -81,7 +81,7 @@ fn the_cheaper_way_back_is_taken() {
 3  up     carriage = ramp  (inserted)
 4  leave  carriage = door  (inserted)
 ";
-    assert_eq!(show::plan(&store, &plan).unwrap().text, expected);
+    assert_eq!(show::plan(&store, &plan, Which::All).unwrap().text, expected);
 }
 
 #[test]
@@ -97,8 +97,8 @@ fn path_searches_are_told() {
 4  go-up       lift = up  (inserted)
 5  switch-off  switch = off  (inserted)
 ";
-    assert_eq!(show::plan(&store, &plan).unwrap().text, expected);
-    let list = show::plan(&store, &Plan::list(plan.steps)).unwrap().text;
+    assert_eq!(show::plan(&store, &plan, Which::All).unwrap().text, expected);
+    let list = show::plan(&store, &Plan::list(plan.steps), Which::All).unwrap().text;
     assert!(list.starts_with("6 steps, cost 11, real: 6 steps run\n"), "{list}");
 }
 
@@ -112,14 +112,14 @@ fn tray_says_why_it_is_unreal() {
 1  load-2  tray = taken, box-2 = tray
 real run: step 1, load-2, needs tray = free
 ";
-    assert_eq!(show::plan(&store, &plan).unwrap().text, expected);
+    assert_eq!(show::plan(&store, &plan, Which::All).unwrap().text, expected);
 }
 
 #[test]
 fn goal_met_has_no_steps() {
     let store = example("goal-met");
     let plan = Plan::find(&store).unwrap();
-    let shown = show::plan(&store, &plan).unwrap();
+    let shown = show::plan(&store, &plan, Which::All).unwrap();
     assert_eq!(shown.text, "0 steps, cost 0, real: 0 steps run, 0 path searches\n");
     assert_eq!(shown.fault, None);
 }

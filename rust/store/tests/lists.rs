@@ -6,12 +6,13 @@ use common::{example, Folder};
 use reference::Refusal;
 use store::list::{read, Listed};
 use store::plan::Plan;
-use store::{parse, show, Store};
+use store::show::{self, Which};
+use store::{parse, Store};
 
 fn plan(text: &str, store: &Store) -> Plan {
     match read(text, store).unwrap() {
         Listed::Plan(plan) => plan,
-        Listed::Refused(refusal) => panic!("{refusal:?}"),
+        other => panic!("{other:?}"),
     }
 }
 
@@ -22,6 +23,30 @@ fn listings_are_read() {
     let found = Plan { searches: None, ..Plan::find(&store).unwrap() };
     assert_eq!(plan(listing, &store), found, "a listing has no path searches");
     assert_eq!(read("refused 11 3\n", &store), Ok(Listed::Refused(Refusal::new(11, 3))));
+    assert_eq!(read("relaxed 1 3\nplan 2 8 0 1\n", &store), Ok(Listed::Apart));
+}
+
+#[test]
+fn inserted_moves_are_left_out() {
+    let folder = Folder::with(&["lift.store"]);
+    let expected = "\
+6 steps, cost 11, real: 6 steps run, 6 path searches
+3 inserted moves left out
+0  switch-on  switch = on
+1  go-up      lift = up
+3  load       crate = loaded
+";
+    let (status, out, error) = folder.run("store plan lift.store --relaxed");
+    assert_eq!((status, error.as_str()), (0, ""));
+    assert_eq!(out, expected);
+    assert_eq!(folder.run("echo 0 2 4 | store repair --relaxed lift.store -").1, expected);
+    let listing = "printf 'relaxed 3 0 2 4\\nplan 6 11 0 2 3 4 2 1\\n'";
+    let (status, out, _) = folder.run(&format!("{listing} | store plan --relaxed lift.store -"));
+    assert_eq!((status, out), (0, expected.replace(", 6 path searches", "")));
+    let (status, out, error) = folder.run("echo 0 2 | store plan --relaxed lift.store -");
+    let reason = "--relaxed has nothing to go by: the list does not tell its inserted moves";
+    assert_eq!((status, out, error), (2, String::new(), format!("store: {reason}\n")));
+    assert_eq!(folder.run("store chart --relaxed lift.store").0, 2);
 }
 
 #[test]
@@ -37,7 +62,7 @@ fn names_and_numbers_with_blanks_or_commas() {
     for text in texts {
         let read = plan(text, &store);
         assert_eq!(read, Plan::list(vec![0, 2, 1, 3]), "{text}");
-        assert_eq!(read.inserted(), Some(vec![false; 4]));
+        assert_eq!((read.marks.as_ref(), read.inserted()), (None, 0));
     }
     assert_eq!(plan("# none", &store).steps, []);
 }
@@ -84,7 +109,7 @@ fn names_that_could_be_something_else() {
 #[test]
 fn a_list_that_is_no_plan() {
     let store = example("two-shelves");
-    let shown = |text: &str| show::plan(&store, &plan(text, &store)).unwrap();
+    let shown = |text: &str| show::plan(&store, &plan(text, &store), Which::All).unwrap();
     let unrepaired = "\
 3 steps, cost 6, unreal: 2 steps run
 not a red-black plan: step 2, put-down, needs carriage = shelf-0

@@ -34,6 +34,7 @@ fn what_the_readme_shows_is_what_comes_out() {
     let blocks = blocks(&readme());
     let folder = Folder::new();
     folder.write("shop.store", &blocks[0]);
+    folder.write("lift.store", fs::read(common::path("lift", "store")).unwrap());
     let mut run = 0;
     for block in blocks.iter().filter(|block| block.starts_with("$ ")) {
         for call in block.split("$ ").skip(1) {

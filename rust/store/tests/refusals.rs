@@ -371,9 +371,10 @@ fn entries_of_lists() {
 }
 
 /// The sheet of two shelves.
-fn sheet() -> Vec<u8> {
-    let sheet = write_sheet(&Sheet { steps: vec![0, 2, 1, 3], cost: 10, real: true }).unwrap();
-    assert_eq!(sheet.len(), 12);
+fn sheet(edition: u32) -> Vec<u8> {
+    let (steps, marks) = (vec![0, 2, 1, 3], vec![0, 0, 1, 0]);
+    let sheet = write_sheet(&Sheet { steps, marks, edition, cost: 10, real: true }).unwrap();
+    assert_eq!(sheet.len(), 11 + edition as usize);
     sheet
 }
 
@@ -386,31 +387,43 @@ fn of_sheet_bytes(bytes: &[u8]) -> (u32, String) {
 
 #[test]
 fn sheets_cut_short() {
-    for (bytes, place, field, has) in [
-        (0, 0, "the edition", "0 bytes, 0 bits"),
-        (1, 5, "the count of steps", "1 byte, 8 bits"),
-        (4, 21, "the cost", "4 bytes, 32 bits"),
-        (7, 53, "step 0", "7 bytes, 56 bits"),
-        (9, 63, "step 1", "9 bytes, 72 bits"),
+    for (edition, bytes, place, field, has) in [
+        (1, 0, 0, "the edition", "0 bytes, 0 bits"),
+        (1, 1, 5, "the count of steps", "1 byte, 8 bits"),
+        (1, 4, 21, "the cost", "4 bytes, 32 bits"),
+        (1, 7, 53, "step 0", "7 bytes, 56 bits"),
+        (1, 9, 63, "step 1", "9 bytes, 72 bits"),
+        (2, 4, 21, "the cost", "4 bytes, 32 bits"),
+        (2, 7, 54, "step 0", "7 bytes, 56 bits"),
+        (2, 8, 64, "the mark of step 1", "8 bytes, 64 bits"),
+        (2, 9, 65, "step 1", "9 bytes, 72 bits"),
+        (2, 12, 87, "step 3", "12 bytes, 96 bits"),
     ] {
         let words = format!("the sheet ends inside or before {field} at bit {place}: it has {has}");
-        assert_eq!(of_sheet_bytes(&sheet()[..bytes]), (place, words));
+        assert_eq!(of_sheet_bytes(&sheet(edition)[..bytes]), (place, words));
     }
 }
 
 #[test]
 fn sheets_with_a_fault() {
-    let with = |at, width, value| of_sheet_bytes(&with_field(sheet(), at, width, value));
-    let edition = "the edition (bits 0 to 3) is 3; it must be 1";
+    let with = |at, width, value| of_sheet_bytes(&with_field(sheet(1), at, width, value));
+    let edition = "the edition (bits 0 to 3) is 3; it must be 1 or 2";
     assert_eq!(with(0, 4, 3), (0, edition.to_owned()));
     let steps = "the count of steps (bits 5 to 20) is 32,769; it must be 32,768 at most";
     assert_eq!(with(5, 16, 32_769), (5, steps.to_owned()));
     let padding = "behind the last step the bits 93 to 95 must be 0";
     assert_eq!(with(95, 1, 1), (93, padding.to_owned()));
-    let longer = [sheet(), vec![0]].concat();
+    let longer = [sheet(1), vec![0]].concat();
     let behind =
         "its steps end before bit 93, so the sheet has 12 bytes; it has 13 bytes, 104 bits";
     assert_eq!(of_sheet_bytes(&longer), (93, behind.to_owned()));
+    let padding = "behind the last step the bits 97 to 103 must be 0";
+    let padded = with_field(sheet(2), 97, 7, 1);
+    assert_eq!(of_sheet_bytes(&padded), (97, padding.to_owned()));
+    let longer = [sheet(2), vec![0, 0]].concat();
+    let behind =
+        "its steps end before bit 97, so the sheet has 13 bytes; it has 15 bytes, 120 bits";
+    assert_eq!(of_sheet_bytes(&longer), (97, behind.to_owned()));
 }
 
 #[test]

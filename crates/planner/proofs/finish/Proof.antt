@@ -1,5 +1,4 @@
-use lib.ListN.{length}
-use Rattle.planner.proofs.Settled.{finished, blanked}
+use Rattle.planner.proofs.Settled.{list-finished, area-finished}
 use borrow.Author.Needs.{needs}
 use Rattle.planner.proofs.finish.Statement.{statement}
 use Rattle.planner.proofs.finish.Tie as tie
@@ -10,8 +9,8 @@ steps-of-requires c κs = tt
 blank-from-requires : tie.Need-blank-from-requires
 blank-from-requires c κs = tt
 
-blank-requires : tie.Need-blank-requires
-blank-requires c κs = tt
+clear-from-requires : tie.Need-clear-from-requires
+clear-from-requires c κs = tt
 
 same-length : tie.Need-same-length
 same-length c = search needs
@@ -23,11 +22,9 @@ returns : tie.Need-returns
 returns c =
     let at-blank-from = c .before .before .before .before .before .before in
     let at-start = at-blank-from .before .before .before .before .before in
-    let a = at-start .args in (
-      finished (a .answer) (at-blank-from .before .steps-of .result) (a .plan .now) _ (at-blank-from .before .steps-of .ensures)
-          (at-blank-from .blank-from .ensures),
-      blanked (length (a .work .now)) _ (c .before .before .blank .ensures),
-    )
+    let a = at-start .args in
+    let n = at-blank-from .before .before .steps-of .ensures in
+    (list-finished (a .answer) _ (a .plan .now) _ n (at-blank-from .blank-from .ensures), area-finished (a .answer) _ (a .marks .now) _ n (c .before .before .clear-from .ensures))
 
 pub finish-spec : {M : Type 1} → statement M
 finish-spec =
@@ -35,7 +32,7 @@ finish-spec =
     (tie.spec
     steps-of-requires
     blank-from-requires
-    blank-requires
+    clear-from-requires
     same-length
     same-length-2
     returns)

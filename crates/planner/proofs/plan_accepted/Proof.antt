@@ -14,7 +14,8 @@ slice-aggregate-load c = search needs
 
 load-requires : tie.Need-load-requires
 load-requires c κs =
-    (c .before .before .before .before .before .before .before .pre, room-enough _ _ (c .before .before .is-short .result) true (c .before .before .is-short .ensures) (c .before .if1 .taken) refl)
+    let d = c .before .before in
+    (d .before .before .before .before .before .before .pre, room-enough _ _ (d .is-short .result) true (d .is-short .ensures) (c .before .if1 .taken) refl)
 
 slice-aggregate-plan-loaded : tie.Need-slice-aggregate-plan-loaded
 slice-aggregate-plan-loaded c = search needs
@@ -25,18 +26,22 @@ plan-loaded-requires c κs = search needs
 same-length : tie.Need-same-length
 same-length c = search needs
 
+same-length-2 : tie.Need-same-length-2
+same-length-2 c = search needs
+
 returns : tie.Need-returns
 returns c =
-    let at-load = c .before .before .before .before .before .before .before in
-    let at-start = at-load .before .before .before .before .before .before .before .before in
-    called (at-start .args .given) (at-start .args .bytes .now) _ (at-load .load .ensures .1) _ _ _ _ (at-start .pre) (c .before .before .before .plan-loaded .ensures)
+    let at-load = c .before .before .before .before .before .before .before .before .before .before in
+    let at-start = at-load .before .before .before .before .before .before .before .before .before in
+    called (at-start .args .given) (at-start .args .bytes .now) _ (at-load .load .ensures .1) _ _ _ _ _ (at-start .pre) (c .before .before .before .before .before .plan-loaded .ensures)
 
 slice-aggregate-load-2 : tie.Need-slice-aggregate-load-2
 slice-aggregate-load-2 c = search needs
 
 load-requires-2 : tie.Need-load-requires-2
 load-requires-2 c κs =
-    (c .before .before .before .before .before .before .before .pre, room-enough _ _ (c .before .before .is-short .result) false (c .before .before .is-short .ensures) (c .before .if1 .left) refl)
+    let d = c .before .before in
+    (d .before .before .before .before .before .before .pre, room-enough _ _ (d .is-short .result) false (d .is-short .ensures) (c .before .if1 .left) refl)
 
 slice-aggregate-plan-loaded-2 : tie.Need-slice-aggregate-plan-loaded-2
 slice-aggregate-plan-loaded-2 c = search needs
@@ -44,14 +49,17 @@ slice-aggregate-plan-loaded-2 c = search needs
 plan-loaded-requires-2 : tie.Need-plan-loaded-requires-2
 plan-loaded-requires-2 c κs = search needs
 
-same-length-2 : tie.Need-same-length-2
-same-length-2 c = search needs
+same-length-3 : tie.Need-same-length-3
+same-length-3 c = search needs
+
+same-length-4 : tie.Need-same-length-4
+same-length-4 c = search needs
 
 returns-2 : tie.Need-returns-2
 returns-2 c =
-    let at-load = c .before .before .before .before .before .before .before in
-    let at-start = at-load .before .before .before .before .before .before .before .before in
-    called (at-start .args .given) (at-start .args .bytes .now) _ (at-load .load2 .ensures .1) _ _ _ _ (at-start .pre) (c .before .before .before .plan-loaded2 .ensures)
+    let at-load = c .before .before .before .before .before .before .before .before .before .before in
+    let at-start = at-load .before .before .before .before .before .before .before .before .before in
+    called (at-start .args .given) (at-start .args .bytes .now) _ (at-load .load2 .ensures .1) _ _ _ _ _ (at-start .pre) (c .before .before .before .before .before .plan-loaded2 .ensures)
 
 pub plan-accepted-spec : {M : Type 1} → statement M
 plan-accepted-spec =
@@ -63,10 +71,12 @@ plan-accepted-spec =
     slice-aggregate-plan-loaded
     plan-loaded-requires
     same-length
+    same-length-2
     returns
     slice-aggregate-load-2
     load-requires-2
     slice-aggregate-plan-loaded-2
     plan-loaded-requires-2
-    same-length-2
+    same-length-3
+    same-length-4
     returns-2)

@@ -24,7 +24,7 @@ same-length c = search needs
 
 -- the points of the code, from the last to the first
 abbrev prepare-to-start : tie.After-prepare → tie.Start
-prepare-to-start c = c .before .before .before .before .before .before
+prepare-to-start c = c .before .before .before .before .before .before .before
 
 abbrev told-to-prepare : tie.After-enum-told → tie.After-prepare
 told-to-prepare c = c .before .before .before .before
@@ -37,12 +37,12 @@ unfolding paintingCheck
 returns c =
     let at-told = c .before in
     let at-prepare = told2-to-prepare at-told in
-    drafted-stop (taskIn (prepare-to-start at-prepare .args .task .now)) _ _ _ _ _ _
+    drafted-stop (taskIn (prepare-to-start at-prepare .args .task .now)) _ _ _ _ _ _ _
     (refused-by _ _ _ _ (at-told .enum-told2 .given .1) (c .refusal-in .ensures) (at-prepare .prepare .ensures .answer))
 
 plan-prepared-requires : tie.Need-plan-prepared-requires
 plan-prepared-requires c κs =
-    let at-told = c .before .before in
+    let at-told = c .before .before .before in
     told-to-prepare at-told .prepare .ensures .prepared (passed-by _ _ (at-told .enum-told .given .1) refl)
 
 same-length-2 : tie.Need-same-length-2
@@ -51,14 +51,17 @@ same-length-2 c = search needs
 same-length-3 : tie.Need-same-length-3
 same-length-3 c = search needs
 
+same-length-4 : tie.Need-same-length-4
+same-length-4 c = search needs
+
 returns-2 : tie.Need-returns-2
 unfolding paintingCheck
 returns-2 c =
-    let at-told = c .before .before .before .before .before in
+    let at-told = c .before .before .before .before .before .before .before .before in
     let at-prepare = told-to-prepare at-told in
     let a = prepare-to-start at-prepare .args in
-    painted (a .given) (taskIn (a .task .now)) _ (at-prepare .prepare .ensures .same) _ _ _ _
-    (passed-by _ _ (at-told .enum-told .given .1) (at-prepare .prepare .ensures .answer)) (c .before .before .plan-prepared .ensures)
+    painted (a .given) (taskIn (a .task .now)) _ (at-prepare .prepare .ensures .same) _ _ _ _ _
+    (passed-by _ _ (at-told .enum-told .given .1) (at-prepare .prepare .ensures .answer)) (c .before .before .before .before .plan-prepared .ensures)
 
 pub plan-loaded-spec : {M : Type 1} → statement M
 plan-loaded-spec =
@@ -73,4 +76,5 @@ plan-loaded-spec =
     plan-prepared-requires
     same-length-2
     same-length-3
+    same-length-4
     returns-2)

@@ -1,11 +1,7 @@
 -- On each branch the checks of its relaxed plan pass, and it is repaired, or its refusal is handed on.
-use mathlib.Core.Path.{_≡_, refl, sym, ap, _∙_, subst}
-use mathlib.Core.Bool.{true}
+use mathlib.Core.Path.{refl, sym, ap, _∙_, subst}
 use native.Mathlib.Omega.{arith}
-use lib.ListN.{length}
 use lib.Seq.{length-take-le}
-use Rattle.planning.specs.Basics.{inOrder}
-use Rattle.planning.specs.Relaxed.{relaxedPlan}
 use Rattle.planning.proofs.Achievers.{relaxedPlan-is-plan}
 use Rattle.planning.proofs.Calls.{relaxedCheck-none}
 use Rattle.planning.proofs.Checks.{inOrder-passed}
@@ -23,7 +19,7 @@ abbrev own-of : tie.After-known-told → tie.Else1
 own-of c = c .before .before .before .before .before
 
 abbrev start-of : tie.Else1 → tie.Start
-start-of c = c .before .before .before .before .before
+start-of c = c .before .before .before .before .before .before
 
 check-relaxed-requires : tie.Need-check-relaxed-requires
 check-relaxed-requires c κs = search needs
@@ -39,31 +35,36 @@ refusal-of-requires c κs = search needs
 
 returns : tie.Need-returns
 returns c =
-    let t = taskIn (c .before .before .before .before .before .before .before .before .before .args .task .now) in
+    let d = c .before .before .before .before in
+    let a = d .before .before .before .before .before .before .args in
+    let t = taskIn (a .task .now) in
     let told = handed-on _ _ _ _ _ (c .before .enum-told2 .given .1) (c .refusal-of .ensures) (c .before .before .before .check-relaxed .ensures) in
-    drafted-stop t _ _ _ _ _ _ (given-check t (c .before .before .before .before .before .before .before .before .before .args .list .now) _ (c .before .before .before .before .if1 .taken) ∙ told)
+    drafted-stop t _ _ _ _ _ _ _ (given-check t (a .list .now) _ (d .if1 .taken) ∙ told)
 
 draft-requires : tie.Need-draft-requires
 draft-requires c κs =
-    let t = taskIn (c .before .before .before .before .before .before .before .before .before .args .task .now) in
-    let p = passed _ _ _ _ (c .before .enum-told .given .1) (c .before .before .before .check-relaxed .ensures) .0 in (
-      c .before .before .before .before .before .before .before .before .before .pre,
+    let t = taskIn (c .before .before .before .before .before .before .before .before .before .before .before .args .task .now) in
+    let p = passed _ _ _ _ (c .before .before .enum-told .given .1) (c .before .before .before .before .check-relaxed .ensures) .0 in (
+      c .before .before .before .before .before .before .before .before .before .before .before .pre,
       relaxedCheck-none t
-          (c .before .before .before .before .before .before .before .before .before .args .list .now) (inOrder-passed _ p .1 .0),
+          (c .before .before .before .before .before .before .before .before .before .before .before .args .list .now) (inOrder-passed _ p .1 .0),
     )
 
 same-length : tie.Need-same-length
 same-length c = search needs
 
+same-length-2 : tie.Need-same-length-2
+same-length-2 c = search needs
+
 returns-2 : tie.Need-returns-2
 returns-2 c =
-    let d = c .before .before .before .before in
+    let d = c .before .before .before .before .before .before .before in
     let g = d .before .before .before in
-    let a = g .before .before .before .before .before .args in
+    let a = g .before .before .before .before .before .before .args in
     let t = taskIn (a .task .now) in
     let l = a .list .now in
     let p = passed _ _ _ _ (d .enum-told .given .1) (d .before .before .check-relaxed .ensures) .0 in
-    sourced t l _ _ _ _ _ (given-source t l _ (g .if1 .taken)) (given-check t l _ (g .if1 .taken) ∙ p) (c .before .before .draft .ensures)
+    sourced t l _ _ _ _ _ _ (given-source t l _ (g .if1 .taken)) (given-check t l _ (g .if1 .taken) ∙ p) (c .before .before .before .before .draft .ensures)
 
 relaxed-plan-requires : tie.Need-relaxed-plan-requires
 relaxed-plan-requires c κs = search needs
@@ -85,7 +86,7 @@ returns-3 c =
     let e = c .before .enum-told3 .given .1 in
     let U = subst (KeptOf t (c .before .before .before .relaxed-plan .last .1 .0)) e (c .before .before .before .relaxed-plan .ensures) in
     let told = unfound-check t _ U in
-    drafted-stop t _ _ _ _ _ _ (own-check t (a .list .now) _ (o .if1 .left) ∙ told ∙ rw (c .refusal-of2 .ensures ∙ ap refusalOf e) refl)
+    drafted-stop t _ _ _ _ _ _ _ (own-check t (a .list .now) _ (o .if1 .left) ∙ told ∙ rw (c .refusal-of2 .ensures ∙ ap refusalOf e) refl)
 
 found : (c : tie.After-known-told) → Found (taskIn (start-of (own-of c) .args .task .now)) (c .before .before .before .relaxed-plan .last .1 .0) (c .before .k .given .0 .0)
 found c =
@@ -103,21 +104,24 @@ slice-aggregate-draft c = sym (length-take-le _ _ (omega (arith, found (c .befor
 
 draft-requires-2 : tie.Need-draft-requires-2
 draft-requires-2 c κs =
-    let s = start-of (own-of (c .before .before)) in
-    let F = found (c .before .before) in
+    let s = start-of (own-of (c .before .before .before)) in
+    let F = found (c .before .before .before) in
     (s .pre, rw (F .front .list) (relaxedPlan-is-plan (taskIn (s .args .task .now)) (s .pre .loaded .formed) (F .solved)))
 
-same-length-2 : tie.Need-same-length-2
-same-length-2 c = search needs
+same-length-3 : tie.Need-same-length-3
+same-length-3 c = search needs
+
+same-length-4 : tie.Need-same-length-4
+same-length-4 c = search needs
 
 returns-4 : tie.Need-returns-4
 returns-4 c =
-    let F = found (c .before .before .before .before .before) in
-    let o = own-of (c .before .before .before .before .before) in
+    let F = found (c .before .before .before .before .before .before .before .before) in
+    let o = own-of (c .before .before .before .before .before .before .before .before) in
     let a = start-of o .args in
     let t = taskIn (a .task .now) in
     let l = a .list .now in
-    sourced t l _ _ _ _ _ (F .front .list ∙ own-source t l _ (o .if1 .left)) (own-check t l _ (o .if1 .left) ∙ found-check t (F .solved)) (c .before .before .draft2 .ensures)
+    sourced t l _ _ _ _ _ _ (F .front .list ∙ own-source t l _ (o .if1 .left)) (own-check t l _ (o .if1 .left) ∙ found-check t (F .solved)) (c .before .before .before .before .draft2 .ensures)
 
 pub plan-prepared-spec : {M : Type 1} → statement M
 plan-prepared-spec =
@@ -130,6 +134,7 @@ plan-prepared-spec =
     returns
     draft-requires
     same-length
+    same-length-2
     returns-2
     relaxed-plan-requires
     enum-known-k
@@ -140,5 +145,6 @@ plan-prepared-spec =
     array-share-prefix-relaxed
     slice-aggregate-draft
     draft-requires-2
-    same-length-2
+    same-length-3
+    same-length-4
     returns-4)

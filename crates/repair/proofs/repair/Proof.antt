@@ -5,68 +5,74 @@ use Prim.Native.Nat.{_≤_}
 use native.Mathlib.Omega.{arith}
 use lib.ListN.{length}
 use lib.Seq.{length-take-le}
-use Rattle.repair.proofs.Ending.{room-is, room-bounds, front-length, held-front}
+use Rattle.repair.proofs.Ending.{room-is, room-bounds, front-length, area-length, held-front}
 use Rattle.repair.proofs.repair.Statement.{statement}
 use Rattle.repair.proofs.repair.Tie as tie
 
 abbrev start-of : tie.After-capacity → tie.Start
-start-of c = c .before .before .before .before .before .before
+start-of c = c .before .before .before .before .before .before .before .before
 
-bounds : (c : tie.After-capacity) → let a = start-of c .args in (c .capacity .result ≤ length (a .plan .now)) × (c .capacity .result ≤ 32768)
-bounds c = let a = start-of c .args in room-bounds (a .plan .now) (a .work .now) _ _ (c .before .lesser .ensures) (c .capacity .ensures)
+bounds : (c : tie.After-capacity) → let a = start-of c .args in let n = c .capacity .result in (n ≤ length (a .plan .now)) × (n ≤ length (a .marks .now)) × (n ≤ 32768)
+bounds c = let a = start-of c .args in room-bounds (a .plan .now) (a .work .now) (a .marks .now) _ _ _ (c .before .before .lesser .ensures) (c .before .lesser2 .ensures) (c .capacity .ensures)
 
 lesser-requires : tie.Need-lesser-requires
 lesser-requires c κs = search needs
 
+lesser-requires-2 : tie.Need-lesser-requires-2
+lesser-requires-2 c κs = search needs
+
 capacity-requires : tie.Need-capacity-requires
 capacity-requires c κs = search needs
 
-slice-aggregate-forget : tie.Need-slice-aggregate-forget
-slice-aggregate-forget c = search needs
-
-forget-requires : tie.Need-forget-requires
-forget-requires c κs = search needs
+slice-relend-prefix-repair-from : tie.Need-slice-relend-prefix-repair-from
+slice-relend-prefix-repair-from c = bounds c .0
 
 slice-aggregate-repair-from : tie.Need-slice-aggregate-repair-from
-slice-aggregate-repair-from c = search needs
+slice-aggregate-repair-from c = sym (length-take-le _ _ (bounds (c .before) .0))
 
-slice-relend-prefix-repair-from : tie.Need-slice-relend-prefix-repair-from
-slice-relend-prefix-repair-from c = bounds (c .before .before .before .before) .0
+slice-relend-prefix-repair-from-2 : tie.Need-slice-relend-prefix-repair-from-2
+slice-relend-prefix-repair-from-2 c = bounds (c .before) .1
 
 slice-aggregate-repair-from-2 : tie.Need-slice-aggregate-repair-from-2
-slice-aggregate-repair-from-2 c = sym (length-take-le _ _ (bounds (c .before .before .before .before .before) .0))
+slice-aggregate-repair-from-2 c = sym (length-take-le _ _ (bounds (c .before .before) .1))
 
 repair-from-requires : tie.Need-repair-from-requires
 repair-from-requires c κs =
-    let r = c .before .before .before .before .before in
+    let r = c .before .before in
     let p = start-of r .pre in
     let a = start-of r .args in
-    let e = front-length (a .plan .now) (a .work .now) _ _ (r .before .lesser .ensures) (r .capacity .ensures) in
-    (p .0, p .1, c .before .before .before .forget .ensures, omega (arith, e, bounds r .1))
+    let d = length-take-le _ (a .plan .now) (bounds r .0) in
+    let e = length-take-le _ (a .marks .now) (bounds r .1) in
+    (p .0, p .1, omega (arith, d, bounds r .2), e ∙ sym d)
 
 same-length : tie.Need-same-length
 same-length c = search needs
 
+same-length-2 : tie.Need-same-length-2
+same-length-2 c = search needs
+
 returns : tie.Need-returns
 returns c =
-    let f = c .before .before .before in
-    let r = f .before .before .before .before .before .before in
+    let f = c .before .before .before .before in
+    let r = f .before .before .before in
     let a = start-of r .args in
-    let e = front-length (a .plan .now) (a .work .now) _ _ (r .before .lesser .ensures) (r .capacity .ensures) in
-    held-front _ _ _ _ _ (sym (c .before .plan .given .0)) _
-    (e ∙ room-is (a .plan .now) (a .work .now) _ _ (r .before .lesser .ensures) (r .capacity .ensures)) _ (f .repair-from .ensures)
+    let e = front-length (a .plan .now) (a .work .now) (a .marks .now) _ _ _ (r .before .before .lesser .ensures) (r .before .lesser2 .ensures) (r .capacity .ensures) in
+    let m = area-length (a .plan .now) (a .work .now) (a .marks .now) _ _ _ (r .before .before .lesser .ensures) (r .before .lesser2 .ensures) (r .capacity .ensures) in
+    held-front _ _ _ _ _ _ _ (sym (c .before .before .before .plan .given .0)) (sym (c .before .marks .given .0 ∙ m ∙ sym e)) _
+    (e ∙ room-is (a .plan .now) (a .work .now) (a .marks .now) _ _ _ (r .before .before .lesser .ensures) (r .before .lesser2 .ensures) (r .capacity .ensures)) _ (f .repair-from .ensures)
 
 pub repair-spec : {M : Type 1} → statement M
 repair-spec =
     tie.close
     (tie.spec
     lesser-requires
+    lesser-requires-2
     capacity-requires
-    slice-aggregate-forget
-    forget-requires
-    slice-aggregate-repair-from
     slice-relend-prefix-repair-from
+    slice-aggregate-repair-from
+    slice-relend-prefix-repair-from-2
     slice-aggregate-repair-from-2
     repair-from-requires
     same-length
+    same-length-2
     returns)

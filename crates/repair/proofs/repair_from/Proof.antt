@@ -7,28 +7,29 @@ use Prim.Native.Nat.{ℕ, _+_, _-_, _*_, _<_}
 use native.Mathlib.Omega.{arith}
 use lib.ListN.{length, take, drop}
 use Rattle.planning.specs.Basics.{refused}
+use borrow.Author.Tests.{ltb-true}
 use Rattle.planning.specs.Runs.{actions}
 use Rattle.task.specs.Task.{taskIn}
 use Rattle.state.specs.Sets.{valuesOf}
 use Rattle.state.proofs.RedBlack.{step-held}
 use Rattle.repair.proofs.Repairing.{Repairing, repairing-start, repairing-within, repairing-few, repairing-searches, repairing-small, repairing-below, repairing-step}
-use Rattle.repair.proofs.Repairing.{Arranged, repairing-long, repairing-fits, repairing-modest, repairing-turn, stages-fewer, steps-fewer, rest-is, rest-entries}
-use Rattle.repair.proofs.Ending.{repairing-held, held-long}
+use Rattle.repair.proofs.Repairing.{Arranged, repairing-long, repairing-fits, repairing-modest, repairing-places, repairing-turn, stages-fewer, steps-fewer, rest-is, rest-entries}
+use Rattle.repair.proofs.Ending.{repairing-held, held-long, blank-start}
 use Rattle.repair.proofs.repair_from.Statement.{statement}
 use Rattle.repair.proofs.repair_from.Tie as tie
 
 abbrev Inv-loop : tie.InvT-loop
-Inv-loop task memo₀ list plan₀ needs s₀ c₀ n₀ at₀ j₀ memo plan s c n at j = Repairing (taskIn task) list plan₀ plan memo (s .sets) (valuesOf (s .newest .values)) c n at j
+Inv-loop task list plan₀ marks₀ needs memo₀ s₀ c₀ n₀ at₀ j₀ plan marks memo s c n at j = Repairing (taskIn task) list plan₀ plan marks memo (s .sets) (valuesOf (s .newest .values)) c n at j
 
 abbrev μ-loop : tie.MeasureT-loop
-μ-loop task memo₀ list plan₀ needs s₀ c₀ n₀ at₀ j₀ memo plan s c n at j = (length list + 1 - j) * (length plan₀ + 1) + (at - c .steps)
+μ-loop task list plan₀ marks₀ needs memo₀ s₀ c₀ n₀ at₀ j₀ plan marks memo s c n at j = (length list + 1 - j) * (length plan₀ + 1) + (at - c .steps)
 
 -- the points of a turn, from the last to the first
 abbrev start-of : tie.At-loop Inv-loop μ-loop → tie.Start Inv-loop μ-loop
 start-of h = h .before .before .before .before .before .before .before .before
 
 abbrev stage-of : tie.After-plan Inv-loop μ-loop → tie.After-stage Inv-loop μ-loop
-stage-of c = c .before .before .before
+stage-of c = c .before .before
 
 abbrev again-of : tie.After-stage Inv-loop μ-loop → tie.Else2 Inv-loop μ-loop
 again-of c = c .before .before .before .before .before .before .before
@@ -49,7 +50,7 @@ abbrev head-of : tie.After-wide Inv-loop μ-loop → tie.At-loop Inv-loop μ-loo
 head-of c = c .before .before .before
 
 arranged : (c : tie.After-plan Inv-loop μ-loop) → let d = stage-of c in let e = again-of d in let h = e .before .before in let a = start-of h .args in let l = h .loop in
-    Arranged (taskIn (a .task .now)) (a .list .now) (a .plan .now) (l .plan) (l .memo) (l .s .sets) (valuesOf (l .s .newest .values)) (l .c) (l .searched) (l .at) (l .j)
+    Arranged (taskIn (a .task .now)) (a .list .now) (a .plan .now) (l .plan) (l .marks) (l .memo) (l .s .sets) (valuesOf (l .s .newest .values)) (l .c) (l .searched) (l .at) (l .j)
     (take (length (a .list .now) - l .j) (drop (l .j) (a .list .now))) (left-by d) (d .stage .result)
 arranged c =
     let d = stage-of c in
@@ -85,21 +86,21 @@ loop-holds : tie.Need-loop-holds Inv-loop μ-loop
 loop-holds c =
     let i = c .before in
     let e = i .initial .ensures in
-    rw (c .uncounted .ensures) (repairing-start _ _ _ _ _ _ (i .before .before .before .before .before .before .pre .2) (e .0) (e .1))
+    rw (c .uncounted .ensures) (repairing-start _ _ _ _ _ _ _ blank-start (e .0) (e .1) (i .before .before .before .before .before .before .pre .3))
 
 verdict-requires : tie.Need-verdict-requires Inv-loop μ-loop
 verdict-requires c κs =
     let h = c .before .before .before .before in
     let p = start-of h .pre in
-    (p .0 .loaded, repairing-few (h .loop .inv) (p .0 .loaded .formed) (p .3), repairing-searches (h .loop .inv) (p .3))
+    (p .0 .loaded, repairing-few (h .loop .inv) (p .0 .loaded .formed) (p .2), repairing-searches (h .loop .inv) (p .2))
 
 same-length : tie.Need-same-length Inv-loop μ-loop
-same-length c =
-    let h = c .before .before .before .before .before in
-    h .loop .inv .rows .long ∙ sym (start-of h .pre .2 .long)
+same-length c = c .before .before .before .before .before .loop .inv .long
 
 same-length-2 : tie.Need-same-length-2 Inv-loop μ-loop
-same-length-2 c = c .before .before .before .before .before .loop .inv .long
+same-length-2 c =
+    let h = c .before .before .before .before .before in
+    h .loop .inv .even ∙ sym (start-of h .pre .3)
 
 returns : tie.Need-returns Inv-loop μ-loop
 returns c =
@@ -107,19 +108,20 @@ returns c =
     let h = t .before .before in
     repairing-held (h .loop .inv) (start-of h .pre .0 .loaded .formed) (t .before .if1 .taken) (t .if2 .taken) _ (c .verdict .ensures)
 
-mul-stage : tie.Need-mul-stage Inv-loop μ-loop
-mul-stage c =
-    let e = c .before .before .before .before in
-    omega (arith, e .if2 .left, start-of (e .before .before) .good)
+mul-left : tie.Need-mul-left Inv-loop μ-loop
+mul-left c = omega (arith, c .if2 .left, start-of (c .before .before) .good)
 
-sub-stage : tie.Need-sub-stage Inv-loop μ-loop
-sub-stage c = omega (arith, c .before .before .before .before .if2 .left)
+sub-left : tie.Need-sub-left Inv-loop μ-loop
+sub-left c = omega (arith, c .if2 .left)
 
-part-stage-start : tie.Need-part-stage-start Inv-loop μ-loop
-part-stage-start c = omega (arith, c .before .before .before .before .if2 .left)
+part-left-start : tie.Need-part-left-start Inv-loop μ-loop
+part-left-start c = omega (arith, c .if2 .left)
 
-part-stage-end : tie.Need-part-stage-end Inv-loop μ-loop
-part-stage-end c = omega (arith, c .before .before .before .before .if2 .left)
+part-left-end : tie.Need-part-left-end Inv-loop μ-loop
+part-left-end c = omega (arith, c .if2 .left)
+
+slice-aggregate-stage : tie.Need-slice-aggregate-stage Inv-loop μ-loop
+slice-aggregate-stage c = search needs
 
 stage-requires : tie.Need-stage-requires Inv-loop μ-loop
 stage-requires c κs =
@@ -127,7 +129,7 @@ stage-requires c κs =
     let h = e .before .before in
     let p = start-of h .pre in
     let entries = rest-entries (start-of h .args .list .now) (h .loop .j) (omega (arith, e .if2 .left)) (taskIn (start-of h .args .task .now)) (p .1) in
-    ((p .0, entries, repairing-within (h .loop .inv), omega (arith, h .loop .inv .long, p .3)), h .loop .inv .rows)
+    ((p .0, entries, repairing-within (h .loop .inv), omega (arith, h .loop .inv .long, p .2)), h .loop .inv .rows)
 
 enum-known-w : tie.Need-enum-known-w Inv-loop μ-loop
 enum-known-w c = search needs
@@ -139,52 +141,61 @@ too-long-requires : tie.Need-too-long-requires Inv-loop μ-loop
 too-long-requires c κs =
     let p = c .before .before .before in
     let h = again-of (stage-of p) .before .before in
-    omega (arith, p .plan .given, h .loop .inv .long, start-of h .pre .3)
+    omega (arith, p .plan .given, h .loop .inv .long, start-of h .pre .2)
 
 same-length-3 : tie.Need-same-length-3 Inv-loop μ-loop
 same-length-3 c =
-    let d = stage-of (c .before .before .before .before) in
-    d .stage .ensures .1 .0 .long ∙ sym (start-of (again-of d .before .before) .pre .2 .long)
+    let p = c .before .before .before .before in
+    p .plan .given ∙ again-of (stage-of p) .before .before .loop .inv .long
 
 same-length-4 : tie.Need-same-length-4 Inv-loop μ-loop
 same-length-4 c =
-    let p = c .before .before .before .before in
-    p .plan .given ∙ again-of (stage-of p) .before .before .loop .inv .long
+    let h = again-of (stage-of (c .before .before .before .before)) .before .before in
+    h .loop .inv .even ∙ sym (start-of h .pre .3)
 
 returns-2 : tie.Need-returns-2 Inv-loop μ-loop
 returns-2 c =
     let p = c .before .before .before .before in
     let h = again-of (stage-of p) .before .before in
-    held-long _ _ _ _ _ (c .too-long .ensures ∙ ap (refused 11) (p .plan .given ∙ h .loop .inv .long)) (repairing-long (arranged p) (c .before .enum-told .given .1))
+    held-long _ _ _ _ _ _ (c .too-long .ensures ∙ ap (refused 11) (p .plan .given ∙ h .loop .inv .long)) (repairing-long (arranged p) (c .before .enum-told .given .1))
+
+mark-requires : tie.Need-mark-requires Inv-loop μ-loop
+mark-requires c κs =
+    let w = c .before .before in
+    let places = repairing-places (arranged (w .before .before .before)) _ _ (w .w .given .1) in
+    (places .0, places .1, λ e. places .2 (ltb-true _ _ e))
 
 add-searched : tie.Need-add-searched Inv-loop μ-loop
 add-searched c =
-    let p = c .before .before .before .before in
+    let w = c .before .before .before .before .before in
+    let p = w .before .before .before in
     let h = again-of (stage-of p) .before .before in
     let s = start-of h in
     let R = arranged p in
-    omega (arith, repairing-modest R _ _ (c .before .w .given .1) (s .pre .0 .loaded .formed), repairing-fits R _ _ (c .before .w .given .1), R .here, s .pre .3)
+    omega (arith, repairing-modest R _ _ (w .w .given .1) (s .pre .0 .loaded .formed), repairing-fits R _ _ (w .w .given .1), R .here, s .pre .2)
 
 add-j : tie.Need-add-j Inv-loop μ-loop
 add-j c =
-    let e = again-of (stage-of (c .before .before .before .before)) in
+    let e = again-of (stage-of (c .before .before .before .before .before .before .before .before)) in
     omega (arith, e .if2 .left, start-of (e .before .before) .good)
 
 loop-less : tie.Need-loop-less Inv-loop μ-loop
 loop-less c =
-    let p = c .before .before .before .before in
+    let w = c .before .before .before .before .before in
+    let p = w .before .before .before in
     let e = again-of (stage-of p) in
-    stages-fewer _ _ _ _ _ _ (omega (arith, e .if2 .left)) (repairing-fits (arranged p) _ _ (c .before .w .given .1))
+    stages-fewer _ _ _ _ _ _ (omega (arith, e .if2 .left)) (repairing-fits (arranged p) _ _ (w .w .given .1))
 
 loop-again : tie.Need-loop-again Inv-loop μ-loop
 loop-again c =
-    let p = c .before .before .before .before in
+    let w = c .before .before .before .before .before in
+    let p = w .before .before .before in
     let d = stage-of p in
     let e = again-of d in
     let h = e .before .before in
     let a = start-of h in
     let entries = rest-entries (a .args .list .now) (h .loop .j) (omega (arith, e .if2 .left)) (taskIn (a .args .task .now)) (a .pre .1) in
-    repairing-turn (arranged p) _ _ (c .before .w .given .1) (a .pre .0 .loaded .formed) entries _ (d .stage .ensures .1 .0)
+    repairing-turn (arranged p) _ _ (w .w .given .1) (a .pre .0 .loaded .formed) entries _ _ (d .stage .ensures .1 .0) (c .before .marks .given) (c .before .before .mark .ensures)
 
 mul-wide : tie.Need-mul-wide Inv-loop μ-loop
 mul-wide c =
@@ -206,7 +217,7 @@ counted-requires c κs =
     let w = c .before .before in
     let h = head-of w in
     let p = start-of h .pre in
-    (p .0 .loaded, below w, repairing-small (h .loop .inv) (less w) _ (w .wide .ensures) (p .0 .loaded .formed) (p .3))
+    (p .0 .loaded, below w, repairing-small (h .loop .inv) (less w) _ (w .wide .ensures) (p .0 .loaded .formed) (p .2))
 
 has-effects-requires : tie.Need-has-effects-requires Inv-loop μ-loop
 has-effects-requires c κs = let w = wide-of (c .before .before) in (start-of (head-of w) .pre .0 .loaded, below w)
@@ -226,6 +237,9 @@ loop-again-2 c =
     let same = step-held _ _ (sym (e .has-effects .ensures) ∙ c .before .before .before .if3 .taken) in
     repairing-step (h .loop .inv) (less w) _ (w .wide .ensures) (start-of h .pre .0 .loaded .formed) _ _ _ _ (h .loop .inv .rows) same (k .counted .ensures) (c .before .step .ensures)
 
+slice-aggregate-refresh : tie.Need-slice-aggregate-refresh Inv-loop μ-loop
+slice-aggregate-refresh c = search needs
+
 refresh-requires : tie.Need-refresh-requires Inv-loop μ-loop
 refresh-requires c κs =
     let w = wide-of (counted-of (c .before .before .before .before)) in
@@ -233,14 +247,14 @@ refresh-requires c κs =
     ((start-of h .pre .0 .loaded, below w, h .before .before .before .needs .ensures), h .loop .inv .rows)
 
 step-requires-2 : tie.Need-step-requires-2 Inv-loop μ-loop
-step-requires-2 c κs = let w = wide-of (counted-of (effects-of (c .before .before))) in (start-of (head-of w) .pre .0 .loaded, below w)
+step-requires-2 c κs = let w = wide-of (counted-of (effects-of (c .before))) in (start-of (head-of w) .pre .0 .loaded, below w)
 
 loop-less-3 : tie.Need-loop-less-3 Inv-loop μ-loop
-loop-less-3 c = let k = counted-of (effects-of (c .before .before .before)) in steps-fewer _ _ _ _ (less (wide-of k)) (k .counted .ensures .steps)
+loop-less-3 c = let k = counted-of (effects-of (c .before .before)) in steps-fewer _ _ _ _ (less (wide-of k)) (k .counted .ensures .steps)
 
 loop-again-3 : tie.Need-loop-again-3 Inv-loop μ-loop
 loop-again-3 c =
-    let r = c .before .before .before in
+    let r = c .before .before in
     let k = counted-of (effects-of r) in
     let w = wide-of k in
     let h = head-of w in
@@ -261,10 +275,11 @@ repair-from-spec =
     same-length
     same-length-2
     returns
-    mul-stage
-    sub-stage
-    part-stage-start
-    part-stage-end
+    mul-left
+    sub-left
+    part-left-start
+    part-left-end
+    slice-aggregate-stage
     stage-requires
     enum-known-w
     enum-told
@@ -272,6 +287,7 @@ repair-from-spec =
     same-length-3
     same-length-4
     returns-2
+    mark-requires
     add-searched
     add-j
     loop-less
@@ -284,6 +300,7 @@ repair-from-spec =
     step-requires
     loop-less-2
     loop-again-2
+    slice-aggregate-refresh
     refresh-requires
     step-requires-2
     loop-less-3

@@ -8,21 +8,21 @@ use Rattle.report.proofs.write.Statement.{statement}
 use Rattle.report.proofs.write.Tie as tie
 
 abbrev to-start : tie.After-plan2 → tie.Start
-to-start c = c .before .before .before .before .before
+to-start c = c .before .before .before .before .before .before
 
 -- what the planner answered, and its lists
 asked : (c : tie.After-plan2) → Told (to-start c .args .bytes .now) (c .plan2 .result) (c .plan2 .last .1 .0)
-asked c = told _ _ _ _ _ (length-replicate {A = ℕ} 16384 0) (length-replicate {A = ℕ} 16384 0) (c .plan2 .ensures .0) (c .plan2 .ensures .1 .0)
+asked c = let z = length-replicate {A = ℕ} 16384 0 in told _ _ _ _ _ _ z z z (c .plan2 .ensures .0) (c .plan2 .ensures .1 .0)
 
 work-length : (c : tie.After-plan2) → length (c .plan2 .last .1 .1 .0) ≡ 16384
 work-length c = omega (arith, length-replicate {A = ℕ} 16384 0)
 
 -- the points of the code, from the last to the first
 abbrev to-plan : tie.After-answer → tie.After-plan2
-to-plan c = c .before .before .before .before
+to-plan c = c .before .before .before .before .before
 
 abbrev told-to-plan : tie.After-enum-told → tie.After-plan2
-told-to-plan c = c .before .before .before .before
+told-to-plan c = c .before .before .before .before .before
 
 abbrev refusal-to-told : tie.After-refusal-of → tie.After-enum-told
 refusal-to-told c = c .before .before
@@ -41,6 +41,9 @@ slice-aggregate-plan c = search needs
 
 slice-aggregate-plan-2 : tie.Need-slice-aggregate-plan-2
 slice-aggregate-plan-2 c = search needs
+
+slice-aggregate-plan-3 : tie.Need-slice-aggregate-plan-3
+slice-aggregate-plan-3 c = search needs
 
 plan-requires : tie.Need-plan-requires
 plan-requires c κs = search needs
@@ -110,6 +113,7 @@ write-spec =
     (tie.spec
     slice-aggregate-plan
     slice-aggregate-plan-2
+    slice-aggregate-plan-3
     plan-requires
     enum-known-answer
     enum-told

@@ -1,93 +1,113 @@
--- What is packed of the whole is what stands in front and what is packed of the word and the steps that are left.
-use Prim.Native.Nat.{_-_}
-use native.Mathlib.Omega.{arith}
-use borrow.Author.Needs.{needs}
-use lib.ListN.{length}
+-- What is packed of the whole is what stands in front and what is packed of five bits and the steps that are left.
+use mathlib.Core.Path.{_≡_, _∙_}
+use Prim.Native.Nat.{suc, _+_, _*_, _/_, _-_}
+use Rattle.sheet.specs.Fields.{entries}
+use Rattle.sheet.proofs.Fields.{length-entries, entries-fit, stepBits-fields, size-entries}
 use Rattle.sheet.proofs.Writing.{Writing, writing-start, writing-turn, writing-end, writing-room, writing-last}
+use borrow.Author.Needs.{needs}
+use Prim.Native.Nat.{_+_, _*_, _/_, _-_}
+use native.Mathlib.Omega.{arith}
+use lib.ListN.{length}
 use Rattle.sheet.proofs.write_steps.Statement.{statement}
 use Rattle.sheet.proofs.write_steps.Tie as tie
 
 abbrev Inv-loop : tie.InvT-loop
-Inv-loop list head size bytes₀ word₀ at₀ i₀ bytes word at i = Writing list head size bytes₀ bytes word at i
+Inv-loop list marks mark head size bytes₀ five₀ at₀ i₀ bytes five at i = Writing mark (entries (suc mark) list marks) head size bytes₀ bytes five at i
 
 abbrev μ-loop : tie.MeasureT-loop
-μ-loop list head size bytes₀ word₀ at₀ i₀ bytes word at i = length list - i
+μ-loop list marks mark head size bytes₀ five₀ at₀ i₀ bytes five at i = length list - i
 
-mul-word : tie.Need-mul-word Inv-loop μ-loop
-mul-word c = omega arith
+abbrev from-loop : tie.At-loop Inv-loop μ-loop → tie.Start Inv-loop μ-loop
+from-loop c = c .before .before .before .before
+
+-- as many entries as steps, and the size by them
+long : (c : tie.At-loop Inv-loop μ-loop) → let a = from-loop c .args in length (entries (suc (a .mark)) (a .list .now) (a .marks .now)) ≡ length (a .list .now)
+long c = length-entries _ _ _
+
+sized : (c : tie.At-loop Inv-loop μ-loop) → let a = from-loop c .args in a .size ≡ (53 + (a .mark + 10) * length (entries (suc (a .mark)) (a .list .now) (a .marks .now)) + 7) / 8
+sized c = from-loop c .pre .3 ∙ size-entries _ (from-loop c .pre .0) _ _
 
 loop-holds : tie.Need-loop-holds Inv-loop μ-loop
-loop-holds c = writing-start _ _ _ _
+loop-holds c = writing-start _ _ _ _ _
 
 add-loop : tie.Need-add-loop Inv-loop μ-loop
-add-loop c = omega arith
+add-loop c = omega (arith, long c)
 
-write-bits-requires : tie.Need-write-bits-requires Inv-loop μ-loop
-write-bits-requires c κs =
-    let at-head = c .before .before in
-    let at-start = at-head .before .before .before in
-    (writing-room _ _ _ _ _ _ _ _ (at-head .loop .inv) (at-start .pre .3) (at-start .pre .2) (omega arith), omega arith, omega arith)
+eight-at-requires : tie.Need-eight-at-requires Inv-loop μ-loop
+eight-at-requires c κs = search needs
 
-four-steps-requires : tie.Need-four-steps-requires Inv-loop μ-loop
-four-steps-requires c κs = let at-head = c .before .before .before .before .before in (at-head .loop .inv .low, omega arith, at-head .before .before .before .pre .0)
+write-eight-requires : tie.Need-write-eight-requires Inv-loop μ-loop
+write-eight-requires c κs =
+    let at-eight = c .before in
+    let at-loop = at-eight .before .before in
+    let e = at-eight .eight-at .ensures in (
+      from-loop at-loop .pre .0,
+      writing-room _ (from-loop at-loop .pre .0) _ _ _ _ _ _ _ _ (at-loop .loop .inv) (sized at-loop) (from-loop at-loop .pre .4) (omega (arith, long at-loop)),
+      at-loop .loop .inv .few,
+      e .0 .1,
+      e .1 .1,
+    )
 
 add-at : tie.Need-add-at Inv-loop μ-loop
-add-at c = omega arith
+add-at c = search needs
+
+add-at-2 : tie.Need-add-at-2 Inv-loop μ-loop
+add-at-2 c =
+    let at-loop = c .before .before .before .before .before .before .before in
+    omega (arith, writing-room _ (from-loop at-loop .pre .0) _ _ _ _ _ _ _ _ (at-loop .loop .inv) (sized at-loop) (from-loop at-loop .pre .4) (omega (arith, long at-loop)))
 
 add-i : tie.Need-add-i Inv-loop μ-loop
-add-i c = omega arith
+add-i c = search needs
 
 loop-less : tie.Need-loop-less Inv-loop μ-loop
-loop-less c = omega arith
+loop-less c = search needs
 
 loop-again : tie.Need-loop-again Inv-loop μ-loop
 loop-again c =
-    let at-head = c .before .before .before .before .before .before in
-    let at-start = at-head .before .before .before in
-    writing-turn _ _ _ _ _ _ _ _ (at-head .loop .inv) (at-start .pre .3) (at-start .pre .2)
-    _ _ (omega arith) (c .four-steps .ensures .0) (c .four-steps .ensures .1) (search needs) (c .before .before .before .write-bits .ensures)
+    let at-written = c .before .before .before in
+    let at-eight = at-written .before .before in
+    let at-loop = at-eight .before .before in
+    let o = from-loop at-loop in
+    let e = at-eight .eight-at .ensures in
+    writing-turn _ (o .pre .0) _ _ _ _ _ _ _ _ (at-loop .loop .inv) (sized at-loop) (o .pre .4) (entries-fit _ (o .pre .0) _ _ (o .pre .1)) _ _
+    (e .0 .0) (e .1 .0) (e .0 .1) (e .1 .1) _ (omega (arith, long at-loop)) (search needs) (at-written .write-eight .ensures)
 
-write-bits-requires-2 : tie.Need-write-bits-requires-2 Inv-loop μ-loop
-write-bits-requires-2 c κs =
-    let at-head = c .before .before in
-    let at-start = at-head .before .before .before in
-    (omega (arith, writing-last _ _ _ _ _ _ _ _ (at-head .loop .inv) (at-start .pre .3) (at-start .pre .2) (omega arith)), omega arith, omega arith)
+any-four-requires : tie.Need-any-four-requires Inv-loop μ-loop
+any-four-requires c κs = let at-loop = c .before in let o = from-loop at-loop in (o .pre .0, omega (arith, o .pre .2, at-loop .loop .inv .passed, long at-loop), o .pre .1)
 
-add-write-bits : tie.Need-add-write-bits Inv-loop μ-loop
-add-write-bits c = omega arith
+add-any-four : tie.Need-add-any-four Inv-loop μ-loop
+add-any-four c = let at-loop = c .before .before in omega (arith, from-loop at-loop .pre .2, at-loop .loop .inv .passed, long at-loop)
 
-last-steps-requires : tie.Need-last-steps-requires Inv-loop μ-loop
-last-steps-requires c κs = (omega arith, omega arith, omega arith, c .before .before .before .before .before .before .before .before .before .pre .0)
+any-four-requires-2 : tie.Need-any-four-requires-2 Inv-loop μ-loop
+any-four-requires-2 c κs = let at-loop = c .before .before in let o = from-loop at-loop in (o .pre .0, omega (arith, o .pre .2, at-loop .loop .inv .passed, long at-loop), o .pre .1)
 
-sub-write-bits : tie.Need-sub-write-bits Inv-loop μ-loop
-sub-write-bits c =
-    let at-head = c .before .before .before .before .before .before .before in
-    let at-start = at-head .before .before .before in
-    omega (arith, writing-last _ _ _ _ _ _ _ _ (at-head .loop .inv) (at-start .pre .3) (at-start .pre .2) (omega arith))
+sub-write-last : tie.Need-sub-write-last Inv-loop μ-loop
+sub-write-last c =
+    let at-loop = c .before .before .before .before in
+    omega (arith, writing-last _ (from-loop at-loop .pre .0) _ _ _ _ _ _ _ _ (at-loop .loop .inv) (sized at-loop) (from-loop at-loop .pre .4) (omega (arith, long at-loop)))
 
-sub-write-bits-2 : tie.Need-sub-write-bits-2 Inv-loop μ-loop
-sub-write-bits-2 c =
-    let at-head = c .before .before .before .before .before .before .before in
-    let at-start = at-head .before .before .before in
-    omega (arith, writing-last _ _ _ _ _ _ _ _ (at-head .loop .inv) (at-start .pre .3) (at-start .pre .2) (omega arith))
-
-write-bits-requires-3 : tie.Need-write-bits-requires-3 Inv-loop μ-loop
-write-bits-requires-3 c κs =
-    let at-head = c .before .before .before .before .before .before .before in
-    let at-start = at-head .before .before .before in
-    let w = writing-last _ _ _ _ _ _ _ _ (at-head .loop .inv) (at-start .pre .3) (at-start .pre .2) (omega arith) in
-    (omega (arith, w), omega (arith, w), omega arith)
+write-last-requires : tie.Need-write-last-requires Inv-loop μ-loop
+write-last-requires c κs =
+    let at-second = c .before in
+    let at-loop = at-second .before .before .before in
+    let o = from-loop at-loop in
+    let w = writing-last _ (from-loop at-loop .pre .0) _ _ _ _ _ _ _ _ (at-loop .loop .inv) (sized at-loop) (from-loop at-loop .pre .4) (omega (arith, long at-loop)) in
+    (o .pre .0, w .1, omega (arith, w), at-loop .loop .inv .few, at-second .before .any-four .ensures .1, at-second .any-four2 .ensures .1)
 
 same-length : tie.Need-same-length Inv-loop μ-loop
 same-length c = search needs
 
 returns : tie.Need-returns Inv-loop μ-loop
 returns c =
-    let at-last-steps = c .before .before .before in
-    let at-head = at-last-steps .before .before .before .before .before .before .before in
-    let at-start = at-head .before .before .before in
-    writing-end _ _ _ _ _ _ _ _ (at-head .loop .inv) (at-start .pre .3) (at-start .pre .2)
-    _ _ _ (omega arith) (at-last-steps .last-steps .ensures) (search needs) (at-last-steps .before .before .before .before .write-bits2 .ensures) (c .before .before .write-bits3 .ensures)
+    let at-last = c .before .before in
+    let at-second = at-last .before .before in
+    let a = at-second .before .any-four .ensures in
+    let b = at-second .any-four2 .ensures in
+    let at-loop = at-second .before .before .before in
+    let o = from-loop at-loop in
+    rw (stepBits-fields (o .args .mark) (o .pre .0) (o .args .list .now) (o .args .marks .now) (o .pre .1))
+    (writing-end _ (o .pre .0) _ _ _ _ _ _ _ _ (at-loop .loop .inv) (sized at-loop) (o .pre .4) (entries-fit _ (o .pre .0) _ _ (o .pre .1)) _ _
+    (a .0) (b .0) (a .1) (b .1) _ (omega (arith, long at-loop)) (at-last .write-last .ensures))
 
 pub write-steps-spec : {M : Type 1} → statement M
 write-steps-spec =
@@ -95,20 +115,19 @@ write-steps-spec =
     (tie.spec
     Inv-loop
     μ-loop
-    mul-word
     loop-holds
     add-loop
-    write-bits-requires
-    four-steps-requires
+    eight-at-requires
+    write-eight-requires
     add-at
+    add-at-2
     add-i
     loop-less
     loop-again
-    write-bits-requires-2
-    add-write-bits
-    last-steps-requires
-    sub-write-bits
-    sub-write-bits-2
-    write-bits-requires-3
+    any-four-requires
+    add-any-four
+    any-four-requires-2
+    sub-write-last
+    write-last-requires
     same-length
     returns)

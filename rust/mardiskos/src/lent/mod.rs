@@ -7,12 +7,14 @@
 //! ```
 //! # fn main() -> Result<(), Box<dyn std::error::Error>> {
 //! let record = std::fs::read("../../examples/two-shelves.record")?;
-//! let (mut plan, mut work) = ([0; 6], [0; 6]);
-//! let planned = mardiskos::lent::plan(&record, &mut plan, &mut work);
+//! let (mut plan, mut work, mut marks) = ([0; 6], [0; 6], [0; 6]);
+//! let planned = mardiskos::lent::plan(&record, &mut plan, &mut work, &mut marks);
 //! mardiskos::outcome(planned.code)?;
 //! assert_eq!(plan, [0, 2, 1, 3, 65_535, 65_535]);
+//! assert_eq!(marks, [0, 0, 1, 0, 0, 0]);
 //!
-//! let refused = mardiskos::lent::plan(&record, &mut plan[..3], &mut work);
+//! // The shortest of the three is the room.
+//! let refused = mardiskos::lent::plan(&record, &mut plan, &mut work, &mut marks[..3]);
 //! assert_eq!(refused.code, 32 * 3 + 11);
 //! # Ok(())
 //! # }

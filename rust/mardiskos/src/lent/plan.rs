@@ -23,6 +23,8 @@ extern "C" {
         plan_entries: usize,
         work: *mut u16,
         work_entries: usize,
+        marks: *mut u8,
+        marks_len: usize,
     ) -> PlanResult;
     fn mardiskos_plan(
         record: *const u8,
@@ -31,13 +33,22 @@ extern "C" {
         plan_entries: usize,
         work: *mut u16,
         work_entries: usize,
+        marks: *mut u8,
+        marks_len: usize,
     ) -> PlanResult;
 }
 
-/// Fills `plan` with the repair of a relaxed plan; `work` ends as 65,535 throughout.
-pub fn repair(record: &[u8], relaxed: &[u16], plan: &mut [u16], work: &mut [u16]) -> PlanResult {
-    // SAFETY: pointers and lengths are those of live slices that do not overlap; only `plan` and
-    // `work` are written.
+/// Fills `plan` with the repair of a relaxed plan and `marks` with a byte a step: 1 for an inserted move, else 0, and 0
+/// behind the plan. `work` ends as 65,535 throughout.
+pub fn repair(
+    record: &[u8],
+    relaxed: &[u16],
+    plan: &mut [u16],
+    work: &mut [u16],
+    marks: &mut [u8],
+) -> PlanResult {
+    // SAFETY: pointers and lengths are those of live slices that do not overlap; only `plan`, `work`
+    // and `marks` are written.
     unsafe {
         mardiskos_repair(
             record.as_ptr(),
@@ -48,12 +59,14 @@ pub fn repair(record: &[u8], relaxed: &[u16], plan: &mut [u16], work: &mut [u16]
             plan.len(),
             work.as_mut_ptr(),
             work.len(),
+            marks.as_mut_ptr(),
+            marks.len(),
         )
     }
 }
 
-/// Fills `plan` with a repaired plan for the record; `work` ends as 65,535 throughout.
-pub fn plan(record: &[u8], plan: &mut [u16], work: &mut [u16]) -> PlanResult {
+/// Fills `plan` with a repaired plan for the record, `marks` and `work` as `repair` does.
+pub fn plan(record: &[u8], plan: &mut [u16], work: &mut [u16], marks: &mut [u8]) -> PlanResult {
     // SAFETY: as for `repair`.
     unsafe {
         mardiskos_plan(
@@ -63,6 +76,8 @@ pub fn plan(record: &[u8], plan: &mut [u16], work: &mut [u16]) -> PlanResult {
             plan.len(),
             work.as_mut_ptr(),
             work.len(),
+            marks.as_mut_ptr(),
+            marks.len(),
         )
     }
 }
@@ -74,9 +89,9 @@ mod tests {
     #[test]
     fn no_bytes() {
         let refused = PlanResult { code: 1, ..PlanResult::default() };
-        let (mut list, mut work) = ([0; 2], [0; 3]);
-        assert_eq!(plan(&[], &mut list, &mut work), refused);
-        assert_eq!((list, work), ([65_535; 2], [65_535; 3]));
-        assert_eq!(repair(&[], &[], &mut [], &mut work), refused);
+        let (mut list, mut work, mut marks) = ([0; 2], [0; 3], [7; 4]);
+        assert_eq!(plan(&[], &mut list, &mut work, &mut marks), refused);
+        assert_eq!((list, work, marks), ([65_535; 2], [65_535; 3], [0; 4]));
+        assert_eq!(repair(&[], &[], &mut [], &mut work, &mut []), refused);
     }
 }

@@ -64,8 +64,8 @@ pub fn in_general(refusal: Refusal) -> String {
         10 => format!("no plan: {place} facts are reached, and not all goals are among them"),
         11 => format!("there is room for {place} (steps, values, or bytes of a sheet), and the result is longer"),
         12 => format!(
-            "the sheet is faulty at bit {place}: cut short, not of edition 1, too many steps, or more \
-             behind its last step"
+            "the sheet is faulty at bit {place}: cut short, not of edition 1 or 2, too many steps, or \
+             more behind its last step"
         ),
         13 => format!(
             "the list has more than 32,768 entries, or in writing a sheet entry {place} is over 1,023"

@@ -9,6 +9,7 @@ use crate::show::counted;
 
 const HEAD: usize = 53;
 const STEP: usize = 10;
+const MARK: usize = 1;
 
 /// What a refusal means for the bytes of a sheet.
 pub fn in_words(bytes: &[u8], refusal: Refusal) -> String {
@@ -20,9 +21,10 @@ pub fn in_words(bytes: &[u8], refusal: Refusal) -> String {
 
 fn fault(bytes: &[u8], place: usize) -> Option<String> {
     let bits = Bits::new(bytes);
-    let (name, width) = field(place)?;
+    let mark = if bits.field(0, 4) == 2 { MARK } else { 0 };
+    let (name, width) = field(place, mark)?;
     let has = format!("it has {}", length(bytes));
-    let behind = bits.len() >= HEAD && place == HEAD + STEP * bits.field(5, 16);
+    let behind = bits.len() >= HEAD && place == HEAD + (mark + STEP) * bits.field(5, 16);
     if behind {
         let right = place.div_ceil(8);
         return Some(match bytes.len() > right {
@@ -40,7 +42,7 @@ fn fault(bytes: &[u8], place: usize) -> Option<String> {
     }
     let value = bits.field(place, width);
     match place {
-        0 => Some(format!("the edition (bits 0 to 3) is {value}; it must be 1")),
+        0 => Some(format!("the edition (bits 0 to 3) is {value}; it must be 1 or 2")),
         5 => Some(format!(
             "the count of steps (bits 5 to 20) is {}; it must be {} at most",
             grouped(value as u128),
@@ -50,13 +52,18 @@ fn fault(bytes: &[u8], place: usize) -> Option<String> {
     }
 }
 
-/// The field of a sheet that starts at a bit, and its width.
-fn field(place: usize) -> Option<(String, usize)> {
+/// The field that starts at a bit of a sheet with so many bits for a mark, and its width.
+fn field(place: usize, mark: usize) -> Option<(String, usize)> {
     let fixed = [(0, "the edition", 4), (4, "the verdict", 1), (5, "the count of steps", 16)];
     let head = fixed.into_iter().chain([(21, "the cost", 32)]);
     if let Some((_, name, width)) = head.into_iter().find(|(first, ..)| *first == place) {
         return Some((name.to_owned(), width));
     }
     let behind = place.checked_sub(HEAD)?;
-    (behind % STEP == 0).then(|| (format!("step {}", behind / STEP), STEP))
+    let (step, at) = (behind / (mark + STEP), behind % (mark + STEP));
+    match at {
+        _ if at == mark => Some((format!("step {step}"), STEP)),
+        0 => Some((format!("the mark of step {step}"), MARK)),
+        _ => None,
+    }
 }

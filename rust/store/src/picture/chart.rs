@@ -133,14 +133,13 @@ fn stop(store: &Store, list: &[u16], semantics: &Semantics) -> Option<usize> {
 }
 
 fn columns(store: &Store, plan: &Plan, shown: Range<usize>, painted: Option<usize>) -> Vec<Column> {
-    let inserted = plan.inserted().unwrap_or_else(|| vec![false; plan.steps.len()]);
     let first = match shown.start {
         0 => "initial".to_owned(),
         from => format!("before {from}"),
     };
     let mut columns = vec![Column { title: first, kind: Kind::State }];
     columns.extend(shown.map(|step| {
-        let kind = match (painted, inserted[step]) {
+        let kind = match (painted, plan.is_inserted(step)) {
             (Some(stop), _) if step >= stop => Kind::NotRun,
             (_, true) => Kind::Inserted,
             (_, false) => Kind::Relaxed,
