@@ -9,7 +9,7 @@ use Prim.Native.Nat.{ℕ, _+_, _-_, _*_, _/_, _%_, _<_, _≤_}
 use native.Mathlib.Omega.{arith}
 use native.Mathlib.Decide.{decLt}
 use lib.Dec.{T, T-not, not-T, eqb, eqb-refl}
-use lib.ListN.{length, getD, set, replicate}
+use lib.ListN.{length, getD, set}
 use Rattle.planning.specs.Basics.{tally}
 use Rattle.planning.specs.Record.{Action, Task}
 use Rattle.planning.specs.Runs.{State, has, holds, step, relaxed, actions, act, initial, goals}
@@ -25,21 +25,21 @@ use Rattle.state.proofs.Listed.{Listed}
 use Rattle.state.proofs.Listing.{loaded-listed}
 use Rattle.state.proofs.Effects.{factsIn-none}
 use Rattle.forward.specs.declared.Ran.{Ran}
-use Rattle.forward.specs.Waiting.{reaches, member, Passing, Unmet, Lowest, Without, Noted, Settled, ByCost}
+use Rattle.forward.specs.Waiting.{reaches, member, Passing, Unmet, Lowest, Without, Settled, ByCost}
 use Rattle.forward.specs.Running.{RanOf}
 use Rattle.forward.proofs.Places.{passing-more}
 use Rattle.forward.proofs.Chains.{tally-fewer, passing-up, sites-none, sites-first, sites-leave}
-use Rattle.forward.proofs.Running.{Going, going-start, going-on, going-take, going-drop, ended-met, ended-none, goals-met, goals-open}
+use Rattle.forward.proofs.Running.{Going, going-start, going-on, going-take, ended-met, ended-none, goals-met, goals-open}
 
 -- what holds before each turn: the goals before place k are reached, and each action is where it belongs, but for those that wait for
 -- the facts from place a up to b, the effects of the action taken last
-pub record Looping (task order : List ℕ) (g : Goals) (first plan sets work ready : List ℕ) (n k a b : ℕ) : Type 0 where
+pub record Looping (task order : List ℕ) (g : Goals) (plan sets work ready : List ℕ) (n k a b : ℕ) : Type 0 where
   pub loaded : Loaded task
   pub by-cost : ByCost task order
   pub goals-are : GoalsOf (taskIn task) g
   pub room : g .count ≤ length (g .facts)
   pub met : Passing (setsOf sets) (g .facts) 0 (g .count) k
-  pub going : Going (taskIn task) plan first (setsOf sets) n
+  pub going : Going (taskIn task) plan (setsOf sets) n
   pub facts : Facts task a b
   pub settled : Settled task order (setsOf sets) (has (factsIn task a b)) work ready
 
@@ -52,26 +52,26 @@ left task sets ready a b =
 facts-none : {task : List ℕ} {k : ℕ} → k ≤ length task → Facts task k k
 facts-none h = record { rises = omega arith; within = h; small = λ x p q. absurd (omega arith) }
 
-pub looping-start : {task order : List ℕ} {g : Goals} {fst plan sets work ready : List ℕ} → Loaded task → ByCost task order → GoalsOf (taskIn task) g → length (g .facts) ≡ 64
-    → fst ≡ replicate 4096 65535 → length plan ≡ 1024 → setsOf sets ≡ initial (taskIn task) → Settled task order (setsOf sets) (has []) work ready
-    → Looping task order g fst plan sets work ready 0 0 0 0
-looping-start {task} {order} {g} {fst} {plan} {sets} L R G l f p i S = record {
+pub looping-start : {task order : List ℕ} {g : Goals} {plan sets work ready : List ℕ} → Loaded task → ByCost task order → GoalsOf (taskIn task) g → length (g .facts) ≡ 64
+    → length plan ≡ 1024 → setsOf sets ≡ initial (taskIn task) → Settled task order (setsOf sets) (has []) work ready
+    → Looping task order g plan sets work ready 0 0 0 0
+looping-start {task} {order} {g} {plan} {sets} L R G l p i S = record {
   loaded = L;
   by-cost = R;
   goals-are = G;
   room = omega (arith, G .few);
   met = record { from = omega arith; to = omega arith; passed = λ x a b. absurd (omega arith) };
-  going = going-start (L .formed) plan fst (setsOf sets) p f i;
+  going = going-start (L .formed) plan (setsOf sets) p i;
   facts = facts-none (omega arith);
   settled = rw (factsIn-none task 0 0 refl) S;
 }
 
 -- the goals are yet to be looked at
-pub looping-goals : {task order : List ℕ} {g : Goals} {fst plan sets work ready : List ℕ} {n k a b : ℕ} → Looping task order g fst plan sets work ready n k a b → Facts (g .facts) k (g .count)
+pub looping-goals : {task order : List ℕ} {g : Goals} {plan sets work ready : List ℕ} {n k a b : ℕ} → Looping task order g plan sets work ready n k a b → Facts (g .facts) k (g .count)
 looping-goals L = record { rises = L .met .to; within = L .room; small = λ x p q. L .goals-are .small x q }
 
 -- the facts are looked at, and each action is where it belongs
-module _ {task order : List ℕ} {g : Goals} {fst plan sets work₀ ready₀ work ready : List ℕ} {n k a b : ℕ} (L : Looping task order g fst plan sets work₀ ready₀ n k a b)
+module _ {task order : List ℕ} {g : Goals} {plan sets work₀ ready₀ work ready : List ℕ} {n k a b : ℕ} (L : Looping task order g plan sets work₀ ready₀ n k a b)
     (S : Settled task order (setsOf sets) (has []) work ready) where
   abbrev t : Task
   t = taskIn task
@@ -88,7 +88,7 @@ module _ {task order : List ℕ} {g : Goals} {fst plan sets work₀ ready₀ wor
     upto = passing-more s (g .facts) 0 (g .count) k r (L .met) (U .passing)
 
     -- every goal is reached
-    pub looping-solved : r ≡ g .count → (q : Ran) → q .steps ≡ n → q .solved ≡ true → setsOf (q .state .sets) ≡ s → RanOf t plan fst q
+    pub looping-solved : r ≡ g .count → (q : Ran) → q .steps ≡ n → q .solved ≡ true → setsOf (q .state .sets) ≡ s → RanOf t plan q
     looping-solved e = ended-met (L .loaded .formed) (L .going) (goals-met t (L .room) (L .goals-are .are) upto e)
 
     module _ (open′ : r ≢ g .count) {p : ℕ} (W : Lowest ready p) where
@@ -96,7 +96,7 @@ module _ {task order : List ℕ} {g : Goals} {fst plan sets work₀ ready₀ wor
       unmet-goal = goals-open t (L .room) (L .goals-are .are) upto open′ (U .open′ (omega (arith, U .passing .to)))
 
       -- no action adds a fact
-      pub looping-none : 1024 ≤ p → (q : Ran) → q .steps ≡ n → q .solved ≡ false → setsOf (q .state .sets) ≡ s → RanOf t plan fst q
+      pub looping-none : 1024 ≤ p → (q : Ran) → q .steps ≡ n → q .solved ≡ false → setsOf (q .state .sets) ≡ s → RanOf t plan q
       looping-none full = ended-none (L .loaded .formed) (L .going) unmet-goal (sites-none S free (L .by-cost) (subst (Lowest ready) (omega (arith, W .few)) W))
 
       module _ (below : p < 1024) where
@@ -107,7 +107,7 @@ module _ {task order : List ℕ} {g : Goals} {fst plan sets work₀ ready₀ wor
           pub chosen-below : i < actions t
           chosen-below = rw is (S .named p rank-below)
 
-        module _ {i : ℕ} (is : i ≡ getD order p 0) {ready′ fst′ : List ℕ} (O : Without ready p ready′) (N : Noted s (has (act t i .eff)) i fst fst′) where
+        module _ {i : ℕ} (is : i ≡ getD order p 0) {ready′ : List ℕ} (O : Without ready p ready′) where
           fewer-ready : tally 1024 (member ready′) < tally 1024 (member ready)
           fewer-ready =
               tally-fewer 1024 (member ready′) (member ready) (λ j _ m. and-l (member ready j) (not (eqb j p)) (rw (O .are j) at m)) p below (W .is below)
@@ -115,14 +115,14 @@ module _ {task order : List ℕ} {g : Goals} {fst plan sets work₀ ready₀ wor
 
           -- the action adds nothing, and is dropped
           module _ (h : holds s (act t i .eff) ≡ true) where
-            pub looping-drop : Looping task order g fst′ plan sets work ready′ n r b b
+            pub looping-drop : Looping task order g plan sets work ready′ n r b b
             looping-drop = record {
               loaded = L .loaded;
               by-cost = L .by-cost;
               goals-are = L .goals-are;
               room = L .room;
               met = upto;
-              going = going-drop (L .loaded .formed) (L .going) i fst′ h N;
+              going = L .going;
               facts = facts-none (L .facts .within);
               settled = rw (factsIn-none task b b refl) (sites-leave s (has []) p ready′ S (λ v d x. x) (rw (← is, h) tt) (λ y x. inl x) (λ y x. x) O);
             }
@@ -161,7 +161,7 @@ module _ {task order : List ℕ} {g : Goals} {fst plan sets work₀ ready₀ wor
                 listed : Listed task i
                 listed = loaded-listed task (L .loaded) i (chosen-below is)
 
-                pub looping-take : Looping task order g fst′ (set plan n i) sets′ work ready′ (n + 1) r a′ b′
+                pub looping-take : Looping task order g (set plan n i) sets′ work ready′ (n + 1) r a′ b′
                 unfolding actionIn
                 looping-take = record {
                   loaded = L .loaded;
@@ -169,7 +169,7 @@ module _ {task order : List ℕ} {g : Goals} {fst plan sets work₀ ready₀ wor
                   goals-are = L .goals-are;
                   room = L .room;
                   met = passing-up s (setsOf sets′) (g .facts) 0 (g .count) r grows upto;
-                  going = going-take (L .loaded .formed) (L .going) i fst′ (setsOf sets′) unmet-goal is-next N stepped;
+                  going = going-take (L .loaded .formed) (L .going) i (setsOf sets′) unmet-goal is-next stepped;
                   facts = record {
                     rises = omega (arith, listed .eff-below);
                     within = omega (arith, listed .end-below);

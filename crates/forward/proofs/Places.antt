@@ -1,25 +1,22 @@
 -- Facts by their places in a list of numbers: a list of facts has exactly those at its places, so that a test of it is a test at each
 -- place. The loops over facts stand on this.
-use mathlib.Core.Path.{_≡_, refl, sym, ap, _∙_, subst}
+use mathlib.Core.Path.{_≡_, sym, ap, _∙_, subst}
 use mathlib.Core.Logic.{_⊎_, inl, inr, _≢_}
-use mathlib.Core.Bool.{Bool, true, false, not, _&&_, _||_}
+use mathlib.Core.Bool.{true, false, _&&_, _||_}
 use mathlib.Core.List.{List}
-use Prim.Native.Nat.{ℕ, zero, suc, _+_, _-_, _*_, _/_, _%_, _<_, _≤_}
+use Prim.Native.Nat.{ℕ, zero, suc, _+_, _-_, _/_, _%_, _<_, _≤_}
 use native.Mathlib.Omega.{arith}
 use native.Mathlib.Decide.{ℕ-discrete, decLt}
-use borrow.Author.Tests.{ne-eqb, eq-eqb}
 use lib.Dec.{T, eqb, eqb→eq, eqb-refl}
-use lib.ListN.{length, getD, set, length-set}
-use lib.Seq.{getD-set-same, getD-set-other, set-getD}
-use Rattle.planning.specs.Basics.{oneIf}
+use lib.ListN.{length, getD}
 use Rattle.planning.specs.Runs.{State, has, holds, act}
-use Rattle.planning.proofs.Tests.{T→true, F→false, and-l, and-r, and-i, or-l, or-r, or-cases}
+use Rattle.planning.proofs.Tests.{and-l, and-r, and-i, or-l, or-r, or-cases}
 use Rattle.planning.proofs.Facts.{holds→sub, sub→holds}
 use Rattle.planning.specs.Record.{Action}
 use Rattle.task.specs.Task.{factOf, factsIn, preAt, effAt, actionIn, taskIn}
 use Rattle.state.proofs.Listed.{Listed}
 use Rattle.state.proofs.Effects.{factsIn-cons, factsIn-none}
-use Rattle.forward.specs.Waiting.{reaches, Passing, Looked, Noted}
+use Rattle.forward.specs.Waiting.{reaches, Passing, Looked}
 
 module _ (l : List ℕ) where
   at-has′ : (n a b v d : ℕ) → a + n ≡ b → b ≤ length l → T (has (factsIn l a b) v d) → (x : ℕ) × (a ≤ x) × (x < b) × (v ≡ getD l x 0 / 64) × (d ≡ getD l x 0 % 64)
@@ -107,121 +104,6 @@ passing-more s l a b k r P Q = record { from = omega (arith, P .from, Q .from); 
     go : (x : ℕ) → a ≤ x → x < r → Dec (x < k) → T (reaches s (getD l x 0))
     go x p q (yes h) = P .passed x p h
     go x p q (no h) = Q .passed x (omega arith) q
-
--- a number taken out of two, by 1 or 0
-pub pick-below : (x y h m : ℕ) → x < m → y < m → h ≤ 1 → x * h + y * (1 - h) < m
-pick-below x y h m p q b = elim (ℕ-discrete h 0) [ yes e ↦ rw e (omega arith) | no n ↦ let e : h ≡ 1 = omega arith in rw e (omega arith) ]
-
--- the noting of effects: those at the places from a up to k are noted, and `new` of them were not reached
-pub record Noting (s : State) (l : List ℕ) (a b i : ℕ) (first₀ first : List ℕ) (k new : ℕ) : Type 0 where
-  pub from : a ≤ k
-  pub to : k ≤ b
-  pub long : length first ≡ 4096
-  pub few : new ≤ k
-  pub noted : (x : ℕ) → a ≤ x → x < k → reaches s (getD l x 0) ≡ false → getD first (getD l x 0) 0 ≡ i
-  pub kept : (f : ℕ) → ((x : ℕ) → a ≤ x → x < k → getD l x 0 ≡ f → T (reaches s f)) → getD first f 0 ≡ getD first₀ f 0
-  pub some′ : 0 < new → (x : ℕ) × (a ≤ x) × (x < k) × (reaches s (getD l x 0) ≡ false)
-  pub none′ : new ≡ 0 → (x : ℕ) → a ≤ x → x < k → T (reaches s (getD l x 0))
-
-module _ (s : State) (l : List ℕ) (a b i : ℕ) (first₀ : List ℕ) where
-  pub noting-start : (k : ℕ) → k ≡ a → a ≤ b → length first₀ ≡ 4096 → Noting s l a b i first₀ first₀ k 0
-  noting-start k e h n = record {
-    from = omega arith;
-    to = omega arith;
-    long = n;
-    few = omega arith;
-    noted = λ x p q _. absurd (omega arith);
-    kept = λ f _. refl;
-    some′ = λ e. absurd (omega arith);
-    none′ = λ _ x p q. absurd (omega arith);
-  }
-
-  module _ (first : List ℕ) (k f new : ℕ) (N : Noting s l a b i first₀ first k new) (h : k < b) (e : f ≡ getD l k 0) where
-    noted-new : f < 4096 → s (f / 64) (f % 64) ≡ false → Noting s l a b i first₀ (set first f i) (k + 1) (new + 1)
-    unfolding reaches
-    noted-new g t = record {
-      from = omega (arith, N .from);
-      to = omega arith;
-      long = simp length-set (N .long);
-      few = omega (arith, N .few);
-      noted = λ x p q z. go x p q z (ℕ-discrete (getD l x 0) f);
-      kept = λ y z. getD-set-other first f y i 0 (λ q. subst T t (subst (λ u. T (reaches s u)) q (z k (N .from) (omega arith) (sym e ∙ sym q)))) ∙ N .kept y (λ x p q. z x p (omega arith));
-      some′ = λ _. (k, N .from, omega arith, rw (← e) t);
-      none′ = λ c. absurd (omega arith);
-    }
-      where
-        go : (x : ℕ) → a ≤ x → x < k + 1 → reaches s (getD l x 0) ≡ false → Dec (getD l x 0 ≡ f) → getD (set first f i) (getD l x 0) 0 ≡ i
-        go x p q z (yes j) = rw j (getD-set-same first f i 0 (omega (arith, N .long)))
-        go x p q z (no j) = getD-set-other first f (getD l x 0) i 0 j ∙ N .noted x p (below x q j) z
-          where
-            below : (x : ℕ) → x < k + 1 → getD l x 0 ≢ f → x < k
-            below x q j = elim (ℕ-discrete x k) [ yes u ↦ absurd (j (rw u (sym e))) | no u ↦ omega arith ]
-
-    noted-old : s (f / 64) (f % 64) ≡ true → Noting s l a b i first₀ first (k + 1) new
-    unfolding reaches
-    noted-old t = record {
-      from = omega (arith, N .from);
-      to = omega arith;
-      long = N .long;
-      few = omega (arith, N .few);
-      noted = λ x p q z. N .noted x p (below x q (λ u. let y : _≡_ {A = ℕ} 0 1 = cc (held x u) in omega arith)) z;
-      kept = λ y z. N .kept y (λ x p q. z x p (omega arith));
-      some′ = λ c. let r = N .some′ c in (r .0, r .1, omega (arith, r .2), r .3);
-      none′ = λ c x p q. go c x p q (ℕ-discrete x k);
-    }
-      where
-        held : (x : ℕ) → x ≡ k → reaches s (getD l x 0) ≡ true
-        held x u = rw (u, ← e) t
-
-        below : (x : ℕ) → x < k + 1 → x ≢ k → x < k
-        below x q u = omega arith
-
-        go : new ≡ 0 → (x : ℕ) → a ≤ x → x < k + 1 → Dec (x ≡ k) → T (reaches s (getD l x 0))
-        go c x p q (yes u) = rw (held x u) tt
-        go c x p q (no u) = N .none′ c x p (omega arith)
-
-    -- h is 1 if the fact is reached: then the entry stays as it was, else it becomes i
-    pub noting-turn : f < 4096 → (h y : ℕ) → h ≡ oneIf (s (f / 64) (f % 64)) → y ≡ getD first f 0 * h + i * (1 - h) → Noting s l a b i first₀ (set first f y) (k + 1) (new + (1 - h))
-    unfolding oneIf
-    noting-turn g h y eh ey = go (s (f / 64) (f % 64)) refl
-      where
-        go : (c : Bool) → s (f / 64) (f % 64) ≡ c → Noting s l a b i first₀ (set first f y) (k + 1) (new + (1 - h))
-        go true t =
-            let o : h ≡ 1 = rw t at eh in
-            let same : y ≡ getD first f 0 = ey ∙ rw o (omega arith) in
-            let n : new + (1 - h) ≡ new = omega arith in
-            rw (same, n, set-getD first f 0) (noted-old t)
-        go false t =
-            let o : h ≡ 0 = rw t at eh in
-            let same : y ≡ i = ey ∙ rw o (omega arith) in
-            let n : new + (1 - h) ≡ new + 1 = omega arith in
-            rw (same, n) (noted-new g t)
-
-  module _ (first : List ℕ) (k new : ℕ) (N : Noting s l a b i first₀ first k new) (h : b ≤ k) (q : b ≤ length l) where
-    to-end : k ≡ b
-    to-end = omega (arith, N .to)
-
-    pub noting-end : Noted s (has (factsIn l a b)) i first₀ first
-    unfolding reaches
-    noting-end = record {
-      long = N .long;
-      noted = λ f g t z. let r = at-has l a b (omega (arith, N .from, N .to)) q (f / 64) (f % 64) t in
-          let u : f ≡ getD l (r .0) 0 = omega (arith, r .3, r .4) in
-          rw u (N .noted (r .0) (r .1) (omega (arith, r .2)) (rw (← u) z));
-      kept = λ f g z. N .kept f (λ x p c u. z (rw (← u) (has-at l a b (omega (arith, N .from, N .to)) q x p (omega (arith, to-end)))));
-    }
-
-    pub noting-answer : not (eqb new 0) ≡ not (holds s (factsIn l a b))
-    unfolding reaches
-    noting-answer = go (ℕ-discrete new 0)
-      where
-        go : Dec (new ≡ 0) → not (eqb new 0) ≡ not (holds s (factsIn l a b))
-        go (yes e) =
-            rw (eq-eqb new 0 e, T→true (holds s (factsIn l a b)) (each-holds l a b (omega (arith, N .from, N .to)) q s (λ x p c. N .none′ e x p (omega (arith, to-end))))) refl
-        go (no e) =
-            let r = N .some′ (omega arith) in
-            let o : a ≤ b = omega (arith, N .from, N .to) in
-            rw (ne-eqb new 0 e, F→false (holds s (factsIn l a b)) (λ t. subst T (r .3) (holds-each l a b o q s t (r .0) (r .1) (omega (arith, r .2, to-end))))) refl
 
 -- what the first unmet precondition of action i says
 module _ (s : State) (task : List ℕ) (i k : ℕ) (L : Listed task i) (P : Looked s task i k) where

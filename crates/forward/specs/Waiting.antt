@@ -135,14 +135,3 @@ Settled task order s owed work ready = Sites task order (actions (taskIn task)) 
 -- the order in which actions are looked at: by cost, equal ones by number
 abbrev pub ByCost : List ℕ → List ℕ → Type 0
 ByCost task order = Ranked (λ i. act (taskIn task) i .cost) (actions (taskIn task)) order
-
--- each effect that was not reached is noted as reached by i
-pub record Noted (s : State) (effects : State) (i : ℕ) (first first′ : List ℕ) : Type 0 where
-  pub long : length first′ ≡ 4096
-  pub noted : (f : ℕ) → f < 4096 → T (reaches effects f) → reaches s f ≡ false → getD first′ f 0 ≡ i
-  pub kept : (f : ℕ) → f < 4096 → (T (reaches effects f) → T (reaches s f)) → getD first′ f 0 ≡ getD first f 0
-
--- the effects of a are noted, and new says whether one was not reached
-pub record Notes (s : State) (a : Action) (i : ℕ) (first first′ : List ℕ) (new : Bool) : Type 0 where
-  pub adds : new ≡ not (holds s (a .eff))
-  pub noted : Noted s (has (a .eff)) i first first′

@@ -8,17 +8,15 @@ use state::Relaxed;
 use state::State;
 ghost use mathlib.Core.Path.{_≡_};
 ghost use mathlib.Core.List.{[]};
-ghost use mathlib.Core.Option.{none};
-ghost use Prim.Native.Nat.{_+_, _-_, _*_, _/_, _%_, _<_, _≤_};
+ghost use Prim.Native.Nat.{_<_, _≤_};
 ghost use lib.ListN.{length, getD, replicate};
 ghost use lib.Dec.{T};
-ghost use Rattle.planning.specs.Basics.{oneIf};
-ghost use Rattle.planning.specs.Record.{recordCheck};
-ghost use Rattle.planning.specs.Runs.{has, actions, act};
+ghost use Rattle.planning.specs.Runs.{has, actions};
 ghost use Rattle.planning.specs.Calls.{forwardCall, forwardList};
 ghost use Rattle.task.specs.Task.{factsIn, taskIn, Loaded};
+ghost use Rattle.task.specs.Size.{RoomIn};
 ghost use Rattle.state.specs.Sets.{setsOf, Facts};
-ghost use Rattle.forward.specs.Waiting.{Unmet, member, Ready, LowestIn, Lowest, With, Without, hung, placeAt, Looked, Settles, Sites, Settled, ByCost, Notes};
+ghost use Rattle.forward.specs.Waiting.{Unmet, member, Ready, LowestIn, Lowest, With, Without, hung, placeAt, Looked, Settles, Sites, Settled, ByCost};
 ghost use Rattle.forward.specs.Running.{RanOf};
 ghost use Rattle.forward.specs.Answers.{foundOf, forwardOf, forwardIn};
 
@@ -175,41 +173,6 @@ fn wake(
     }
 }
 
-// 1 if fact f is in the state, else 0.
-fn held(sets: &[u64; 64], f: usize) -> usize
-    requires { ⌜ f < 4096 ⌝ }
-    ensures { λ r. ⌜ r ≡ oneIf (setsOf (now (sets .entry)) (f / 64) (f % 64)) ⌝ }
-{
-    if state::holds(sets, f) { 1 } else { 0 }
-}
-
-// The old number if h is 1, the new one if it is 0.
-fn pick(old: u16, new: usize, h: usize) -> u16
-    requires { ⌜ (new < 1024) × (h ≤ 1) ⌝ }
-    ensures { λ r. ⌜ r ≡ old * h + new * (1 - h) ⌝ }
-{
-    (lists::wide(old) * h + new * (1 - h)) as u16
-}
-
-// Action i is the first to reach those of its effects that are not in the state. True if there is one. Worked out without a branch, as
-// none could be foreseen.
-fn note(sets: &[u64; 64], task: &[u16], i: usize, first: &mut [u16; 4096]) -> bool
-    requires { ⌜ Loaded (now task) × (i < actions (taskIn (now task))) × (length (now first) ≡ 4096) ⌝ }
-    ensures { λ r. ⌜ Notes (setsOf (now (sets .entry))) (act (taskIn (now (task .entry))) i) i (now (first .entry)) (now (first .exit)) r ⌝ }
-{
-    let to = task::eff_end(task, i);
-    let mut k = task::eff_start(task, i);
-    let mut new: usize = 0;
-    while k < to {
-        let f = lists::wide(task[k]);
-        let h = held(sets, f);
-        first[f] = pick(first[f], i, h);
-        new += 1 - h;
-        k += 1;
-    }
-    new != 0
-}
-
 // Every action is ready, or waits for a precondition that is not reached.
 fn settle_each(
     sets: &[u64; 64],
@@ -237,12 +200,11 @@ pub struct Ran {
     pub state: Relaxed,
 }
 
-// The forward run of a loaded task: the actions in the front of `plan`, and the first achiever of each fact, where `first` holds
-// 65,535 before. What waits for the effects of the action taken last wakes in the turn after it: a step that ends a turn copies the
-// state twice, any other three times.
-pub fn run_forward(task: &[u16], first: &mut [u16; 4096], plan: &mut [u16; 1024]) -> Ran
-    requires { ⌜ Loaded (now task) × (now first ≡ replicate 4096 65535) × (length (now plan) ≡ 1024) ⌝ }
-    ensures { λ r. ⌜ RanOf (taskIn (now (task .entry))) (now (plan .exit)) (now (first .exit)) r ⌝ }
+// The forward run of a loaded task: the actions in the front of `plan`. What waits for the effects of the action taken last wakes in the
+// turn after it: a step that ends a turn copies the state twice, any other three times.
+pub fn run_forward(task: &[u16], plan: &mut [u16; 1024]) -> Ran
+    requires { ⌜ Loaded (now task) × (length (now plan) ≡ 1024) ⌝ }
+    ensures { λ r. ⌜ RanOf (taskIn (now (task .entry))) (now (plan .exit)) r ⌝ }
 {
     let goals = Goals::load(task);
     let count = goals.count;
@@ -272,7 +234,7 @@ pub fn run_forward(task: &[u16], first: &mut [u16; 4096], plan: &mut [u16; 1024]
         }
         unmark(&mut ready, rank);
         let i = lists::wide(order[rank]);
-        if note(&s.sets, task, i, first) {
+        if !state::has_effects(&s.sets, task, i) {
             plan[steps] = i as u16;
             steps += 1;
             from = task::eff_start(task, i);
@@ -292,9 +254,8 @@ fn forward_loaded(task: &[u16], plan: &mut [u16]) -> Found
     requires { ⌜ Loaded (now task) ⌝ }
     ensures { λ r. ⌜ (foundOf r ≡ forwardOf (taskIn (now (task .entry))) (length (now (plan .entry)))) × (now (plan .exit) ≡ forwardIn (taskIn (now (task .entry))) (length (now (plan .entry)))) ⌝ }
 {
-    let mut first = [65535u16; 4096];
     let mut run = [65535u16; 1024];
-    let ran = run_forward(task, &mut first, &mut run);
+    let ran = run_forward(task, &mut run);
     let steps = ran.steps;
     let state = ran.state;
     let reached = state.reached() as u32;
@@ -315,28 +276,26 @@ fn forward_loaded(task: &[u16], plan: &mut [u16]) -> Found
     Found::Refused(f)
 }
 
-fn forward_accepted(bytes: &[u8], plan: &mut [u16]) -> Found
-    requires { ⌜ recordCheck (now bytes) ≡ none ⌝ }
+fn forward_in(bytes: &[u8], task: &mut [u16], plan: &mut [u16]) -> Found
+    requires { ⌜ RoomIn (now bytes) (now task) ⌝ }
     ensures { λ r. ⌜ (foundOf r ≡ forwardCall (now (bytes .entry)) (length (now (plan .entry)))) × (now (plan .exit) ≡ forwardList (now (bytes .entry)) (length (now (plan .entry)))) ⌝ }
 {
-    if task::is_short(bytes) {
-        let mut task = [0u16; task::SHORT];
-        task::load(bytes, &mut task);
-        return forward_loaded(&task, plan);
-    }
-    let mut task = [0u16; task::LONG];
-    task::load(bytes, &mut task);
-    forward_loaded(&task, plan)
+    let c = task::read(bytes, task);
+    let Checked::Refused(f) = c else {
+        return forward_loaded(task, plan);
+    };
+    lists::blank(plan);
+    Found::Refused(f)
 }
 
 // The forward run of a record, in the plan list.
 pub fn forward(bytes: &[u8], plan: &mut [u16]) -> Found
     ensures { λ r. ⌜ (foundOf r ≡ forwardCall (now (bytes .entry)) (length (now (plan .entry)))) × (now (plan .exit) ≡ forwardList (now (bytes .entry)) (length (now (plan .entry)))) ⌝ }
 {
-    let c = record::check(bytes);
-    let Checked::Refused(f) = c else {
-        return forward_accepted(bytes, plan);
-    };
-    lists::blank(plan);
-    Found::Refused(f)
+    if task::is_short(bytes) {
+        let mut task = [0u16; task::SHORT];
+        return forward_in(bytes, &mut task, plan);
+    }
+    let mut task = [0u16; task::LONG];
+    forward_in(bytes, &mut task, plan)
 }

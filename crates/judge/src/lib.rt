@@ -6,15 +6,14 @@ use answers::Refusal;
 use state::Goals;
 use state::State;
 ghost use mathlib.Core.Path.{_≡_};
-ghost use mathlib.Core.Option.{none};
 ghost use Prim.Native.Nat.{_<_, _≤_};
 ghost use lib.ListN.{length};
 ghost use Rattle.planning.specs.Basics.{answer};
-ghost use Rattle.planning.specs.Record.{recordCheck};
 ghost use Rattle.planning.specs.Runs.{relaxed, real, black, judged, judgement};
 ghost use Rattle.planning.specs.Calls.{judgeCall};
 ghost use Rattle.answers.specs.Answers.{valueOf};
 ghost use Rattle.task.specs.Task.{taskIn, Loaded};
+ghost use Rattle.task.specs.Size.{RoomIn};
 ghost use Rattle.state.specs.Sets.{setsOf, valuesOf};
 ghost use Rattle.judge.specs.Answers.{judgedOf, judgementOf, answerOf, refusalOf, Ready, leading, listCheck, callerCheck, judgedList};
 ghost use Rattle.judge.specs.Traces.{Traces, StopsAs, RunsAs, Relaxes};
@@ -75,6 +74,7 @@ pub fn follow(task: &[u16], list: &[u16]) -> Trace
 {
     let paint = state::painted(task);
     let mut s = State::initial(task);
+    let mut known = [0u64; 16];
     let mut k: usize = 0;
     let mut runs: usize = 0;
     while k < list.len() {
@@ -84,7 +84,7 @@ pub fn follow(task: &[u16], list: &[u16]) -> Trace
             break;
         }
         k += 1;
-        if state::has_effects(&s.sets, task, i) {
+        if state::knows_effects(&s.sets, task, i, &mut known) {
             let old = s.newest;
             let newest = old.step(task, i);
             let sets = s.sets;
@@ -251,28 +251,26 @@ fn judge_loaded(task: &[u16], list: &[u16]) -> Judging
     Judging::Refused(f)
 }
 
-// The same from an accepted record. A byte makes at most 4 / 3 numbers, so that a small record does with a small list.
-fn judge_accepted(bytes: &[u8], list: &[u16]) -> Judging
-    requires { ⌜ recordCheck (now bytes) ≡ none ⌝ }
+// The same from a record, whose task goes to the lent list.
+fn judge_in(bytes: &[u8], task: &mut [u16], list: &[u16]) -> Judging
+    requires { ⌜ RoomIn (now bytes) (now task) ⌝ }
+    ensures { λ r. ⌜ answerOf r ≡ judgeCall (now (bytes .entry)) (now (list .entry)) ⌝ }
+{
+    let c = task::read(bytes, task);
+    let Checked::Refused(f) = c else {
+        return judge_loaded(task, list);
+    };
+    Judging::Refused(f)
+}
+
+// A list of actions judged: checks 1 to 6, 13, 9. A byte makes at most 4 / 3 numbers, so that a small record does with a small list.
+pub fn judge(bytes: &[u8], list: &[u16]) -> Judging
     ensures { λ r. ⌜ answerOf r ≡ judgeCall (now (bytes .entry)) (now (list .entry)) ⌝ }
 {
     if task::is_short(bytes) {
         let mut small = [0u16; task::SHORT];
-        task::load(bytes, &mut small);
-        return judge_loaded(&small, list);
+        return judge_in(bytes, &mut small, list);
     }
     let mut large = [0u16; task::LONG];
-    task::load(bytes, &mut large);
-    judge_loaded(&large, list)
-}
-
-// A list of actions judged: checks 1 to 6, 13, 9.
-pub fn judge(bytes: &[u8], list: &[u16]) -> Judging
-    ensures { λ r. ⌜ answerOf r ≡ judgeCall (now (bytes .entry)) (now (list .entry)) ⌝ }
-{
-    let c = record::check(bytes);
-    let Checked::Refused(f) = c else {
-        return judge_accepted(bytes, list);
-    };
-    Judging::Refused(f)
+    judge_in(bytes, &mut large, list)
 }

@@ -5,13 +5,12 @@ use answers::Refusal;
 use state::Newest;
 ghost use mathlib.Core.Path.{_≡_};
 ghost use mathlib.Core.List.{_++_};
-ghost use mathlib.Core.Option.{none};
 ghost use Prim.Native.Nat.{_≤_};
 ghost use lib.ListN.{length, drop};
-ghost use Rattle.planning.specs.Record.{recordCheck};
 ghost use Rattle.planning.specs.Newest.{tabulate};
 ghost use Rattle.planning.specs.Calls.{newestCall, newestList};
 ghost use Rattle.task.specs.Task.{taskIn, Loaded};
+ghost use Rattle.task.specs.Size.{RoomIn};
 ghost use Rattle.state.specs.Sets.{valuesOf};
 ghost use Rattle.newest.specs.Answers.{answerOf, emptyBy, Tells, Called};
 
@@ -66,30 +65,28 @@ fn tell_loaded(task: &[u16], list: &[u16], room: usize) -> Board
     }
 }
 
-// The same from an accepted record; the task of a small record is small.
-fn tell_accepted(bytes: &[u8], list: &[u16], room: usize) -> Board
-    requires { ⌜ recordCheck (now bytes) ≡ none ⌝ }
+// The same from a record, whose task goes to the lent list.
+fn tell_in(bytes: &[u8], task: &mut [u16], list: &[u16], room: usize) -> Board
+    requires { ⌜ RoomIn (now bytes) (now task) ⌝ }
+    ensures { λ r. ⌜ Called (now (bytes .entry)) (now (list .entry)) room r ⌝ }
+{
+    let c = task::read(bytes, task);
+    let Checked::Refused(f) = c else {
+        return tell_loaded(task, list, room);
+    };
+    empty(f)
+}
+
+// The task of a small record is small.
+fn tell(bytes: &[u8], list: &[u16], room: usize) -> Board
     ensures { λ r. ⌜ Called (now (bytes .entry)) (now (list .entry)) room r ⌝ }
 {
     if task::is_short(bytes) {
         let mut small = [0u16; task::SHORT];
-        task::load(bytes, &mut small);
-        return tell_loaded(&small, list, room);
+        return tell_in(bytes, &mut small, list, room);
     }
     let mut large = [0u16; task::LONG];
-    task::load(bytes, &mut large);
-    tell_loaded(&large, list, room)
-}
-
-// The record's checks, then the rest.
-fn tell(bytes: &[u8], list: &[u16], room: usize) -> Board
-    ensures { λ r. ⌜ Called (now (bytes .entry)) (now (list .entry)) room r ⌝ }
-{
-    let c = record::check(bytes);
-    let Checked::Refused(f) = c else {
-        return tell_accepted(bytes, list, room);
-    };
-    empty(f)
+    tell_in(bytes, &mut large, list, room)
 }
 
 // A byte as an entry of a list.

@@ -28,30 +28,32 @@ eqb-comm a b = go (ℕ-discrete a b)
     go (no n) = ne-eqb a b n ∙ sym (ne-eqb b a (λ q. n (sym q)))
 
 -- the sources: the one value that is asked, or any
-pub sources-one : (rest d m c : ℕ) (o : Option ℕ) → Asked o d → d < 64 → m ≡ 2 ^ d → inSet (bitAnd rest m) c ≡ (inSet rest c && fits o c)
+sources-one : (rest d m c : ℕ) (o : Option ℕ) → Asked o d → d < 64 → m ≡ 2 ^ d → inSet (bitAnd rest m) c ≡ (inSet rest c && fits o c)
 unfolding fits
 sources-one rest d m c none e h k = absurd (omega arith)
 sources-one rest d m c (some x) e h k = rw (k, inSet-and rest (2 ^ d) c, inSet-single d c, e .0, eqb-comm c x) refl
 
-pub sources-any : (rest d c : ℕ) (o : Option ℕ) → Asked o d → 64 ≤ d → inSet rest c ≡ (inSet rest c && fits o c)
+sources-any : (rest d c : ℕ) (o : Option ℕ) → Asked o d → 64 ≤ d → inSet rest c ≡ (inSet rest c && fits o c)
 unfolding fits
 sources-any rest d c none e h = sym (and-true (inSet rest c))
 sources-any rest d c (some x) e h = absurd (omega (arith, e .0, e .1))
 
--- usable or not
-none-left : (r h f : Bool) → (r && f) ≡ false → false ≡ (r && (h && f))
-none-left true true f e = sym e
-none-left true false f e = refl
-none-left false h f e = refl
-
-module _ (t : Task) (K : State) (i v rest m : ℕ) (s : (c : ℕ) → inSet m c ≡ (inSet rest c && fits (look (act t i .pre) v) c)) where
-  pub usable-empty : m ≡ 0 → (c : ℕ) → inSet 0 c ≡ (inSet rest c && sourceOf t K v i c)
+-- usable from one value, from any, or not
+module _ (t : Task) (K : State) (i v rest : ℕ) where
+  pub usable-one : (d m r : ℕ) (h : Bool) → Asked (look (act t i .pre) v) d → d < 64 → m ≡ 2 ^ d → holds K (act t i .pre) ≡ h
+      → ((c : ℕ) → inSet r c ≡ (inSet (bitAnd rest m) c && h)) → (c : ℕ) → inSet r c ≡ (inSet rest c && sourceOf t K v i c)
   unfolding sourceOf
-  usable-empty e c = inSet-empty c ∙ none-left (inSet rest c) (holds K (act t i .pre)) (fits (look (act t i .pre) v) c) (sym (s c) ∙ rw e (inSet-empty c))
+  usable-one d m r h q b e y s c =
+      s c ∙ rw (sources-one rest d m c (look (act t i .pre) v) q b e, y) (turn (inSet rest c) h (fits (look (act t i .pre) v) c))
+    where
+      turn : (r h f : Bool) → ((r && f) && h) ≡ (r && (h && f))
+      turn true true f = and-true f
+      turn true false f = and-false f
+      turn false h f = refl
 
-  pub usable-yes : holds K (act t i .pre) ≡ true → (c : ℕ) → inSet m c ≡ (inSet rest c && sourceOf t K v i c)
+  pub usable-any : (d : ℕ) → Asked (look (act t i .pre) v) d → 64 ≤ d → holds K (act t i .pre) ≡ true → (c : ℕ) → inSet rest c ≡ (inSet rest c && sourceOf t K v i c)
   unfolding sourceOf
-  usable-yes e c = rw e (s c)
+  usable-any d q b y c = rw y (sources-any rest d c (look (act t i .pre) v) q b)
 
   pub usable-no : holds K (act t i .pre) ≡ false → (c : ℕ) → inSet 0 c ≡ (inSet rest c && sourceOf t K v i c)
   unfolding sourceOf

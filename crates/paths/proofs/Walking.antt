@@ -2,21 +2,35 @@
 -- itself is that of an empty path, as an arc leaves its value.
 use mathlib.Core.Path.{_≡_, refl, sym, ap, _∙_}
 use mathlib.Core.List.{List, [], _∷_, _++_, append-assoc, append-nil}
-use Prim.Native.Nat.{ℕ, suc, _+_, _/_, _%_, _<_, _≤_}
+use mathlib.Core.Option.{none, some}
+use Prim.Native.Nat.{ℕ, zero, suc, pred, _+_, _/_, _%_, _<_, _≤_}
 use native.Mathlib.Numerals.{add-one}
 use native.Mathlib.Omega.{arith}
+use borrow.Author.Tests.{eq-eqb}
 use lib.Dec.{T}
 use lib.ListN.{length, set, take, length-set}
 use lib.Seq.{take-suc-set}
 use Rattle.planning.specs.Record.{Task}
 use Rattle.planning.specs.Runs.{State, actions, count, act}
 use Rattle.planning.specs.Painting.{target}
-use Rattle.planning.specs.Repair.{usableArc}
+use Rattle.planning.specs.Repair.{usableArc, bestIn, bestPath}
 use Rattle.planning.proofs.Formed.{Formed}
 use Rattle.planning.proofs.Best.{best-onward, arcs-inside}
 use Rattle.paths.specs.Paths.{pathsOf, leadOf, leadTo, Put}
 use Rattle.paths.specs.declared.Written.the-variants.{Upto}
 use Rattle.paths.proofs.Arcs.{arc-leaves}
+
+-- the path to where the variable is has no moves, and nothing is written
+path-none : (t : Task) (K : State) (v c d : ℕ) → c ≡ d → pathsOf t K v c d ≡ []
+unfolding bestPath bestIn
+path-none t K v c d e = go (pred (count t v))
+  where
+    go : (k : ℕ) → _≡_ {A = List ℕ} (elim (bestIn (act t) (actions t) K v k c d) [ none ↦ [] | some p ↦ p ]) []
+    go zero = rw (eq-eqb c d e) refl
+    go (suc k) = rw (eq-eqb c d e) refl
+
+pub put-none : (t : Task) (K : State) (v c d at : ℕ) (l : List ℕ) → c ≡ d → at ≤ length l → Put l l at (pathsOf t K v c d) (Upto at)
+put-none t K v c d at l e b = rw (path-none t K v c d e) (omega arith, b, sym (append-nil (take at l)))
 
 -- the list while a path is written: what stands before e, and the path from the value x on, whose lead is l
 pub record Walking (t : Task) (K : State) (v d c at : ℕ) (d₀ dd : List ℕ) (x e l : ℕ) : Type 0 where

@@ -6,11 +6,10 @@ ghost use mathlib.Core.Bool.{_&&_, _||_};
 ghost use Prim.Native.Nat.{ℕ, _+_, _/_, _<_, _≤_, min};
 ghost use lib.Dec.{T};
 ghost use lib.ListN.{length, getD};
-ghost use Rattle.planning.specs.Runs.{touches, look, actions, count, act, black};
-ghost use Rattle.planning.specs.Painting.{fits};
-ghost use Rattle.task.specs.Task.{taskIn, Loaded};
+ghost use Rattle.planning.specs.Runs.{touches, holds, actions, count, act, black};
+ghost use Rattle.task.specs.Task.{factsIn, taskIn, Loaded};
 ghost use Rattle.task.specs.Links.{Prepared};
-ghost use Rattle.state.specs.Sets.{inSet, setsOf};
+ghost use Rattle.state.specs.Sets.{inSet, setsOf, Facts};
 ghost use Rattle.paths.specs.Paths.{Member, sourceOf, pathsOf, Leads, Memo, marksFrom, anyBlack, Covers, Put};
 ghost use Rattle.paths.specs.Labels.{lower, through, highest, leadBy, Nearest, Into, Lowered, Settled};
 
@@ -49,33 +48,39 @@ pub fn next_member(set: u64, a: usize) -> usize
     if r < 64 { r } else { 64 }
 }
 
-// The values of the set from which action i, were it usable, gives an arc of v.
-fn sources(task: &[u16], i: usize, v: usize, rest: u64) -> u64
-    requires { ⌜ Loaded (now task) × (i < actions (taskIn (now task))) ⌝ }
-    ensures { λ r. ⌜ ((c : ℕ) → inSet r c ≡ (inSet rest c && fits (look (act (taskIn (now (task .entry))) i .pre) v) c)) ⌝ }
+// The set if each fact from place `from` up to `to` is held, else none.
+fn if_held(ever: &[u64; 64], facts: &[u16], from: usize, to: usize, set: u64) -> u64
+    requires { ⌜ Facts (now facts) from to ⌝ }
+    ensures { λ r. ⌜ ((c : ℕ) → inSet r c ≡ (inSet set c && holds (setsOf (now (ever .entry))) (factsIn (now (facts .entry)) from to))) ⌝ }
 {
-    let d = state::need(task, i, v);
-    if d < 64 {
-        rest & state::single(d)
-    } else {
-        rest
-    }
-}
-
-// The values of the set from which action i gives a usable arc of v: none if it is not usable.
-fn usable_sources(ever: &[u64; 64], task: &[u16], i: usize, v: usize, rest: u64) -> u64
-    requires { ⌜ Loaded (now task) × (i < actions (taskIn (now task))) ⌝ }
-    ensures { λ r. ⌜ ((c : ℕ) → inSet r c ≡ (inSet rest c && sourceOf (taskIn (now (task .entry))) (setsOf (now (ever .entry))) v i c)) ⌝ }
-{
-    let set = sources(task, i, v, rest);
     if set == 0 {
         return 0;
     }
-    if state::applies(ever, task, i) {
+    if state::all_hold(ever, facts, from, to) {
         set
     } else {
         0
     }
+}
+
+// The values of the set from which action i gives a usable arc of v: none if it is not usable. Its preconditions are gone through once.
+fn usable_sources(ever: &[u64; 64], task: &[u16], i: usize, v: usize, rest: u64) -> u64
+    requires { ⌜ Loaded (now task) × (i < actions (taskIn (now task))) ⌝ }
+    ensures { λ r. ⌜ ((c : ℕ) → inSet r c ≡ (inSet rest c && sourceOf (taskIn (now (task .entry))) (setsOf (now (ever .entry))) v i c)) ⌝ }
+{
+    let to = task::eff_start(task, i);
+    let mut k = task::pre_start(task, i);
+    while k < to {
+        let f = lists::wide(task[k]);
+        if !state::holds(ever, f) {
+            return 0;
+        }
+        k += 1;
+        if f / 64 == v {
+            return if_held(ever, task, k, to, rest & state::single(f % 64));
+        }
+    }
+    rest
 }
 
 fn lesser(a: u64, b: u64) -> u64
@@ -229,6 +234,9 @@ pub fn path(
     ensures { λ r. ⌜ Put (now (list .entry)) (now (list .exit)) at (pathsOf (taskIn (now (task .entry))) (setsOf (now (ever .entry))) v c d) r ⌝ }
     ensures { λ _. ⌜ Memo (taskIn (now (task .entry))) (setsOf (now (ever .entry))) (now (memo .exit)) ⌝ }
 {
+    if c == d {
+        return Written::Upto(at);
+    }
     prepare(task, ever, memo, v, d);
     let from = 64 * d;
     let mut x = c;

@@ -7,14 +7,14 @@ use answers::Planned;
 ghost use mathlib.Core.Path.{_≡_};
 ghost use mathlib.Core.Bool.{true};
 ghost use mathlib.Core.List.{[]};
-ghost use mathlib.Core.Option.{none};
 ghost use lib.ListN.{length};
-ghost use Rattle.planning.specs.Record.{taskOf, recordCheck};
+ghost use Rattle.planning.specs.Record.{taskOf};
 ghost use Rattle.planning.specs.Runs.{relaxed, isPlan};
 ghost use Rattle.planning.specs.Relaxed.{relaxedPlan};
 ghost use Rattle.planning.specs.Calls.{planCall, planList, planMarks, repairCall, repairList, repairMarks, workList, planIn, marksIn, runnable, lent, lentBytes};
 ghost use Rattle.planning.specs.Existence.{Demand3, Bounded, Ceiling, Recovers};
 ghost use Rattle.task.specs.Task.{taskIn, Loaded};
+ghost use Rattle.task.specs.Size.{RoomIn};
 ghost use Rattle.task.specs.Links.{Prepared};
 ghost use Rattle.answers.specs.Plans.{answerOf, stepsOf};
 ghost use Rattle.repair.specs.Answers.{roomIn};
@@ -75,29 +75,27 @@ fn plan_loaded(
     plan_prepared(task, given, list, plan, work, marks)
 }
 
-// The task of a small record is small, so that little has to be cleared.
-fn plan_accepted(
+// The same from a record, whose task goes to the lent list.
+fn plan_in(
     bytes: &[u8],
+    task: &mut [u16],
     given: bool,
     list: &[u16],
     plan: &mut [u16],
     work: &[u16],
     marks: &mut [u8],
 ) -> Planned
-    requires { ⌜ recordCheck (now bytes) ≡ none ⌝ }
+    requires { ⌜ RoomIn (now bytes) (now task) ⌝ }
     ensures { λ r. ⌜ Called given (now (bytes .entry)) (now (list .entry)) (roomIn (now (plan .entry)) (now (work .entry)) (now (marks .entry))) (now (plan .exit)) (now (marks .exit)) r ⌝ }
 {
-    if task::is_short(bytes) {
-        let mut small = [0u16; task::SHORT];
-        task::load(bytes, &mut small);
-        return plan_loaded(&mut small, given, list, plan, work, marks);
-    }
-    let mut large = [0u16; task::LONG];
-    task::load(bytes, &mut large);
-    plan_loaded(&mut large, given, list, plan, work, marks)
+    let c = task::read(bytes, task);
+    let Checked::Refused(f) = c else {
+        return plan_loaded(task, given, list, plan, work, marks);
+    };
+    Planned::Refused(f)
 }
 
-// The record's checks, then the rest.
+// The task of a small record is small, so that little has to be cleared.
 fn plan_checked(
     bytes: &[u8],
     given: bool,
@@ -108,11 +106,12 @@ fn plan_checked(
 ) -> Planned
     ensures { λ r. ⌜ Called given (now (bytes .entry)) (now (list .entry)) (roomIn (now (plan .entry)) (now (work .entry)) (now (marks .entry))) (now (plan .exit)) (now (marks .exit)) r ⌝ }
 {
-    let c = record::check(bytes);
-    let Checked::Refused(f) = c else {
-        return plan_accepted(bytes, given, list, plan, work, marks);
-    };
-    Planned::Refused(f)
+    if task::is_short(bytes) {
+        let mut small = [0u16; task::SHORT];
+        return plan_in(bytes, &mut small, given, list, plan, work, marks);
+    }
+    let mut large = [0u16; task::LONG];
+    plan_in(bytes, &mut large, given, list, plan, work, marks)
 }
 
 // The steps of an answer, 0 after a refusal.

@@ -1,21 +1,23 @@
 -- The checks of a record, case by case: what each test in the code says of the definition's checks.
 use mathlib.Core.Path.{_≡_, refl, sym, ap, _∙_}
 use mathlib.Core.Bool.{Bool, true, false, _&&_}
-use mathlib.Core.List.{List, _∷_, _++_}
+use mathlib.Core.List.{List, [], _∷_, _++_}
 use mathlib.Core.Option.{none}
 use Prim.Native.Nat.{ℕ, zero, suc, _+_, _-_, _*_, _/_, _%_, _^_, _≤_, _<_}
 use native.Mathlib.Nat.{lt-of-lt-of-le}
 use lib.Pow.{pow-mono}
 use native.Mathlib.Omega.{arith}
-use borrow.Author.Tests.{eq-eqb, ne-eqb, le-leb, lt-leb, lt-ltb, le-ltb, leb-true}
+use borrow.Author.Tests.{eq-eqb, ne-eqb, le-leb, lt-leb, lt-ltb, le-ltb, eqb-true, leb-true, ltb-true}
 use native.Mathlib.Decide.{ℕ-discrete, decLt}
-use lib.Dec.{eqb, leb, ltb}
+use lib.Dec.{eqb, leb, ltb, leb→le, ltb→lt}
 use lib.ListN.{length, getD, set, replicate, length-set}
 use lib.Seq.{getD-set-same, getD-set-other}
-use Rattle.planning.specs.Basics.{refuse, check, andThen, inOrder, Answer, answer, refused, done, bitsAt, holdsField}
+use Rattle.planning.specs.Basics.{Check, refuse, check, andThen, inOrder, Answer, answer, refused, done, bitsAt, holdsField}
 use Rattle.planning.specs.Record.{variablesIn, actionsIn, countIn, headerChecks, recordChecks, recordCheck, preconditionsIn, effectsIn, effectsFrom, actionEnd}
 use Rattle.planning.specs.Record.{actionsEnd, fieldCheck, goalFits, variableChecks, variablesChecks, endsAt, recordEnd, factChecks, factsChecks, actionChecks}
 use Rattle.planning.specs.Record.{actionsChecks}
+use Rattle.planning.proofs.Tests.{and-l, and-r}
+use Rattle.planning.proofs.Checks.{check-none, andThen-none, inOrder-++, inOrder-passed}
 use Rattle.planning.proofs.Fields.{actionEnd-le, actionsEnd-le}
 use Rattle.bits.proofs.Window.{bitsAt-lt, bitsAt-add}
 use Rattle.answers.proofs.Stages.{stage-passes, skip, skip-stage, stops-stage, pass-end}
@@ -24,7 +26,8 @@ use Rattle.answers.specs.declared.Refusal.{Refusal}
 use Rattle.answers.specs.declared.Number.{Number}
 use Rattle.answers.specs.declared.Number.the-variants.{Refused}
 use Rattle.answers.specs.Answers.{valueOf}
-use Rattle.record.specs.Stages.{Counts, Sound, Few, SoundVariable, fromEnd, fromActions, fromVariables, fromActionCount, fromVariableCount, actionFactsChecks, initialChecks, goalChecks}
+use Rattle.record.specs.Stages.{Counts, Sound, Few, Unsound, SoundHeader, SoundVariable}
+use Rattle.record.specs.Stages.{fromEnd, fromActions, fromVariables, fromActionCount, fromVariableCount, actionFactsChecks, initialChecks, goalChecks}
 
 check-true : (b : Bool) (n p : ℕ) → check b n p ≡ none → b ≡ true
 unfolding check
@@ -155,8 +158,23 @@ module _ (s : List ℕ) (p low f : ℕ) (counts : List ℕ) (e : f ≡ bitsAt s 
       stage-passes (factChecks s p low) (factsChecks s (p + 12) (bitsAt s p 6 + 1) m) sound-passes
       ∙ ap (λ (x : ℕ). inOrder (factsChecks s (p + 12) (x + 1) m)) (sym (fact-var s p f e))
 
+-- and a fact that passes its checks is sound
+stage-parts : (xs ys : List Check) → inOrder (xs ++ ys) ≡ none → (inOrder xs ≡ none) × (inOrder ys ≡ none)
+stage-parts xs ys e = andThen-none (inOrder xs) (inOrder ys) (sym (inOrder-++ xs ys) ∙ e)
+
+fact-sound : (s : List ℕ) (p low f : ℕ) (counts : List ℕ) → f ≡ bitsAt s p 12 → Counts s counts (variablesIn s) → inOrder (factChecks s p low) ≡ none → Sound counts f low
+unfolding factChecks
+fact-sound s p low f counts e C h =
+    let P = inOrder-passed (factChecks s p low) h in
+    let a = check-none (ltb (bitsAt s p 6) (variablesIn s) && leb low (bitsAt s p 6)) 5 p (P .1 .0) in
+    let b = check-none (ltb (bitsAt s (p + 6) 6) (countIn s (bitsAt s p 6))) 4 (p + 6) (P .1 .1 .1 .0) in
+    let v : bitsAt s p 6 < variablesIn s = ltb→lt (bitsAt s p 6) (variablesIn s) (search and-l) in
+    let l : low ≤ bitsAt s p 6 = leb→le low (bitsAt s p 6) (search and-r) in
+    let d = ltb→lt (bitsAt s (p + 6) 6) (countIn s (bitsAt s p 6)) b in
+    record { rises = rw (fact-var s p f e) l; value = rw (fact-var s p f e, fact-val s p f e, C .right (bitsAt s p 6) v) d }
+
 -- fact k of a window
-leading-fact : (s : List ℕ) (p w k : ℕ) → Leading s p w → k ≤ 3 → p + 12 * (k + 1) ≤ 8 * length s → w / 2 ^ (64 - (12 * k + 12)) % 4096 ≡ bitsAt s (p + 12 * k) 12
+pub leading-fact : (s : List ℕ) (p w k : ℕ) → Leading s p w → k ≤ 3 → p + 12 * (k + 1) ≤ 8 * length s → w / 2 ^ (64 - (12 * k + 12)) % 4096 ≡ bitsAt s (p + 12 * k) 12
 leading-fact s p w k L h l =
     rw (L (12 * k + 12) (omega arith) (omega arith)) (omega (arith, bitsAt-add s p (12 * k) 12, bitsAt-lt s (p + 12 * k) 12))
 
@@ -177,6 +195,19 @@ few-more w n k low counts r f en h F ef S = record { passes = more }
         let e2 : p + 12 * n ≡ p + 12 * k + 12 = omega arith in
         rw (e1, e2) (F .passes s p (suc m) L (omega arith) C ∙ sound-step s (p + 12 * k) r f counts (ef ∙ leading-fact s p w k L h (omega arith)) (omega arith) C S m)
 
+-- and one that is not sound
+pub few-stops : (w n k low : ℕ) (counts : List ℕ) (r f : ℕ) → k < n → n ≤ 4 → Few w k low counts r → f ≡ w / 2 ^ (64 - (12 * k + 12)) % 4096 → (Sound counts f r → ⊥) → Unsound w n low counts
+unfolding factsChecks
+few-stops w n k low counts r f h l F ef N = record { refuses = stops }
+  where
+    stops : (s : List ℕ) (p m : ℕ) → Leading s p w → p + 12 * n ≤ 8 * length s → Counts s counts (variablesIn s) → inOrder (factsChecks s p low (n + m)) ≡ none → ⊥
+    stops s p m L b C e =
+        let j = n - (k + 1) + m in
+        let q : n + m ≡ k + suc j = omega arith in
+        let a : inOrder (factsChecks s (p + 12 * k) r (suc j)) ≡ none = sym (F .passes s p (suc j) L (omega arith) C) ∙ (rw q at e) in
+        let d = stage-parts (factChecks s (p + 12 * k) r) (factsChecks s (p + 12 * k + 12) (bitsAt s (p + 12 * k) 6 + 1) j) a in
+        N (fact-sound s (p + 12 * k) r f counts (ef ∙ leading-fact s p w k L (omega arith) (omega arith)) C (d .0))
+
 pub few-as : (w n k low : ℕ) (counts : List ℕ) (r : ℕ) → n ≡ k → Few w k low counts r → Few w n low counts r
 few-as w n k low counts r e F = rw e F
 
@@ -189,10 +220,10 @@ pub record Run (s : List ℕ) (from count at low left : ℕ) : Type 0 where
 pub run-start : (s : List ℕ) (from count : ℕ) → Run s from count from 0 count
 run-start s from count = record { within = omega arith; place = refl; checks = refl }
 
-module _ (s : List ℕ) (from count at low left w : ℕ) (counts : List ℕ) (r : ℕ) (I : Run s from count at low left) (L : Leading s at w)
+module _ (s : List ℕ) (from count at low left w : ℕ) (counts : List ℕ) (I : Run s from count at low left) (L : Leading s at w)
     (there : from + 12 * count ≤ 8 * length s) (C : Counts s counts (variablesIn s)) where
-  pub run-turn : 4 < left → Few w 4 low counts r → Run s from count (at + 48) r (left - 4)
-  run-turn h F =
+  pub run-turn : (r : ℕ) → 4 < left → Few w 4 low counts r → Run s from count (at + 48) r (left - 4)
+  run-turn r h F =
       let e : left ≡ 4 + (left - 4) = omega arith in
       record {
         within = omega (arith, I .within);
@@ -200,11 +231,16 @@ module _ (s : List ℕ) (from count at low left w : ℕ) (counts : List ℕ) (r 
         checks = I .checks ∙ (ap (λ (x : ℕ). inOrder (factsChecks s at low x)) e ∙ F .passes s at (left - 4) L (omega (arith, I .place)) C);
       }
 
-  pub run-last : Few w left low counts r → inOrder (factsChecks s from 0 count) ≡ none
+  pub run-last : (r : ℕ) → Few w left low counts r → inOrder (factsChecks s from 0 count) ≡ none
   unfolding factsChecks inOrder
-  run-last F =
+  run-last r F =
       let e : left ≡ left + 0 = omega arith in
       I .checks ∙ (ap (λ (x : ℕ). inOrder (factsChecks s at low x)) e ∙ F .passes s at 0 L (omega (arith, I .place)) C)
+
+  pub run-stop : (n : ℕ) → n ≤ left → Unsound w n low counts → inOrder (factsChecks s from 0 count) ≡ none → ⊥
+  run-stop n h U e =
+      let q : n + (left - n) ≡ left = omega arith in
+      U .refuses s at (left - n) L (omega (arith, I .place)) C (ap (λ (x : ℕ). inOrder (factsChecks s at low x)) q ∙ (sym (I .checks) ∙ e))
 
 pub run-none : (s : List ℕ) (from count at low left : ℕ) → Run s from count at low left → left ≡ 0 → inOrder (factsChecks s from 0 count) ≡ none
 unfolding factsChecks inOrder
@@ -285,6 +321,24 @@ module _ (s : List ℕ) (p b : ℕ) (e : b ≡ bitsAt s p 20) where
           (b / 16384) ≡ answer (inOrder (initialChecks s p (b / 16384))) (b / 16384)
       initial f = skip _ _ _ _ (field-there s (p + 7) 6 (omega arith)) (skip _ _ _ _ (value-right (b / 128 % 64) (bitsAt s (p + 7) 6) (b / 16384) 4 (p + 7) (sym (f .1)) (S .initial)) (goal f))
 
+  -- and one whose checks pass is sound
+  pub variable-exact : inOrder (variableChecks s p) ≡ none → SoundVariable b
+  unfolding variableChecks
+  variable-exact h =
+      let f = split-20 in
+      let P = inOrder-passed (variableChecks s p) h in
+      let i = check-true (ltb (bitsAt s (p + 7) 6) (bitsAt s p 6 + 1)) 4 (p + 7) (P .1 .1 .1 .0) in
+      let g = check-true (goalFits (bitsAt s (p + 13) 1) (bitsAt s (p + 14) 6) (bitsAt s p 6 + 1)) 4 (p + 14) (P .1 .1 .1 .1 .1 .1 .0) in
+      let k = sym (fit s p (bitsAt s p 6) (bitsAt s (p + 13) 1) (bitsAt s (p + 14) 6) refl refl) ∙ g in
+      record {
+        initial = rw (f .0, f .1) (omega (arith, ltb-true (bitsAt s (p + 7) 6) (bitsAt s p 6 + 1) i));
+        goal = rw (f .0, f .2, f .3) (leb-true (bitsAt s (p + 14) 6) (bitsAt s p 6 * bitsAt s (p + 13) 1) k);
+      }
+
+pub variable-fits : (s : List ℕ) (p : ℕ) → inOrder (variableChecks s p) ≡ none → p + 20 ≤ 8 * length s
+unfolding variableChecks
+variable-fits s p h = let P = inOrder-passed (variableChecks s p) h in omega (arith, field-fits s (p + 14) 6 (P .1 .1 .1 .1 .1 .0))
+
 -- the facts of an action: the preconditions refuse, or pass and the effects say
 module _ (s : List ℕ) (p pre : ℕ) (ep : pre ≡ preconditionsIn s p) where
   pub pre-refused : (r : Number) (f : Refusal) (b d : ℕ) → r ≡ Refused f → valueOf r ≡ answer (inOrder (factsChecks s (p + 24) 0 pre)) b → valueOf r ≡ answer (inOrder (actionFactsChecks s p)) d
@@ -297,28 +351,60 @@ module _ (s : List ℕ) (p pre : ℕ) (ep : pre ≡ preconditionsIn s p) where
   unfolding actionFactsChecks actionEnd effectsFrom
   eff-answer eff mid a ee e h = rw (← ep, ← ee, e .1) (skip-stage (factsChecks s (p + 24) 0 pre) (factsChecks s mid 0 eff) a (mid + 12 * eff) (e .0) h)
 
--- an action whose head is there and whose facts pass: its two counts in one
+-- the two counts of an action in one
 module _ (s : List ℕ) (p b : ℕ) (e : b ≡ bitsAt s (p + 16) 8) where
   both : bitsAt s (p + 16) 8 ≡ bitsAt s (p + 16) 4 * 16 + bitsAt s (p + 20) 4
   both = let f : p + 16 + 4 ≡ p + 20 = omega arith in rw f at (bitsAt-add s (p + 16) 4 4)
 
-  pre-count : b / 16 ≡ bitsAt s (p + 16) 4
+  pub pre-count : b / 16 ≡ preconditionsIn s p
+  unfolding preconditionsIn
   pre-count = omega (arith, both, bitsAt-lt s (p + 20) 4)
 
-  eff-count : b % 16 ≡ bitsAt s (p + 20) 4
+  pub eff-count : b % 16 ≡ effectsIn s p
+  unfolding effectsIn
   eff-count = omega (arith, both, bitsAt-lt s (p + 20) 4)
 
-  pub action-sound :
-      p + 24 ≤ 8 * length s → inOrder (factsChecks s (p + 24) 0 (b / 16)) ≡ none → inOrder (factsChecks s (p + 24 + 12 * (b / 16)) 0 (b % 16)) ≡ none
-      → (inOrder (actionChecks s p) ≡ none) × (p + 24 + 12 * (b / 16 + b % 16) ≡ actionEnd s p)
-  unfolding actionChecks actionEnd effectsFrom preconditionsIn effectsIn inOrder andThen
-  action-sound l f g =
-      let ep = pre-count in
-      let ee = eff-count in (
-        rw (field-there s p 16 (omega arith), field-there s (p + 16) 4 (omega arith), field-there s (p + 20) 4 (omega arith), ← ep, ← ee)
-            (stage-passes (factsChecks s (p + 24) 0 (b / 16)) (factsChecks s (p + 24 + 12 * (b / 16)) 0 (b % 16)) f ∙ g),
-        omega arith,
-      )
+-- an action whose head is there and whose facts pass
+pub action-sound :
+    (s : List ℕ) (p pre eff : ℕ) → pre ≡ preconditionsIn s p → eff ≡ effectsIn s p → p + 24 ≤ 8 * length s → inOrder (factsChecks s (p + 24) 0 pre) ≡ none
+    → inOrder (factsChecks s (p + 24 + 12 * pre) 0 eff) ≡ none → (inOrder (actionChecks s p) ≡ none) × (p + 24 + 12 * (pre + eff) ≡ actionEnd s p)
+unfolding actionChecks actionEnd effectsFrom inOrder andThen
+action-sound s p pre eff ep ee l f g = (
+  rw (field-there s p 16 (omega arith), field-there s (p + 16) 4 (omega arith), field-there s (p + 20) 4 (omega arith), ← ep, ← ee)
+      (stage-passes (factsChecks s (p + 24) 0 pre) (factsChecks s (p + 24 + 12 * pre) 0 eff) f ∙ g),
+  omega arith,
+)
+
+-- and what an action that passes its checks has: the bytes hold it, and both lists pass
+facts-fit : (s : List ℕ) (p low n : ℕ) → p ≤ 8 * length s → inOrder (factsChecks s p low n) ≡ none → p + 12 * n ≤ 8 * length s
+unfolding factsChecks factChecks
+facts-fit s p low zero l e = omega arith
+facts-fit s p low (suc n) l e =
+    let h = stage-parts (factChecks s p low) (factsChecks s (p + 12) (bitsAt s p 6 + 1) n) e in
+    let P = inOrder-passed (factChecks s p low) (h .0) in
+    let b = field-fits s (p + 6) 6 (P .1 .1 .0) in
+    omega (arith, facts-fit s (p + 12) (bitsAt s p 6 + 1) n (omega arith) (h .1))
+
+pub record Passing (s : List ℕ) (p : ℕ) : Type 0 where
+  pub head : p + 24 ≤ 8 * length s
+  pub whole : actionEnd s p ≤ 8 * length s
+  pub pre : inOrder (factsChecks s (p + 24) 0 (preconditionsIn s p)) ≡ none
+  pub eff : inOrder (factsChecks s (p + 24 + 12 * preconditionsIn s p) 0 (effectsIn s p)) ≡ none
+
+pub action-exact : (s : List ℕ) (p : ℕ) → inOrder (actionChecks s p) ≡ none → Passing s p
+unfolding actionChecks actionEnd effectsFrom
+action-exact s p e =
+    let head : List Check = fieldCheck s p 16 ∷ fieldCheck s (p + 16) 4 ∷ fieldCheck s (p + 20) 4 ∷ [] in
+    let P = stage-parts head (factsChecks s (p + 24) 0 (preconditionsIn s p) ++ factsChecks s (p + 24 + 12 * preconditionsIn s p) 0 (effectsIn s p)) e in
+    let Q = stage-parts (factsChecks s (p + 24) 0 (preconditionsIn s p)) (factsChecks s (p + 24 + 12 * preconditionsIn s p) 0 (effectsIn s p)) (P .1) in
+    let h = field-fits s (p + 20) 4 (inOrder-passed head (P .0) .1 .1 .0) in
+    let a = facts-fit s (p + 24) 0 (preconditionsIn s p) (omega arith) (Q .0) in
+    record {
+      head = omega arith;
+      whole = facts-fit s (p + 24 + 12 * preconditionsIn s p) 0 (effectsIn s p) a (Q .1);
+      pre = Q .0;
+      eff = Q .1;
+    }
 
 pub action-done : (s : List ℕ) (p end : ℕ) → (inOrder (actionChecks s p) ≡ none) × (end ≡ actionEnd s p) → done end ≡ answer (inOrder (actionChecks s p)) (actionEnd s p)
 unfolding answer
@@ -343,6 +429,9 @@ module _ (s : List ℕ) (from count at i : ℕ) (I : Behind s from count at i) w
       valueOf r ≡ answer (inOrder (actionsChecks s from count)) d
   action-stops r f d h e k = rw (actions-step h) (stops-stage r f _ _ _ d e k)
 
+  pub action-here : i < count → inOrder (actionsChecks s from count) ≡ none → inOrder (actionChecks s at) ≡ none
+  action-here h e = stage-parts (actionChecks s at) (actionsChecks s (actionEnd s at) (count - (i + 1))) (sym (actions-step h) ∙ e) .0
+
   pub actions-turn : (end : ℕ) → i < count → (inOrder (actionChecks s at) ≡ none) × (actionEnd s at ≡ end) → Behind s from count end (i + 1)
   unfolding actionsEnd
   actions-turn end h a =
@@ -364,6 +453,15 @@ not-done r f b e h = absurd (apart (f .number) (f .place) (sym (ap valueOf e) �
   where
     apart : (n p : ℕ) → _≡_ {A = Answer ℕ} (refused n p) (done b) → ⊥
     apart n p z = let y : _≡_ {A = ℕ} 0 1 = cc in omega arith
+
+-- the count of values of a variable
+pub count-is : (s : List ℕ) (v last : ℕ) → bitsAt s (22 + 20 * v) 6 ≡ last → last + 1 ≡ countIn s v
+unfolding countIn
+count-is s v last e = ap (λ (x : ℕ). x + 1) (sym e)
+
+pub count-below : (s : List ℕ) (v : ℕ) → countIn s v ≤ 64
+unfolding countIn
+count-below s v = omega (arith, bitsAt-lt s (22 + 20 * v) 6)
 
 -- a run of variables: where it starts, one more that is right, and the end
 pub no-counts : (s : List ℕ) (n : ℕ) → Counts s (replicate n 0) 0
@@ -398,26 +496,24 @@ module _ (s : List ℕ) (count : ℕ) (counts : List ℕ) (i : ℕ) (I : Seen s 
       valueOf r ≡ answer (inOrder (variablesChecks s 22 count)) d
   variable-stops r f b d h e k = rw (variables-step h) (stops-stage r f _ _ b d e k)
 
-  pub variables-turn : (last : ℕ) → i < count → count ≤ 64 → (inOrder (variableChecks s (22 + 20 * i)) ≡ none) × (bitsAt s (22 + 20 * i) 6 ≡ last) → Seen s
-      count (set counts i ((last + 1) % 256)) (i + 1)
-  unfolding countIn
-  variables-turn last h k a =
+  pub variable-here : i < count → inOrder (variablesChecks s 22 count) ≡ none → inOrder (variableChecks s (22 + 20 * i)) ≡ none
+  variable-here h e = stage-parts (variableChecks s (22 + 20 * i)) (variablesChecks s (22 + 20 * (i + 1)) (count - (i + 1))) (sym (variables-step h) ∙ e) .0
+
+  pub variables-turn : (c : ℕ) → i < count → count ≤ 64 → inOrder (variableChecks s (22 + 20 * i)) ≡ none → c ≡ countIn s i → Seen s count (set counts i c) (i + 1)
+  variables-turn c h k a e =
       record {
         within = omega arith;
-        size = length-set counts i ((last + 1) % 256) ∙ I .size;
-        checks = variables-step h ∙ stage-passes (variableChecks s (22 + 20 * i)) (variablesChecks s (22 + 20 * (i + 1)) (count - (i + 1))) (a .0);
+        size = length-set counts i c ∙ I .size;
+        checks = variables-step h ∙ stage-passes (variableChecks s (22 + 20 * i)) (variablesChecks s (22 + 20 * (i + 1)) (count - (i + 1))) a;
         holds = record { right = λ v b. at v b (ℕ-discrete v i); behind = λ v b. past v b };
       }
     where
-      small : (last + 1) % 256 ≡ last + 1
-      small = omega (arith, a .1, bitsAt-lt s (22 + 20 * i) 6)
+      at : (v : ℕ) → v < i + 1 → Dec (v ≡ i) → getD (set counts i c) v 0 ≡ countIn s v
+      at v b (yes q) = rw (q, getD-set-same counts i c 0 (omega (arith, I .size))) e
+      at v b (no n) = rw (getD-set-other counts i v c 0 n) (I .holds .right v (omega arith))
 
-      at : (v : ℕ) → v < i + 1 → Dec (v ≡ i) → getD (set counts i ((last + 1) % 256)) v 0 ≡ bitsAt s (22 + 20 * v) 6 + 1
-      at v b (yes e) = rw (e, getD-set-same counts i ((last + 1) % 256) 0 (omega (arith, I .size)), small, a .1) refl
-      at v b (no n) = rw (getD-set-other counts i v ((last + 1) % 256) 0 n) (I .holds .right v (omega arith))
-
-      past : (v : ℕ) → i + 1 ≤ v → getD (set counts i ((last + 1) % 256)) v 0 ≡ 0
-      past v b = rw (getD-set-other counts i v ((last + 1) % 256) 0 (λ e. omega arith)) (I .holds .behind v (omega arith))
+      past : (v : ℕ) → i + 1 ≤ v → getD (set counts i c) v 0 ≡ 0
+      past v b = rw (getD-set-other counts i v c 0 (λ q. omega arith)) (I .holds .behind v (omega arith))
 
   pub variables-done : count ≤ i → (_≡_ {A = Answer ℕ} (done 0) (answer (inOrder (variablesChecks s 22 count)) 0)) × Counts s counts count
   unfolding variablesChecks inOrder answer
@@ -482,3 +578,76 @@ edition-right a b n p e h = rw (e, eq-eqb a 1 h) refl
 pub recordCheck-is : (s : List ℕ) → recordCheck s ≡ inOrder (fieldCheck s 0 4 ∷ check (eqb (bitsAt s 0 4) 1) 2 0 ∷ fromVariableCount s)
 unfolding recordCheck recordChecks headerChecks fromVariableCount fromActionCount fromVariables fromActions fromEnd
 recordCheck-is s = refl
+
+-- a header whose 22 bits are sound passes, and the other way round
+module _ (s : List ℕ) (b : ℕ) (e : b ≡ bitsAt s 0 22) where
+  pub split-22 : (b / 262144 ≡ bitsAt s 0 4) × (b / 2048 % 128 ≡ variablesIn s) × (b % 2048 ≡ actionsIn s)
+  unfolding variablesIn actionsIn
+  split-22 =
+      let f1 = bitsAt-add s 0 11 11 in
+      let f2 = bitsAt-add s 0 4 7 in
+      let g1 = bitsAt-lt s 11 11 in
+      let g2 = bitsAt-lt s 4 7 in
+      (omega arith, omega arith, omega arith)
+
+  pub header-sound : 22 ≤ 8 * length s → SoundHeader b → inOrder (headerChecks s) ≡ none
+  unfolding headerChecks inOrder andThen
+  header-sound l S =
+      let f = split-22 in
+      rw (
+        field-there s 0 4 (omega arith),
+        edition-right (b / 262144) (bitsAt s 0 4) 2 0 (sym (f .0)) (S .edition),
+        field-there s 4 7 (omega arith),
+        range-right (b / 2048 % 128) (variablesIn s) 3 4 (sym (f .1)) (S .variables-min) (S .variables-max),
+        field-there s 11 11 (omega arith),
+        count-right (b % 2048) (actionsIn s) 3 11 (sym (f .2)) (S .actions-max),
+      )
+      refl
+
+  pub header-exact : inOrder (headerChecks s) ≡ none → SoundHeader b
+  unfolding headerChecks
+  header-exact h =
+      let f = split-22 in
+      let P = inOrder-passed (headerChecks s) h in
+      let v = check-none (leb 1 (variablesIn s) && leb (variablesIn s) 64) 3 4 (P .1 .1 .1 .0) in
+      record {
+        edition = rw (f .0) (eqb-true (bitsAt s 0 4) 1 (check-true (eqb (bitsAt s 0 4) 1) 2 0 (P .1 .0)));
+        variables-min = rw (f .1) (leb→le 1 (variablesIn s) (search and-l));
+        variables-max = rw (f .1) (leb→le (variablesIn s) 64 (search and-r));
+        actions-max = rw (f .2) (leb-true (actionsIn s) 1024 (check-true (leb (actionsIn s) 1024) 3 11 (P .1 .1 .1 .1 .1 .0)));
+      }
+
+pub header-fits : (s : List ℕ) → inOrder (headerChecks s) ≡ none → 22 ≤ 8 * length s
+unfolding headerChecks
+header-fits s h = omega (arith, field-fits s 11 11 (inOrder-passed (headerChecks s) h .1 .1 .1 .1 .0))
+
+pub header-range : (s : List ℕ) → inOrder (headerChecks s) ≡ none → (1 ≤ variablesIn s) × (variablesIn s ≤ 64) × (actionsIn s ≤ 1024)
+header-range s h =
+    let f = split-22 s (bitsAt s 0 22) refl in
+    let S = header-exact s (bitsAt s 0 22) refl h in
+    (omega (arith, S .variables-min), omega (arith, S .variables-max), omega (arith, S .actions-max))
+
+-- the whole record, part by part
+pub record Accepted (s : List ℕ) : Type 0 where
+  pub header : inOrder (headerChecks s) ≡ none
+  pub variables : inOrder (variablesChecks s 22 (variablesIn s)) ≡ none
+  pub actions : inOrder (actionsChecks s (22 + 20 * variablesIn s) (actionsIn s)) ≡ none
+  pub end : inOrder (fromEnd s) ≡ none
+
+module _ (s : List ℕ) where
+  pub accepted : Accepted s → recordCheck s ≡ none
+  unfolding recordCheck recordChecks fromEnd
+  accepted A =
+      let vs = variablesChecks s 22 (variablesIn s) in
+      let acts = actionsChecks s (22 + 20 * variablesIn s) (actionsIn s) in
+      stage-passes (headerChecks s) (vs ++ (acts ++ fromEnd s)) (A .header) ∙ stage-passes vs (acts ++ fromEnd s) (A .variables) ∙ stage-passes acts (fromEnd s) (A .actions) ∙ A .end
+
+  pub accepted-parts : recordCheck s ≡ none → Accepted s
+  unfolding recordCheck recordChecks fromEnd
+  accepted-parts e =
+      let vs = variablesChecks s 22 (variablesIn s) in
+      let acts = actionsChecks s (22 + 20 * variablesIn s) (actionsIn s) in
+      let P = stage-parts (headerChecks s) (vs ++ (acts ++ fromEnd s)) e in
+      let Q = stage-parts vs (acts ++ fromEnd s) (P .1) in
+      let R = stage-parts acts (fromEnd s) (Q .1) in
+      record { header = P .0; variables = Q .0; actions = R .0; end = R .1 }

@@ -1,6 +1,6 @@
 -- The checks of a record from a place on, as the functions of the check take them up, and what their answers say.
 use mathlib.Core.Path.{_≡_}
-use mathlib.Core.Bool.{_&&_}
+use mathlib.Core.Bool.{Bool, true, false, _&&_}
 use mathlib.Core.List.{List, [], _∷_, _++_}
 use mathlib.Core.Option.{none}
 use Prim.Native.Nat.{ℕ, _+_, _*_, _/_, _%_, _≤_, _<_}
@@ -10,6 +10,10 @@ use Rattle.planning.specs.Basics.{Check, check, inOrder, bitsAt}
 use Rattle.planning.specs.Record.{variableBit, variablesIn, actionsIn, countIn, preconditionsIn, effectsIn, effectsFrom}
 use Rattle.planning.specs.Record.{fieldCheck, goalFits, variablesChecks, factsChecks, actionsChecks, endsAt, recordEnd}
 use Rattle.bits.specs.Windows.{Leading}
+
+-- the answer of a test decides P
+abbrev pub Decides : Bool → Type 0 → Type 0
+Decides b P = (b ≡ true → P) × (b ≡ false → P → ⊥)
 
 -- the list holds the count of values of each of the first n variables, and 0 behind them
 pub record Counts (s counts : List ℕ) (n : ℕ) : Type 0 where
@@ -30,6 +34,19 @@ pub record Few (w n low : ℕ) (counts : List ℕ) (r : ℕ) : Type 0 where
   pub passes :
       (s : List ℕ) (p m : ℕ) → Leading s p w → p + 12 * n ≤ 8 * length s → Counts s counts (variablesIn s)
       → inOrder (factsChecks s p low (n + m)) ≡ inOrder (factsChecks s (p + 12 * n) r m)
+
+-- the first n facts of the window w do not all pass, wherever the window stands
+pub record Unsound (w n low : ℕ) (counts : List ℕ) : Type 0 where
+  pub refuses :
+      (s : List ℕ) (p m : ℕ) → Leading s p w → p + 12 * n ≤ 8 * length s → Counts s counts (variablesIn s)
+      → inOrder (factsChecks s p low (n + m)) ≡ none → ⊥
+
+-- what the quick test of a header's 22 bits tests
+pub record SoundHeader (b : ℕ) : Type 0 where
+  pub edition : b / 262144 ≡ 1
+  pub variables-min : 1 ≤ b / 2048 % 128
+  pub variables-max : b / 2048 % 128 ≤ 64
+  pub actions-max : b % 2048 ≤ 1024
 
 -- what the quick test of a variable's 20 bits tests
 pub record SoundVariable (b : ℕ) : Type 0 where

@@ -1,7 +1,7 @@
 // The check of a record: 1 to 6 in the order of clause 2.9. A whole variable, the two counts of an action and
-// four facts at a time are read in one load and tested quickly; these tests only say that all is sound. Where they do not, the fields
+// four facts at a time are read in one load and tested quickly. Where such a test fails, the fields
 // are gone through one by one: a function for each field or kind of field takes the answer of the one below apart and hands on
-// the refusal with its place.
+// the refusal with its place. The loader of the task uses the quick tests too.
 use answers::Checked;
 use answers::Number;
 use answers::Refusal;
@@ -14,7 +14,7 @@ ghost use Rattle.planning.specs.Basics.{answer, done, inOrder, bitsAt};
 ghost use Rattle.planning.specs.Record.{variablesIn, actionsIn, preconditionsIn, effectsIn, actionEnd, actionsEnd, recordEnd};
 ghost use Rattle.planning.specs.Record.{fieldCheck, variableChecks, variablesChecks, factChecks, factsChecks, actionChecks, actionsChecks, recordCheck};
 ghost use Rattle.answers.specs.Answers.{checkOf, valueOf};
-ghost use Rattle.record.specs.Stages.{actionFactsChecks, Counts, Known, Few, SoundVariable, Sound};
+ghost use Rattle.record.specs.Stages.{actionFactsChecks, Decides, Counts, Known, Few, Unsound, SoundHeader, SoundVariable, Sound};
 ghost use Rattle.record.specs.Stages.{fromEnd, fromActions, fromVariables, fromActionCount, fromVariableCount, goalChecks, initialChecks};
 
 // A field, or refusal 1 at its first bit.
@@ -32,7 +32,7 @@ fn take(bytes: &[u8], at: u32, width: usize) -> Number
 }
 
 // The end of the record (2.6): padding of zeros, no byte too many or too few.
-fn check_end(bytes: &[u8], at: u32) -> Number
+pub fn check_end(bytes: &[u8], at: u32) -> Number
     requires { ⌜ (at ≤ 500000) × (at ≡ recordEnd (now bytes)) ⌝ }
     ensures { λ r. ⌜ valueOf r ≡ answer (inOrder (fromEnd (now (bytes .entry)))) 0 ⌝ }
 {
@@ -147,7 +147,7 @@ fn check_action_fields(bytes: &[u8], at: u32, variables: u32, counts: &[u8; 64])
 // variable of the task.
 fn is_sound(fact: u64, low: u64, counts: &[u8; 64]) -> bool
     requires { ⌜ fact < 4096 ⌝ }
-    ensures { λ r. ⌜ (r ≡ true → Sound (now (counts .entry)) fact low) ⌝ }
+    ensures { λ r. ⌜ Decides r (Sound (now (counts .entry)) fact low) ⌝ }
 {
     let v = fact / 64;
     if v < low {
@@ -157,9 +157,9 @@ fn is_sound(fact: u64, low: u64, counts: &[u8; 64]) -> bool
 }
 
 // The first n facts of a window, of which there are four: the least variable that may follow them, or 0 if one is not sound.
-fn sound_few(w: u64, n: usize, low: u64, counts: &[u8; 64]) -> u64
+pub fn sound_few(w: u64, n: usize, low: u64, counts: &[u8; 64]) -> u64
     requires { ⌜ (1 ≤ n) × (n ≤ 4) ⌝ }
-    ensures { λ r. ⌜ (0 < r → Few w n low (now (counts .entry)) r) ⌝ }
+    ensures { λ r. ⌜ (0 < r → Few w n low (now (counts .entry)) r) × (r ≡ 0 → Unsound w n low (now (counts .entry))) ⌝ }
 {
     let a = (w >> 52) % 4096;
     if !is_sound(a, low, counts) {
@@ -325,15 +325,32 @@ fn check_variable_fields(bytes: &[u8], at: u32) -> Number
 
 // Whether the 20 bits of a variable are sound: its initial value and its goal are not above its greatest value, and without a
 // goal its value is 0.
-fn is_sound_variable(fields: u64) -> bool
+pub fn is_sound_variable(fields: u64) -> bool
     requires { ⌜ fields < 1048576 ⌝ }
-    ensures { λ r. ⌜ (r ≡ true → SoundVariable fields) ⌝ }
+    ensures { λ r. ⌜ Decides r (SoundVariable fields) ⌝ }
 {
     let last = fields / 16384;
     if last < fields / 128 % 64 {
         return false;
     }
     fields % 64 <= last * (fields / 64 % 2)
+}
+
+// Whether the 22 bits of a header are sound: edition 1, 1 to 64 variables, at most 1,024 actions.
+pub fn is_sound_header(fields: u64) -> bool
+    ensures { λ r. ⌜ Decides r (SoundHeader fields) ⌝ }
+{
+    let variables = fields / 2048 % 128;
+    if fields / 262144 != 1 {
+        return false;
+    }
+    if variables < 1 {
+        return false;
+    }
+    if 64 < variables {
+        return false;
+    }
+    fields % 2048 <= 1024
 }
 
 // The variable at bit `at`: its greatest value.

@@ -1,21 +1,21 @@
-// The relaxed plan: backwards over the forward run, an action is kept if it first reached a needed fact.
+// The relaxed plan: backwards over the forward run, an action is kept if it first reached a needed fact. First achievers are noted behind
+// the run, backwards too, so that of several actions that set a fact the first one stays.
 use answers::Checked;
 use answers::Number;
 use answers::Refusal;
 use state::Goals;
 ghost use mathlib.Core.Path.{_≡_};
 ghost use mathlib.Core.Bool.{_&&_};
-ghost use mathlib.Core.Option.{none};
 ghost use Prim.Native.Nat.{ℕ, _/_, _%_, _<_, _≤_};
-ghost use lib.ListN.{length, getD, drop};
-ghost use Rattle.planning.specs.Record.{recordCheck};
-ghost use Rattle.planning.specs.Runs.{has, goals, actions, act};
-ghost use Rattle.planning.specs.Relaxed.{is, reachedNeeded, relaxedPlan};
+ghost use lib.ListN.{length, getD, drop, replicate};
+ghost use Rattle.planning.specs.Runs.{has, initial, goals, actions, act};
+ghost use Rattle.planning.specs.Relaxed.{forwardRun, is, reachedNeeded, relaxedPlan};
 ghost use Rattle.planning.specs.Calls.{relaxCall, relaxList};
 ghost use Rattle.answers.specs.Answers.{valueOf};
 ghost use Rattle.task.specs.Task.{factsIn, taskIn, Loaded};
+ghost use Rattle.task.specs.Size.{RoomIn};
 ghost use Rattle.state.specs.Sets.{setsOf};
-ghost use Rattle.relax.specs.Keeping.{Joined, byOf, Replay, Front, KeptOf};
+ghost use Rattle.relax.specs.Keeping.{Joined, Noted, Setters, Achieved, byOf, Replay, Front, KeptOf};
 ghost use Rattle.relax.specs.Answers.{relaxOf, relaxIn};
 
 // The facts from place `from` up to `to` join the sets.
@@ -40,6 +40,44 @@ fn add_preconditions(sets: &mut [u64; 64], task: &[u16], i: usize)
     let from = task::pre_start(task, i);
     let to = task::eff_start(task, i);
     add_facts(sets, task, from, to);
+}
+
+// Action i in the place of each of its effects.
+fn note(task: &[u16], i: usize, first: &mut [u16; 4096])
+    requires { ⌜ Loaded (now task) × (i < actions (taskIn (now task))) × (length (now first) ≡ 4096) ⌝ }
+    ensures { λ _. ⌜ Noted (has (act (taskIn (now (task .entry))) i .eff)) i (now (first .entry)) (now (first .exit)) ⌝ }
+{
+    let to = task::eff_end(task, i);
+    let mut k = task::eff_start(task, i);
+    while k < to {
+        first[lists::wide(task[k])] = i as u16;
+        k += 1;
+    }
+}
+
+// For each fact the first action of the run that sets it, 65,535 for none, which is what `first` holds before.
+fn note_run(task: &[u16], run: &[u16; 1024], n: usize, first: &mut [u16; 4096])
+    requires { ⌜ Replay (now task) (now run) n × (now first ≡ replicate 4096 65535) ⌝ }
+    ensures { λ _. ⌜ (length (now (first .exit)) ≡ 4096) × Setters (taskIn (now (task .entry))) (forwardRun (taskIn (now (task .entry)))) (now (first .exit)) ⌝ }
+{
+    let mut k = n;
+    while 0 < k {
+        k -= 1;
+        note(task, lists::wide(run[k]), first);
+    }
+}
+
+// No action first reached an initial fact.
+fn unset_initial(task: &[u16], first: &mut [u16; 4096])
+    requires { ⌜ Loaded (now task) × (length (now first) ≡ 4096) ⌝ }
+    ensures { λ _. ⌜ Noted (initial (taskIn (now (task .entry)))) 65535 (now (first .entry)) (now (first .exit)) ⌝ }
+{
+    let n = task::variables(task);
+    let mut v: usize = 0;
+    while v < n {
+        first[64 * v + task::initial(task, v)] = 65535;
+        v += 1;
+    }
 }
 
 // Action i first reached fact f, and the fact is needed.
@@ -78,7 +116,8 @@ fn keep_back(
     needed: &mut [u64; 64],
     kept: &mut [u16; 1024],
 ) -> usize
-    requires { ⌜ Replay (now task) (now first) (now run) n × (length (now needed) ≡ 64) × (length (now kept) ≡ 1024) × (setsOf (now needed) ≡ has (goals (taskIn (now task)))) ⌝ }
+    requires { ⌜ Replay (now task) (now run) n × Achieved (taskIn (now task)) (forwardRun (taskIn (now task))) (now first) ⌝ }
+    requires { ⌜ (length (now needed) ≡ 64) × (length (now kept) ≡ 1024) × (setsOf (now needed) ≡ has (goals (taskIn (now task)))) ⌝ }
     ensures { λ m. ⌜ (m ≤ 1024) × (length (now (kept .exit)) ≡ 1024) × (drop m (now (kept .exit)) ≡ relaxedPlan (taskIn (now (task .entry)))) ⌝ }
 {
     let mut k = n;
@@ -95,17 +134,19 @@ fn keep_back(
     m
 }
 
-// The relaxed plan from the forward run and its first achievers, in the front of `plan`.
+// The relaxed plan from the forward run, in the front of `plan`, where `first` holds 65,535 before.
 fn keep_run(
     task: &[u16],
-    first: &[u16; 4096],
+    first: &mut [u16; 4096],
     run: &[u16; 1024],
     n: usize,
     plan: &mut [u16; 1024],
 ) -> u32
-    requires { ⌜ Replay (now task) (now first) (now run) n × (length (now plan) ≡ 1024) ⌝ }
+    requires { ⌜ Replay (now task) (now run) n × (now first ≡ replicate 4096 65535) × (length (now plan) ≡ 1024) ⌝ }
     ensures { λ r. ⌜ Front (taskIn (now (task .entry))) (now (plan .exit)) r ⌝ }
 {
+    note_run(task, run, n, first);
+    unset_initial(task, first);
     let goals = Goals::load(task);
     let count = goals.count;
     let mut needed = [0u64; 64];
@@ -123,7 +164,7 @@ pub fn relaxed_plan(task: &[u16], plan: &mut [u16; 1024]) -> Number
 {
     let mut first = [65535u16; 4096];
     let mut run = [65535u16; 1024];
-    let ran = forward::run_forward(task, &mut first, &mut run);
+    let ran = forward::run_forward(task, &mut run);
     let steps = ran.steps;
     let state = ran.state;
     if !ran.solved {
@@ -133,7 +174,7 @@ pub fn relaxed_plan(task: &[u16], plan: &mut [u16; 1024]) -> Number
             place: reached,
         });
     }
-    Number::Value(keep_run(task, &first, &run, steps, plan))
+    Number::Value(keep_run(task, &mut first, &run, steps, plan))
 }
 
 fn relax_loaded(task: &[u16], plan: &mut [u16]) -> Number
@@ -154,28 +195,26 @@ fn relax_loaded(task: &[u16], plan: &mut [u16]) -> Number
     Number::Refused(f)
 }
 
-fn relax_accepted(bytes: &[u8], plan: &mut [u16]) -> Number
-    requires { ⌜ recordCheck (now bytes) ≡ none ⌝ }
+fn relax_in(bytes: &[u8], task: &mut [u16], plan: &mut [u16]) -> Number
+    requires { ⌜ RoomIn (now bytes) (now task) ⌝ }
     ensures { λ r. ⌜ (valueOf r ≡ relaxCall (now (bytes .entry)) (length (now (plan .entry)))) × (now (plan .exit) ≡ relaxList (now (bytes .entry)) (length (now (plan .entry)))) ⌝ }
 {
-    if task::is_short(bytes) {
-        let mut task = [0u16; task::SHORT];
-        task::load(bytes, &mut task);
-        return relax_loaded(&task, plan);
-    }
-    let mut task = [0u16; task::LONG];
-    task::load(bytes, &mut task);
-    relax_loaded(&task, plan)
+    let c = task::read(bytes, task);
+    let Checked::Refused(f) = c else {
+        return relax_loaded(task, plan);
+    };
+    lists::blank(plan);
+    Number::Refused(f)
 }
 
 // The relaxed plan of a record, in the plan list.
 pub fn relax(bytes: &[u8], plan: &mut [u16]) -> Number
     ensures { λ r. ⌜ (valueOf r ≡ relaxCall (now (bytes .entry)) (length (now (plan .entry)))) × (now (plan .exit) ≡ relaxList (now (bytes .entry)) (length (now (plan .entry)))) ⌝ }
 {
-    let c = record::check(bytes);
-    let Checked::Refused(f) = c else {
-        return relax_accepted(bytes, plan);
-    };
-    lists::blank(plan);
-    Number::Refused(f)
+    if task::is_short(bytes) {
+        let mut task = [0u16; task::SHORT];
+        return relax_in(bytes, &mut task, plan);
+    }
+    let mut task = [0u16; task::LONG];
+    relax_in(bytes, &mut task, plan)
 }

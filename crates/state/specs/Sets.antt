@@ -4,10 +4,10 @@ use mathlib.Core.Bool.{Bool, true, false, _&&_}
 use mathlib.Core.List.{List}
 use mathlib.Core.Option.{Option, none, some}
 use Prim.Native.Nat.{ℕ, suc, _/_, _%_, _^_, _<_, _≤_}
-use lib.Dec.{eqb}
+use lib.Dec.{T, eqb}
 use lib.ListN.{length, getD}
 use Rattle.planning.specs.Record.{Task}
-use Rattle.planning.specs.Runs.{State, Mode, variables, count, goals}
+use Rattle.planning.specs.Runs.{State, Mode, holds, act, variables, count, goals}
 use Rattle.planning.specs.Newest.{Values, alone}
 use Rattle.task.specs.Task.{factsIn}
 use Rattle.state.specs.declared.Goals.{Goals}
@@ -49,6 +49,11 @@ pub record Facts (facts : List ℕ) (a b : ℕ) : Type 0 where
   pub rises : a ≤ b
   pub within : b ≤ length facts
   pub small : (k : ℕ) → a ≤ k → k < b → getD facts k 0 < 4096
+
+-- a set of actions, as 16 sets of 64, each with its effects held in the state s
+pub record Known (t : Task) (s : State) (known : List ℕ) : Type 0 where
+  pub long : length known ≡ 16
+  pub held : (i : ℕ) → i < 1024 → T (inSet (getD known (i / 64) 0) (i % 64)) → T (holds s (act t i .eff))
 
 -- the goals of the task, in the front of a list
 pub record GoalsOf (t : Task) (g : Goals) : Type 0 where

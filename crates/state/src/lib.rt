@@ -8,7 +8,7 @@ ghost use lib.ListN.{length, getD, set};
 ghost use Rattle.planning.specs.Runs.{actions, act, has, holds, look, step, initial, relaxed, black, size};
 ghost use Rattle.planning.specs.Newest.{initialValues, newer, alone};
 ghost use Rattle.task.specs.Task.{factsIn, taskIn, Loaded};
-ghost use Rattle.state.specs.Sets.{inSet, setsOf, valuesOf, modeOf, redBlackOf, choose, over, further, GoalsOf, Asked};
+ghost use Rattle.state.specs.Sets.{inSet, setsOf, valuesOf, modeOf, redBlackOf, choose, over, further, GoalsOf, Asked, Known};
 
 // The set of value x alone.
 pub fn single(x: usize) -> u64
@@ -68,6 +68,20 @@ pub fn has_effects(sets: &[u64; 64], task: &[u16], i: usize) -> bool
     ensures { λ r. ⌜ r ≡ holds (setsOf (now (sets .entry))) (act (taskIn (now (task .entry))) i .eff) ⌝ }
 {
     all_hold(sets, task, task::eff_start(task, i), task::eff_end(task, i))
+}
+
+// The same, where `known` has actions of which it is so, 16 sets of 64. Action i joins them: it is so of the state behind it.
+pub fn knows_effects(sets: &[u64; 64], task: &[u16], i: usize, known: &mut [u64; 16]) -> bool
+    requires { ⌜ Loaded (now task) × (i < actions (taskIn (now task))) × Known (taskIn (now task)) (setsOf (now sets)) (now known) ⌝ }
+    ensures { λ r. ⌜ r ≡ holds (setsOf (now (sets .entry))) (act (taskIn (now (task .entry))) i .eff) ⌝ }
+    ensures { λ _. ⌜ Known (taskIn (now (task .entry))) (step relaxed (act (taskIn (now (task .entry))) i) (setsOf (now (sets .entry)))) (now (known .exit)) ⌝ }
+{
+    let set = known[i / 64];
+    if member(set, i % 64) {
+        return true;
+    }
+    known[i / 64] = set | single(i % 64);
+    has_effects(sets, task, i)
 }
 
 // Each fact from place `from` up to `to` is the newest value of its variable.

@@ -1,7 +1,8 @@
--- The loops that fill the loaded task. Facts of all actions follow each other in the record and in the list, so that what is
+-- The loops that fill the loaded task, its checks beside it. Facts of all actions follow each other in the record and in the list, so that what is
 -- written at one action leaves the rows and the facts of earlier ones alone.
 use mathlib.Core.Path.{_≡_, refl, sym, ap, _∙_, subst}
 use mathlib.Core.Logic.{inl, inr}
+use mathlib.Core.Bool.{false}
 use mathlib.Core.List.{List}
 use mathlib.Core.Option.{none}
 use Prim.Native.Nat.{ℕ, zero, suc, _+_, _-_, _*_, _/_, _%_, _^_, _<_, _≤_}
@@ -11,35 +12,68 @@ use native.Mathlib.Omega.{arith}
 use native.Mathlib.Decide.{ℕ-discrete, decLt}
 use lib.ListN.{length, getD, set, length-set}
 use lib.Seq.{slice-cons, slice-empty, getD-set-same, getD-set-other, ext-getD}
-use Rattle.planning.specs.Basics.{bitsAt}
-use Rattle.planning.specs.Record.{Task, variablesIn, actionsIn, preconditionsIn, effectsIn, effectsFrom, variableAt, factsAt, actionAt, actionsEnd, taskOf, recordCheck}
+use Rattle.planning.specs.Basics.{inOrder, bitsAt}
+use Rattle.planning.specs.Record.{Task, variablesIn, actionsIn, preconditionsIn, effectsIn, effectsFrom, variableAt, factsAt, actionAt, actionEnd, actionsEnd, countIn, taskOf}
+use Rattle.planning.specs.Record.{actionChecks, actionsChecks, recordCheck}
 use Rattle.planning.specs.Runs.{noVariable, noAction, variables, actions, variable, act}
 use Rattle.planning.proofs.Fields.{bitsAt-below, taskOf-variables, taskOf-actions, taskOf-variable, taskOf-act, actionStart}
 use Rattle.planning.proofs.Formed.{formed-of}
-use Rattle.bits.proofs.Window.{bitsAt-add, bitsAt-cut}
+use Rattle.bits.specs.Windows.{Leading}
+use Rattle.bits.proofs.Window.{bitsAt-add}
+use Rattle.record.proofs.Laws.{false-not, leading-fact, Run, run-start}
 use Rattle.task.specs.Task.{cell, factsIn, variableIn, actionIn, each, taskIn, Row, Loaded}
 use Rattle.task.specs.Size.{factsOf, factsFrom, taskSize}
-use Rattle.task.specs.Loading.{RowWritten, FactsLoaded, Placed, Room, ActionLoaded, VariablePlaced, VariableLoaded, Headed}
-use Rattle.task.proofs.Cut.{factOf-bits, factsOf-le}
-use Rattle.task.proofs.Size.{actionEnd-is, actionsEnd-more, actionsEnd-is, factsFrom-more, factsFrom-mono, fields-le, bits-le, taskSize-max}
+use Rattle.task.specs.Loading.{RowWritten, FactsLoaded, Placed, ActionLoaded, ActionRead, VariablePlaced, VariableLoaded, Headed, RecordRead}
+use Rattle.task.proofs.Cut.{factOf-bits, factsOf-le, variable-cut}
+use Rattle.task.proofs.Size.{actionEnd-is, actionsEnd-more, actionsEnd-is, factsFrom-more, factsFrom-mono, factsFrom-le}
 use Rattle.task.proofs.Reading.{taskIn-variables, taskIn-actions, taskIn-variable, taskIn-act}
 
--- the loop over facts: before it, and one fact more
-pub facts-start : (s : List ℕ) (at to : ℕ) (task : List ℕ) → FactsLoaded s at 0 to task task
-facts-start s at to task = record { long = refl; facts = λ k h. absurd (omega arith); kept = λ k h. refl }
+-- the first n of the four facts at the front of a window
+module _ (s : List ℕ) (at n to w x y z u : ℕ) (task : List ℕ) (L : Leading s at w) (few : n ≤ 4) (there : at + 12 * n ≤ 8 * length s) (room : to + 4 ≤ length task) where
+  abbrev four₁ : List ℕ
+  four₁ = set task to x
 
-pub facts-turn : (s : List ℕ) (at k to : ℕ) (before task : List ℕ) (w : ℕ) → FactsLoaded s at k to before task → to + k < length before → w ≡ bitsAt s (at + 12 * k) 12
-    → FactsLoaded s at (k + 1) to before (set task (to + k) w)
-facts-turn s at k to before task w L b e =
-    record {
-      long = length-set task (to + k) w ∙ L .long;
-      facts = λ j h. go j h (ℕ-discrete j k);
-      kept = λ j h. getD-set-other task (to + k) j w 0 (λ q. omega arith) ∙ L .kept j h;
-    }
-  where
-    go : (j : ℕ) → j < k + 1 → Dec (j ≡ k) → getD (set task (to + k) w) (to + j) 0 ≡ bitsAt s (at + 12 * j) 12
-    go j h (yes q) = rw q (getD-set-same task (to + k) w 0 (omega (arith, L .long)) ∙ e)
-    go j h (no n) = getD-set-other task (to + k) (to + j) w 0 (λ q. n (omega arith)) ∙ L .facts j (omega arith)
+  abbrev four₂ : List ℕ
+  four₂ = set four₁ (to + 1) y
+
+  abbrev four₃ : List ℕ
+  four₃ = set four₂ (to + 2) z
+
+  abbrev four : List ℕ
+  four = set four₃ (to + 3) u
+
+  pub facts-few : x ≡ w / 2 ^ 52 % 4096 → y ≡ w / 2 ^ 40 % 4096 → z ≡ w / 2 ^ 28 % 4096 → u ≡ w / 2 ^ 16 % 4096 → FactsLoaded s at n to task four
+  facts-few ex ey ez eu =
+      record {
+        long = simp length-set;
+        facts = fact;
+        kept = λ k h. getD-set-other four₃ (to + 3) k u 0 (λ q. omega arith)
+            ∙ getD-set-other four₂ (to + 2) k z 0 (λ q. omega arith)
+            ∙ getD-set-other four₁ (to + 1) k y 0 (λ q. omega arith)
+            ∙ getD-set-other task to k x 0 (λ q. omega arith);
+      }
+    where
+      fact : (k : ℕ) → k < n → getD four (to + k) 0 ≡ bitsAt s (at + 12 * k) 12
+      fact zero h =
+          let p : to + 0 ≡ to = omega arith in
+          rw p
+          (getD-set-other four₃ (to + 3) to u 0 (λ q. omega arith)
+          ∙ getD-set-other four₂ (to + 2) to z 0 (λ q. omega arith)
+          ∙ getD-set-other four₁ (to + 1) to y 0 (λ q. omega arith)
+          ∙ getD-set-same task to x 0 (omega arith)
+          ∙ ex
+          ∙ leading-fact s at w 0 L (omega arith) (omega arith))
+      fact (suc zero) h =
+          getD-set-other four₃ (to + 3) (to + 1) u 0 (λ q. omega arith)
+          ∙ getD-set-other four₂ (to + 2) (to + 1) z 0 (λ q. omega arith)
+          ∙ getD-set-same four₁ (to + 1) y 0 (simp length-set (omega arith))
+          ∙ ey ∙ leading-fact s at w 1 L (omega arith) (omega arith)
+      fact (suc (suc zero)) h =
+          getD-set-other four₃ (to + 3) (to + 2) u 0 (λ q. omega arith)
+          ∙ getD-set-same four₂ (to + 2) z 0 (simp length-set (omega arith))
+          ∙ ez ∙ leading-fact s at w 2 L (omega arith) (omega arith)
+      fact (suc (suc (suc zero))) h = getD-set-same four₃ (to + 3) u 0 (simp length-set (omega arith)) ∙ eu ∙ leading-fact s at w 3 L (omega arith) (omega arith)
+      fact (suc (suc (suc (suc k)))) h = absurd (omega arith)
 
 -- m facts behind k
 pub facts-more : (s : List ℕ) (at k m n to : ℕ) (before task after : List ℕ) → FactsLoaded s at k to before task → FactsLoaded s (at + 12 * k) m (to + k) task after → n ≡ k + m
@@ -58,36 +92,48 @@ facts-more s at k m n to before task after L M e =
         let q : at + 12 * k + 12 * (j - k) ≡ at + 12 * j = omega arith in
         ap (λ (x : ℕ). getD after x 0) p ∙ M .facts (j - k) (omega arith) ∙ ap (λ (x : ℕ). bitsAt s x 12) q
 
--- four facts out of 48 bits
-pub facts-four : (s : List ℕ) (at to w x y z u : ℕ) (task : List ℕ) → w ≡ bitsAt s at 48 → to + 4 ≤ length task
-    → x ≡ w / 68719476736 % 4096 → y ≡ w / 16777216 % 4096 → z ≡ w / 4096 % 4096 → u ≡ w % 4096
-    → FactsLoaded s at 4 to task (set (set (set (set task to x) (to + 1) y) (to + 2) z) (to + 3) u)
-facts-four s at to w x y z u task e h ex ey ez eu =
-    let p0 : at + 12 * 0 ≡ at = omega arith in
-    let p1 : at + 0 ≡ at = omega arith in
-    let t0 : to + 0 ≡ to = omega arith in
-    let u0 : w / 2 ^ 0 % 4096 ≡ w % 4096 = omega arith in
-    let f0 : x ≡ bitsAt s (at + 12 * 0) 12 = ex ∙ rw (e, p0) (bitsAt-cut s at 0 12 36 ∙ ap (λ (q : ℕ). bitsAt s q 12) p1) in
-    let f1 : y ≡ bitsAt s (at + 12) 12 = ey ∙ rw e (bitsAt-cut s at 12 12 24) in
-    let f2 : z ≡ bitsAt s (at + 24) 12 = ez ∙ rw e (bitsAt-cut s at 24 12 12) in
-    let f3 : u ≡ bitsAt s (at + 36) 12 = eu ∙ sym u0 ∙ rw e (bitsAt-cut s at 36 12 0) in
-    let l0 = facts-turn s at 0 to task task x (facts-start s at to task) (omega arith) f0 in
-    let l1 = facts-turn s at 1 to task (set task (to + 0) x) y l0 (omega arith) f1 in
-    let l2 = facts-turn s at 2 to task (set (set task (to + 0) x) (to + 1) y) z l1 (omega arith) f2 in
-    let l3 = facts-turn s at 3 to task (set (set (set task (to + 0) x) (to + 1) y) (to + 2) z) u l2 (omega arith) f3 in
-    rw t0 at l3
+-- the loop over the facts of a list: those before the last `left` passed and are loaded, and the next goes to place `to`
+pub record Filling (s : List ℕ) (from count first : ℕ) (before task : List ℕ) (at low left to : ℕ) : Type 0 where
+  pub run : Run s from count at low left
+  pub place : to ≡ first + (count - left)
+  pub loaded : FactsLoaded s from (count - left) first before task
 
-pub facts-done : (s : List ℕ) (at k n to : ℕ) (before task : List ℕ) → FactsLoaded s at k to before task → k ≡ n → FactsLoaded s at n to before task
-facts-done s at k n to before task L e = subst (λ x. FactsLoaded s at x to before task) e L
+pub filling-start : (s : List ℕ) (from count first : ℕ) (task : List ℕ) → Filling s from count first task task from 0 count first
+filling-start s from count first task =
+    let z : count - count ≡ 0 = omega arith in
+    record {
+      run = run-start s from count;
+      place = omega arith;
+      loaded = record { long = refl; facts = λ k h. absurd (omega arith); kept = λ k h. refl };
+    }
+
+module _ (s : List ℕ) (from count first : ℕ) (before task : List ℕ) (at low left to : ℕ) (F : Filling s from count first before task at low left to) where
+  -- m more
+  filling-more : (m : ℕ) (after : List ℕ) → m ≤ left → FactsLoaded s at m to task after → FactsLoaded s from (count - (left - m)) first before after
+  filling-more m after h M =
+      let W = F .run .within in
+      let p : at ≡ from + 12 * (count - left) = omega (arith, F .run .place) in
+      let M′ = rw (p, F .place) at M in
+      facts-more s from (count - left) m (count - (left - m)) first before task after (F .loaded) M′ (omega arith)
+
+  pub filling-turn : (after : List ℕ) (r : ℕ) → 4 < left → Run s from count (at + 48) r (left - 4) → FactsLoaded s at 4 to task after
+      → Filling s from count first before after (at + 48) r (left - 4) (to + 4)
+  filling-turn after r h R M = record { run = R; place = omega (arith, F .place, F .run .within); loaded = filling-more 4 after (omega arith) M }
+
+  pub filling-last : (after : List ℕ) → FactsLoaded s at left to task after → FactsLoaded s from count first before after
+  filling-last after M = let e : count - (left - left) ≡ count = omega arith in rw e at (filling-more left after (omega arith) M)
+
+  pub filling-done : left ≡ 0 → FactsLoaded s from count first before task
+  filling-done h = let e : count - left ≡ count = omega arith in rw e at (F .loaded)
 
 -- a row, then facts behind it: the action is placed, the rest is kept
-pub action-loaded : (s : List ℕ) (at r to : ℕ) (before row after : List ℕ) (c p n : ℕ) → Room s at r to before → RowWritten r c to (to + p) (to + n) before row → FactsLoaded s (at + 24) n to row after
-    → c ≡ bitsAt s at 16 → p ≡ preconditionsIn s at → n ≡ factsOf s at → ActionLoaded s at r to before after n
+pub action-loaded : (s : List ℕ) (at r to : ℕ) (before row after : List ℕ) (c p n : ℕ) → 4 * r + 4 ≤ to → RowWritten r c to (to + p) (to + n) before row → FactsLoaded s (at + 24) n to row after
+    → c ≡ bitsAt s at 16 → p ≡ preconditionsIn s at → n ≡ factsOf s at → ActionLoaded s at r to before after (n + 1 - 1)
 action-loaded s at r to before row after c p n R W L ec ep en =
-    let kept : (d : ℕ) → d < 4 → cell after r d ≡ cell row r d = λ d l. L .kept (4 * r + d) (omega (arith, R .row)) in
+    let kept : (d : ℕ) → d < 4 → cell after r d ≡ cell row r d = λ d l. L .kept (4 * r + d) (omega arith) in
     record {
       long = L .long ∙ W .long;
-      count = en;
+      count = omega arith;
       placed = record {
         cost = kept 0 (omega arith) ∙ W .first ∙ ec;
         pre = kept 1 (omega arith) ∙ W .second;
@@ -95,19 +141,25 @@ action-loaded s at r to before row after c p n R W L ec ep en =
         end = kept 3 (omega arith) ∙ W .fourth ∙ ap (λ (x : ℕ). to + x) en;
         facts = λ k h. L .facts k (omega arith);
       };
-      kept-rows = λ k h. L .kept k (omega (arith, R .row)) ∙ W .kept k (inl h);
+      kept-rows = λ k h. L .kept k (omega arith) ∙ W .kept k (inl h);
       kept-facts = λ k h l. L .kept k l ∙ W .kept k (inr h);
     }
 
+-- an action that does not pass, or has no room
+pub action-stops : (s : List ℕ) (at r to : ℕ) (before after : List ℕ) → (inOrder (actionChecks s at) ≡ none → to + factsOf s at + 4 ≤ length before → ⊥) → ActionRead s at r to before after 0
+action-stops s at r to before after h = record { passed = λ p. absurd (omega arith); loaded = λ p. absurd (omega arith); refused = λ _. h }
+
 -- a variable's row
-pub variable-loaded : (s : List ℕ) (v : ℕ) (before after : List ℕ) (a b c d : ℕ) → RowWritten (1 + v) a b c d before after → a ≡ bitsAt s (22 + 20 * v) 6 + 1 →
-    b ≡ bitsAt s (28 + 20 * v) 1 → c ≡ bitsAt s (29 + 20 * v) 6
-    → d ≡ bitsAt s (35 + 20 * v) 7 → VariableLoaded s v before after
-variable-loaded s v before after a b c d W ea eb ec ed = record {
-  long = W .long;
-  placed = record { count = W .first ∙ ea; black = W .second ∙ eb; init = W .third ∙ ec; goal = W .fourth ∙ ed };
-  kept = λ k h. W .kept k (inl h);
-}
+pub variable-loaded : (s : List ℕ) (v : ℕ) (before after : List ℕ) (b : ℕ) → b ≡ bitsAt s (22 + 20 * v) 20
+    → RowWritten (1 + v) (b / 16384 + 1) (b / 8192 % 2) (b / 128 % 64) (b % 128) before after → VariableLoaded s v before after
+unfolding countIn
+variable-loaded s v before after b e W =
+    let f = variable-cut s (22 + 20 * v) b e in
+    record {
+      long = W .long;
+      placed = record { count = W .first ∙ ap (λ (x : ℕ). x + 1) (f .0); black = W .second ∙ f .1; init = W .third ∙ f .2; goal = W .fourth ∙ f .3 };
+      kept = λ k h. W .kept k (inl h);
+    }
 
 -- rows 0 to 64: those of the variables below v are written
 pub record Heading (s before task : List ℕ) (v : ℕ) : Type 0 where
@@ -143,6 +195,12 @@ heading-turn s before task v H h after A = record {
 
 pub heading-done : (s before task : List ℕ) (v : ℕ) → Heading s before task v → variablesIn s ≤ v → Headed s task
 heading-done s before task v H h = record { variables = H .count; actions = H .actions′; each = λ w b. H .so-far w (omega arith) }
+
+pub record-stops : (s after : List ℕ) → (recordCheck s ≡ none → ⊥) → RecordRead s after false
+record-stops s after h = record { accepted = λ e. absurd (false-not e); loaded = λ e. absurd (false-not e); refused = λ _. h }
+
+pub actions-as : (s : List ℕ) (n a : ℕ) → n ≡ variablesIn s → a ≡ actionsIn s → inOrder (actionsChecks s (22 + 20 * n) a) ≡ inOrder (actionsChecks s (22 + 20 * variablesIn s) (actionsIn s))
+actions-as s n a en ea = rw (en, ea) refl
 
 -- the place of the first fact of action i
 unfoldable pub placeOf : List ℕ → ℕ → ℕ
@@ -188,31 +246,20 @@ module _ (s : List ℕ) where
   unfolding placeOf
   placeOf-rows i = omega arith
 
-  placeOf-end : placeOf s (actionsIn s) ≡ taskSize s
+  placeOf-end : placeOf s (actionsIn s) + 4 ≡ taskSize s
   unfolding placeOf taskSize
   placeOf-end = refl
 
-  actionStart-le : recordCheck s ≡ none → (i : ℕ) → i ≤ actionsIn s → actionStart s i ≤ 8 * length s
-  actionStart-le e i h =
-      omega (arith, fields-le s e, actionsEnd-is s (22 + 20 * variablesIn s) i, factsFrom-mono s (22 + 20 * variablesIn s) i (actionsIn s) h)
-
   module _ (before task : List ℕ) (at i to : ℕ) (L : Loading s before task at i to) (h : i < actionsIn s) where
-    pub loading-room : recordCheck s ≡ none → taskSize s ≤ length before → Room s at (1361 + i) to task
-    loading-room e r =
-        rw (L .bit, L .place)
-        (let next = placeOf-next i (actionsIn s) h in
-        record {
-          bits = omega (arith, actionStart-more i, actionStart-le e (i + 1) (omega arith));
-          near = bits-le s e;
-          row = omega (arith, placeOf-rows i);
-          facts = omega (arith, placeOf-end, L .long);
-          small = omega (arith, placeOf-end, taskSize-max s e);
-        })
+    pub loading-place : 1 ≤ variablesIn s → variablesIn s ≤ 64 → actionsIn s ≤ 1024 → (42 ≤ at) × (at ≤ 400000) × (4 * (1361 + i) + 4 ≤ to) × (to ≤ 65000)
+    unfolding placeOf
+    loading-place a b c =
+        let e = actionsEnd-is s (22 + 20 * variablesIn s) i in
+        let l = factsFrom-le s (22 + 20 * variablesIn s) i in
+        (omega (arith, L .bit), omega (arith, L .bit), omega (arith, L .place), omega (arith, L .place))
 
-    pub loading-next : recordCheck s ≡ none → taskSize s ≤ length before → (after : List ℕ) (n : ℕ) → ActionLoaded s at (1361 + i) to task after n → (n ≤ 30) × (at ≤ 1000000) × (to < 65536)
-    loading-next e r after n A =
-        let R = loading-room e r in
-        (omega (arith, A .count, factsOf-le s at), omega (arith, R .bits, R .near), omega (arith, R .small))
+    pub loading-room : taskSize s ≤ length before → to + factsOf s at + 4 ≤ length task
+    loading-room r = rw (L .bit, L .place) (omega (arith, placeOf-next i (actionsIn s) h, placeOf-end, L .long))
 
     -- an action that is placed stays so
     stays : (after : List ℕ) (n : ℕ) → ActionLoaded s at (1361 + i) to task after n → (j : ℕ) → j < i → Placed s (actionStart s j) (1361 + j) (placeOf s j) after
@@ -226,10 +273,9 @@ module _ (s : List ℕ) where
           facts = λ k b. A .kept-facts (placeOf s j + k) (omega (arith, placeOf-rows j)) (omega (arith, L .place, placeOf-next j i l)) ∙ P .facts k b;
         }
 
-    pub loading-turn : recordCheck s ≡ none → (after : List ℕ) (n : ℕ) → ActionLoaded s at (1361 + i) to task after n → Loading s before after (at + (24 + 12 * n)) (i + 1) (to + n)
-    loading-turn q after n A =
-        let c : n ≡ factsOf s (actionStart s i) = A .count ∙ ap (factsOf s) (L .bit) in
-        let few : variablesIn s ≤ 64 = omega (arith, formed-of s q .variables-max, taskOf-variables s) in
+    pub loading-turn : variablesIn s ≤ 64 → (after : List ℕ) (n : ℕ) → 0 < n → ActionLoaded s at (1361 + i) to task after (n - 1) → Loading s before after (at + (12 + 12 * n)) (i + 1) (to + (n - 1))
+    loading-turn few after n pos A =
+        let c : n - 1 ≡ factsOf s (actionStart s i) = A .count ∙ ap (factsOf s) (L .bit) in
         record {
           within = omega arith;
           bit = omega (arith, actionStart-more i, L .bit);
@@ -248,7 +294,13 @@ module _ (s : List ℕ) where
 
         go : (j : ℕ) → j < i + 1 → Dec (j ≡ i) → Placed s (actionStart s j) (1361 + j) (placeOf s j) after
         go j b (yes q) = rw q here
-        go j b (no q) = stays after n A j (omega arith)
+        go j b (no q) = stays after (n - 1) A j (omega arith)
+
+    pub action-ends : (after : List ℕ) (n : ℕ) → 0 < n → ActionLoaded s at (1361 + i) to task after (n - 1) → actionEnd s at ≡ at + (12 + 12 * n)
+    action-ends after n pos A = omega (arith, A .count, actionEnd-is s at)
+
+    pub few-facts : (after : List ℕ) (n : ℕ) → ActionLoaded s at (1361 + i) to task after (n - 1) → n ≤ 31
+    few-facts after n A = omega (arith, A .count, factsOf-le s at)
 
 -- facts read back from their numbers
 factsIn-read : (s task : List ℕ) (a p n : ℕ) → a + n ≤ length task → ((k : ℕ) → k < n → getD task (a + k) 0 ≡ bitsAt s (p + 12 * k) 12) → factsIn task a (a + n) ≡ factsAt s p n
@@ -285,18 +337,15 @@ placed-row s task r to at P room h b = record {
 
 -- a placed variable is what its row states: seven bits are a goal
 placed-variable : (s task : List ℕ) (v : ℕ) → VariablePlaced s v task → variableIn task v ≡ variableAt s (22 + 20 * v)
-unfolding variableIn variableAt
+unfolding variableIn variableAt countIn
 placed-variable s task v P =
-    let move : (p q w : ℕ) → p ≡ q → bitsAt s p w ≡ bitsAt s q w = λ p q w e. rw e refl in
-    let g = bitsAt-add s (35 + 20 * v) 1 6 in
-    let l = bitsAt-below s (35 + 20 * v + 1) 6 in
-    let b : cell task (1 + v) 1 ≡ bitsAt s (22 + 20 * v + 6) 1 = P .black ∙ move (28 + 20 * v) (22 + 20 * v + 6) 1 (omega arith) in
-    let i : cell task (1 + v) 2 ≡ bitsAt s (22 + 20 * v + 7) 6 = P .init ∙ move (29 + 20 * v) (22 + 20 * v + 7) 6 (omega arith) in
-    let x₀ : cell task (1 + v) 3 / 64 ≡ bitsAt s (35 + 20 * v) 1 = omega (arith, P .goal) in
-    let x : cell task (1 + v) 3 / 64 ≡ bitsAt s (22 + 20 * v + 13) 1 = x₀ ∙ move (35 + 20 * v) (22 + 20 * v + 13) 1 (omega arith) in
-    let y₀ : cell task (1 + v) 3 % 64 ≡ bitsAt s (35 + 20 * v + 1) 6 = omega (arith, P .goal) in
-    let y : cell task (1 + v) 3 % 64 ≡ bitsAt s (22 + 20 * v + 14) 6 = y₀ ∙ move (35 + 20 * v + 1) (22 + 20 * v + 14) 6 (omega arith) in
-    rw (P .count, b, i, x, y) refl
+    let p = 22 + 20 * v in
+    let q : p + 13 + 1 ≡ p + 14 = omega arith in
+    let g : cell task (1 + v) 3 ≡ bitsAt s (p + 13) 1 * 64 + bitsAt s (p + 14) 6 = P .goal ∙ (rw q at (bitsAt-add s (p + 13) 1 6)) in
+    let l = bitsAt-below s (p + 14) 6 in
+    let x : cell task (1 + v) 3 / 64 ≡ bitsAt s (p + 13) 1 = omega arith in
+    let y : cell task (1 + v) 3 % 64 ≡ bitsAt s (p + 14) 6 = omega arith in
+    rw (P .count, P .black, P .init, x, y) refl
 
 -- two tasks with the same variables and the same actions
 task-ext : (t u : Task) → variables t ≡ variables u → actions t ≡ actions u → ((v : ℕ) → v < variables t → variable t v ≡ variable u v) → ((i : ℕ) → i < actions t → act t i ≡ act u i) → t ≡ u

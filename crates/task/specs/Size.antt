@@ -1,9 +1,12 @@
 -- How long the loaded task of a record is.
+use mathlib.Core.Path.{_≡_}
 use mathlib.Core.Bool.{Bool, true, false}
 use mathlib.Core.List.{List}
-use Prim.Native.Nat.{ℕ, zero, suc, _+_, _*_}
-use Rattle.planning.specs.Record.{variableBit, variablesIn, actionsIn, preconditionsIn, effectsIn, actionEnd}
-use Rattle.task.specs.Task.{actionRows}
+use mathlib.Core.Option.{none}
+use Prim.Native.Nat.{ℕ, zero, suc, _+_, _*_, _≤_}
+use lib.ListN.{length}
+use Rattle.planning.specs.Record.{variableBit, variablesIn, actionsIn, preconditionsIn, effectsIn, actionEnd, recordCheck}
+use Rattle.task.specs.Task.{linksEnd, actionRows}
 
 -- the number of facts of the action at bit p, preconditions and effects
 unfoldable pub factsOf : List ℕ → ℕ → ℕ
@@ -14,11 +17,16 @@ unfoldable pub factsFrom : List ℕ → ℕ → ℕ → ℕ
 factsFrom s p zero = 0
 factsFrom s p (suc n) = factsOf s p + factsFrom s (actionEnd s p) n
 
--- 65 rows for the head and the variables, a row for each action, and one number for each fact
+-- the rows before those of actions, a row for each action, one number for each fact, and four, as facts are put down by fours
 unfoldable pub taskSize : List ℕ → ℕ
-taskSize s = 4 * (actionRows + actionsIn s) + factsFrom s (variableBit (variablesIn s)) (actionsIn s)
+taskSize s = 4 * (actionRows + actionsIn s) + factsFrom s (variableBit (variablesIn s)) (actionsIn s) + 4
 
 -- the length of a list for it: a record is short, or not
 abbrev pub roomFor : Bool → ℕ
 roomFor true = 9280
-roomFor false = 40260
+roomFor false = 40264
+
+-- a list for the task of a record that may be accepted
+pub record RoomIn (s task : List ℕ) : Type 0 where
+  pub head : linksEnd ≤ length task
+  pub enough : recordCheck s ≡ none → taskSize s ≤ length task

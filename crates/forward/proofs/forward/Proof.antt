@@ -1,24 +1,18 @@
-use mathlib.Core.Path.{sym, ap, _∙_}
-use lib.ListN.{length}
-use Rattle.answers.specs.Answers.{checkOf}
-use Rattle.forward.proofs.Answers.{forward-refused}
+use mathlib.Core.Path.{refl}
+use mathlib.Core.Bool.{true, false}
+use Rattle.task.proofs.Size.{room-in}
 use borrow.Author.Needs.{needs}
 use Rattle.forward.proofs.forward.Statement.{statement}
 use Rattle.forward.proofs.forward.Tie as tie
 
-check-requires : tie.Need-check-requires
-check-requires c κs = tt
+is-short-requires : tie.Need-is-short-requires
+is-short-requires c κs = search needs
 
-enum-known-c : tie.Need-enum-known-c
-enum-known-c c = search needs
+slice-aggregate-forward-in : tie.Need-slice-aggregate-forward-in
+slice-aggregate-forward-in c = search needs
 
-enum-told : tie.Need-enum-told
-enum-told c = search needs
-
-forward-accepted-requires : tie.Need-forward-accepted-requires
-forward-accepted-requires c κs =
-    let at-check = c .before .before .before in
-    sym (at-check .check .ensures) ∙ ap checkOf (c .before .enum-told .given .1)
+forward-in-requires : tie.Need-forward-in-requires
+forward-in-requires c κs = room-in _ _ (c .before .before .before .is-short .result) true (c .before .before .before .is-short .ensures) (c .before .before .if1 .taken) refl
 
 same-length : tie.Need-same-length
 same-length c = search needs
@@ -26,30 +20,28 @@ same-length c = search needs
 returns : tie.Need-returns
 returns c = search needs
 
-blank-requires : tie.Need-blank-requires
-blank-requires c κs = tt
+slice-aggregate-forward-in-2 : tie.Need-slice-aggregate-forward-in-2
+slice-aggregate-forward-in-2 c = search needs
+
+forward-in-requires-2 : tie.Need-forward-in-requires-2
+forward-in-requires-2 c κs = room-in _ _ (c .before .before .before .is-short .result) false (c .before .before .before .is-short .ensures) (c .before .before .if1 .left) refl
 
 same-length-2 : tie.Need-same-length-2
 same-length-2 c = search needs
 
 returns-2 : tie.Need-returns-2
-returns-2 c =
-    let at-c = c .before .before .before .before .before in
-    let at-start = at-c .before .before .before .before .before in
-    let a = at-start .args in
-    let z = forward-refused (a .bytes .now) (length (a .plan .now)) _ _ (ap checkOf (sym (at-c .c .given .1)) ∙ at-c .before .before .check .ensures) in
-    (z .0, c .before .before .blank .ensures ∙ z .1)
+returns-2 c = search needs
 
 pub forward-spec : {M : Type 1} → statement M
 forward-spec =
     tie.close
     (tie.spec
-    check-requires
-    enum-known-c
-    enum-told
-    forward-accepted-requires
+    is-short-requires
+    slice-aggregate-forward-in
+    forward-in-requires
     same-length
     returns
-    blank-requires
+    slice-aggregate-forward-in-2
+    forward-in-requires-2
     same-length-2
     returns-2)

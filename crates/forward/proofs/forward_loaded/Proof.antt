@@ -12,7 +12,7 @@ use Rattle.forward.proofs.forward_loaded.Statement.{statement}
 use Rattle.forward.proofs.forward_loaded.Tie as tie
 
 abbrev run-to-start : tie.After-run-forward → tie.Start
-run-to-start c = c .before .before .before .before .before
+run-to-start c = c .before .before .before .before
 
 abbrev reached-to-run : tie.After-reached → tie.After-run-forward
 reached-to-run c = c .before .before
@@ -66,8 +66,8 @@ enum-known-laid c = search needs
 enum-told : tie.Need-enum-told
 enum-told c = search needs
 
-cast-t23 : tie.Need-cast-t23
-cast-t23 c = search needs
+cast-t21 : tie.Need-cast-t21
+cast-t21 c = search needs
 
 same-length-2 : tie.Need-same-length-2
 same-length-2 c = search needs
@@ -120,7 +120,7 @@ forward-loaded-spec =
     lay-requires
     enum-known-laid
     enum-told
-    cast-t23
+    cast-t21
     same-length-2
     returns-2
     same-length-3

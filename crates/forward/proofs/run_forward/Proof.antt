@@ -15,11 +15,11 @@ use Rattle.forward.proofs.run_forward.Tie as tie
 -- In each turn the effects of the action taken last wake what waits for them, and the action of lowest rank leaves the ready ones. If it
 -- adds a fact it is the definition's next action: it is taken, and the state grows. If not, it never will add one. Either way less is left.
 abbrev Inv-loop : tie.InvT-loop
-Inv-loop task first₀ plan₀ goals count s₀ order work₀ ready₀ steps₀ g₀ from₀ to₀ first plan s work ready steps g from to =
-    Looping task order goals first plan (s .sets) work ready steps g from to
+Inv-loop task plan₀ goals count s₀ order work₀ ready₀ steps₀ g₀ from₀ to₀ plan s work ready steps g from to =
+    Looping task order goals plan (s .sets) work ready steps g from to
 
 abbrev μ-loop : tie.MeasureT-loop
-μ-loop task first₀ plan₀ goals count s₀ order work₀ ready₀ steps₀ g₀ from₀ to₀ first plan s work ready steps g from to =
+μ-loop task plan₀ goals count s₀ order work₀ ready₀ steps₀ g₀ from₀ to₀ plan s work ready steps g from to =
     left task (s .sets) ready from to
 
 -- the points of the code, from the last to the first
@@ -47,14 +47,14 @@ unmark-to-lowest c = c .before .before .before .before
 abbrev wide-to-unmark : tie.After-wide Inv-loop μ-loop → tie.After-unmark Inv-loop μ-loop
 wide-to-unmark c = c .before
 
-abbrev note-to-wide : tie.After-note Inv-loop μ-loop → tie.After-wide Inv-loop μ-loop
-note-to-wide c = c .before .before .before .before
+abbrev tested-to-wide : tie.After-has-effects Inv-loop μ-loop → tie.After-wide Inv-loop μ-loop
+tested-to-wide c = c .before .before .before
 
 abbrev unmark-to-head : tie.After-unmark Inv-loop μ-loop → tie.At-loop Inv-loop μ-loop
 unmark-to-head c = wake-to-head (unmet-to-wake (lowest-to-unmet (unmark-to-lowest c)))
 
-abbrev step-to-note : tie.After-step Inv-loop μ-loop → tie.After-note Inv-loop μ-loop
-step-to-note c = c .before .before .before .before
+abbrev step-to-tested : tie.After-step Inv-loop μ-loop → tie.After-has-effects Inv-loop μ-loop
+step-to-tested c = c .before .before .before .before
 
 load-requires : tie.Need-load-requires Inv-loop μ-loop
 load-requires c κs = search needs
@@ -72,7 +72,7 @@ loop-holds : tie.Need-loop-holds Inv-loop μ-loop
 loop-holds c =
     let at-initial = settle-each-to-initial c in
     let p = at-initial .before .before .before .pre in
-    looping-start (p .0) (settle-each-to-by-cost c .by-cost .ensures) (at-initial .before .load .ensures) (search needs) (p .1) (p .2) (at-initial .initial .ensures .0) (c .settle-each .ensures)
+    looping-start (p .0) (settle-each-to-by-cost c .by-cost .ensures) (at-initial .before .load .ensures) (search needs) (p .1) (at-initial .initial .ensures .0) (c .settle-each .ensures)
 
 wake-requires : tie.Need-wake-requires Inv-loop μ-loop
 wake-requires c κs =
@@ -125,33 +125,32 @@ chosen c =
     chosen-below (wake-to-head at-wake .loop .inv) (at-wake .wake .ensures .0) (at-unmet .unmet .ensures) (at-unmark .before .before .before .if1 .left) (at-lowest .lowest .ensures)
     (below at-unmark) (c .wide .ensures)
 
-note-requires : tie.Need-note-requires Inv-loop μ-loop
-note-requires c κs =
-    let at-wide = c .before .before .before in
-    let I = unmark-to-head (wide-to-unmark at-wide) .loop .inv in
-    (I .loaded, chosen at-wide, I .going .first-long)
+has-effects-requires : tie.Need-has-effects-requires Inv-loop μ-loop
+has-effects-requires c κs =
+    let at-wide = c .before .before in
+    (unmark-to-head (wide-to-unmark at-wide) .loop .inv .loaded, chosen at-wide)
 
--- what the answer of the noting says
-fresh : (c : tie.Then3 Inv-loop μ-loop) → let at-wide = note-to-wide (c .before) in let head = unmark-to-head (wide-to-unmark at-wide) in
+-- what the test of the effects says
+fresh : (c : tie.Then3 Inv-loop μ-loop) → let at-wide = tested-to-wide (c .before) in let head = unmark-to-head (wide-to-unmark at-wide) in
     holds (setsOf (head .loop .s .sets)) (act (taskIn (start head .args .task .now)) (at-wide .wide .result) .eff) ≡ false
-fresh c = not-true _ (sym (c .before .note .ensures .adds) ∙ c .if3 .taken)
+fresh c = sym (c .before .has-effects .ensures) ∙ not-true _ (c .if3 .taken)
 
-stale : (c : tie.Else3 Inv-loop μ-loop) → let at-wide = note-to-wide (c .before) in let head = unmark-to-head (wide-to-unmark at-wide) in
+stale : (c : tie.Else3 Inv-loop μ-loop) → let at-wide = tested-to-wide (c .before) in let head = unmark-to-head (wide-to-unmark at-wide) in
     holds (setsOf (head .loop .s .sets)) (act (taskIn (start head .args .task .now)) (at-wide .wide .result) .eff) ≡ true
-stale c = not-false _ (sym (c .before .note .ensures .adds) ∙ c .if3 .left)
+stale c = sym (c .before .has-effects .ensures) ∙ not-false _ (c .if3 .left)
 
-room : (c : tie.Then3 Inv-loop μ-loop) → unmark-to-head (wide-to-unmark (note-to-wide (c .before))) .loop .steps < 1024
+room : (c : tie.Then3 Inv-loop μ-loop) → unmark-to-head (wide-to-unmark (tested-to-wide (c .before))) .loop .steps < 1024
 room c =
-    let at-wide = note-to-wide (c .before) in
+    let at-wide = tested-to-wide (c .before) in
     let at-unmark = wide-to-unmark at-wide in
     let at-lowest = unmark-to-lowest at-unmark in
     let at-unmet = lowest-to-unmet at-lowest in
     let at-wake = unmet-to-wake at-unmet in
     take-room (wake-to-head at-wake .loop .inv) (at-wake .wake .ensures .0) (at-unmet .unmet .ensures) (at-unmark .before .before .before .if1 .left) (at-lowest .lowest .ensures) (below at-unmark)
-    (at-wide .wide .ensures) (at-unmark .unmark .ensures) (c .before .note .ensures .noted) (fresh c)
+    (at-wide .wide .ensures) (at-unmark .unmark .ensures) (fresh c)
 
 cast-plan : tie.Need-cast-plan Inv-loop μ-loop
-cast-plan c = record { fits = omega (arith, chosen (note-to-wide (c .before))) }
+cast-plan c = record { fits = omega (arith, chosen (tested-to-wide (c .before))) }
 
 mul-plan : tie.Need-mul-plan Inv-loop μ-loop
 mul-plan c = record { fits = omega (arith, room c) }
@@ -167,55 +166,55 @@ named : (c : tie.After-wide Inv-loop μ-loop) → let t = start (unmark-to-head 
 named c = (unmark-to-head (wide-to-unmark c) .loop .inv .loaded, chosen c)
 
 eff-start-requires : tie.Need-eff-start-requires Inv-loop μ-loop
-eff-start-requires c κs = named (note-to-wide (c .before))
+eff-start-requires c κs = named (tested-to-wide (c .before))
 
 eff-end-requires : tie.Need-eff-end-requires Inv-loop μ-loop
-eff-end-requires c κs = named (note-to-wide (c .before .before))
+eff-end-requires c κs = named (tested-to-wide (c .before .before))
 
 step-requires : tie.Need-step-requires Inv-loop μ-loop
-step-requires c κs = named (note-to-wide (c .before .before .before))
+step-requires c κs = named (tested-to-wide (c .before .before .before))
 
 loop-less : tie.Need-loop-less Inv-loop μ-loop
 loop-less c =
-    let at-wide = note-to-wide (step-to-note c) in
+    let at-wide = tested-to-wide (step-to-tested c) in
     let at-unmark = wide-to-unmark at-wide in
     let at-lowest = unmark-to-lowest at-unmark in
     let at-unmet = lowest-to-unmet at-lowest in
     let at-wake = unmet-to-wake at-unmet in
     take-less (wake-to-head at-wake .loop .inv) (at-wake .wake .ensures .0) (at-unmet .unmet .ensures) (at-unmark .before .before .before .if1 .left) (at-lowest .lowest .ensures) (below at-unmark)
-    (at-wide .wide .ensures) (at-unmark .unmark .ensures) (step-to-note c .note .ensures .noted) (fresh (c .before .before .before))
+    (at-wide .wide .ensures) (at-unmark .unmark .ensures) (fresh (c .before .before .before))
     _ (c .step .ensures) (c .before .before .eff-start .ensures) (c .before .eff-end .ensures)
 
 loop-again : tie.Need-loop-again Inv-loop μ-loop
 loop-again c =
-    let at-wide = note-to-wide (step-to-note c) in
+    let at-wide = tested-to-wide (step-to-tested c) in
     let at-unmark = wide-to-unmark at-wide in
     let at-lowest = unmark-to-lowest at-unmark in
     let at-unmet = lowest-to-unmet at-lowest in
     let at-wake = unmet-to-wake at-unmet in
     looping-take (wake-to-head at-wake .loop .inv) (at-wake .wake .ensures .0) (at-unmet .unmet .ensures) (at-unmark .before .before .before .if1 .left) (at-lowest .lowest .ensures) (below at-unmark)
-    (at-wide .wide .ensures) (at-unmark .unmark .ensures) (step-to-note c .note .ensures .noted) (fresh (c .before .before .before))
+    (at-wide .wide .ensures) (at-unmark .unmark .ensures) (fresh (c .before .before .before))
     _ (c .step .ensures) (c .before .before .eff-start .ensures) (c .before .eff-end .ensures)
 
 loop-less-2 : tie.Need-loop-less-2 Inv-loop μ-loop
 loop-less-2 c =
-    let at-wide = note-to-wide (c .before) in
+    let at-wide = tested-to-wide (c .before) in
     let at-unmark = wide-to-unmark at-wide in
     let at-lowest = unmark-to-lowest at-unmark in
     let at-unmet = lowest-to-unmet at-lowest in
     let at-wake = unmet-to-wake at-unmet in
     drop-less (wake-to-head at-wake .loop .inv) (at-wake .wake .ensures .0) (at-unmet .unmet .ensures) (at-unmark .before .before .before .if1 .left) (at-lowest .lowest .ensures) (below at-unmark)
-    (at-wide .wide .ensures) (at-unmark .unmark .ensures) (c .before .note .ensures .noted) (stale c) (at-wake .wake .ensures .1)
+    (at-wide .wide .ensures) (at-unmark .unmark .ensures) (stale c) (at-wake .wake .ensures .1)
 
 loop-again-2 : tie.Need-loop-again-2 Inv-loop μ-loop
 loop-again-2 c =
-    let at-wide = note-to-wide (c .before) in
+    let at-wide = tested-to-wide (c .before) in
     let at-unmark = wide-to-unmark at-wide in
     let at-lowest = unmark-to-lowest at-unmark in
     let at-unmet = lowest-to-unmet at-lowest in
     let at-wake = unmet-to-wake at-unmet in
     looping-drop (wake-to-head at-wake .loop .inv) (at-wake .wake .ensures .0) (at-unmet .unmet .ensures) (at-unmark .before .before .before .if1 .left) (at-lowest .lowest .ensures) (below at-unmark)
-    (at-wide .wide .ensures) (at-unmark .unmark .ensures) (c .before .note .ensures .noted) (stale c)
+    (at-wide .wide .ensures) (at-unmark .unmark .ensures) (stale c)
 
 pub run-forward-spec : {M : Type 1} → statement M
 run-forward-spec =
@@ -236,7 +235,7 @@ run-forward-spec =
     mul-wide
     array-read-wide
     wide-requires
-    note-requires
+    has-effects-requires
     cast-plan
     mul-plan
     element-write-plan

@@ -10,16 +10,18 @@ use borrow.Author.Tests.{not-true, not-false}
 use lib.ListN.{length, getD}
 use Rattle.planning.specs.Runs.{Mode, holds, actions, act, black}
 use Rattle.task.specs.Task.{taskIn}
-use Rattle.state.specs.Sets.{setsOf, valuesOf, modeOf, redBlackOf}
+use Rattle.state.specs.Sets.{setsOf, valuesOf, modeOf, redBlackOf, Known}
+use Rattle.state.proofs.Knowing.{known-none, known-held}
 use Rattle.judge.proofs.Tracing.{tracing-few, tracing-stop, tracing-end, applied, Following, following-start, following-turn, following-held, follows-painted, follows-real, follows-relaxed}
 use Rattle.judge.proofs.follow.Statement.{statement}
 use Rattle.judge.proofs.follow.Tie as tie
 
 abbrev Inv-loop : tie.InvT-loop
-Inv-loop task list paint s₀ k₀ runs₀ s k runs = Following (taskIn task) list (setsOf (s .sets)) (valuesOf (s .newest .values)) k runs
+Inv-loop task list paint s₀ known₀ k₀ runs₀ s known k runs =
+    Following (taskIn task) list (setsOf (s .sets)) (valuesOf (s .newest .values)) k runs × Known (taskIn task) (setsOf (s .sets)) known
 
 abbrev μ-loop : tie.MeasureT-loop
-μ-loop task list paint s₀ k₀ runs₀ s k runs = length list - k
+μ-loop task list paint s₀ known₀ k₀ runs₀ s known k runs = length list - k
 
 abbrev start-of : tie.In-loop Inv-loop μ-loop → tie.Start Inv-loop μ-loop
 start-of c = c .before .before .before .before .before .before
@@ -47,7 +49,7 @@ goes : (j : tie.Joined1 Inv-loop μ-loop) → let t = turn-of (j .before) in see
 goes j =
     let t = turn-of (j .before) in
     ⊎-elim (λ w. ap (seen t) (sym (paints t)) ∙ sym (w .4 .ensures) ∙ not-false _ (w .5 .left))
-    (λ w. applied _ _ (start-of t .pre .loaded .formed) _ _ _ _ (t .before .loop .inv .traced) (omega arith) _ refl _ (j .before .further .ensures) (omega (arith, w .left))) (j .if1 .came)
+    (λ w. applied _ _ (start-of t .pre .loaded .formed) _ _ _ _ (t .before .loop .inv .0 .traced) (omega arith) _ refl _ (j .before .further .ensures) (omega (arith, w .left))) (j .if1 .came)
 
 painted-requires : tie.Need-painted-requires Inv-loop μ-loop
 painted-requires c κs = search needs
@@ -56,7 +58,7 @@ initial-requires : tie.Need-initial-requires Inv-loop μ-loop
 initial-requires c κs = search needs
 
 loop-holds : tie.Need-loop-holds Inv-loop μ-loop
-loop-holds c = following-start _ _ _ _ (c .initial .ensures .0) (c .initial .ensures .1)
+loop-holds c = (following-start _ _ _ _ (c .initial .ensures .0) (c .initial .ensures .1), known-none _ _ _ refl)
 
 mul-i : tie.Need-mul-i Inv-loop μ-loop
 mul-i c = search needs
@@ -71,7 +73,7 @@ further-requires : tie.Need-further-requires Inv-loop μ-loop
 further-requires c κs =
     let t = c .before .before .before in
     let R = start-of t .pre in
-    (R .loaded, below t, omega (arith, R .short, tracing-few _ _ _ _ _ _ (t .before .loop .inv .traced)))
+    (R .loaded, below t, omega (arith, R .short, tracing-few _ _ _ _ _ _ (t .before .loop .inv .0 .traced)))
 
 applies-red-black-requires : tie.Need-applies-red-black-requires Inv-loop μ-loop
 applies-red-black-requires c κs = let t = turn-of (c .before .before .before .before) in (start-of t .pre .loaded, below t)
@@ -79,37 +81,44 @@ applies-red-black-requires c κs = let t = turn-of (c .before .before .before .b
 add-k : tie.Need-add-k Inv-loop μ-loop
 add-k c = search needs
 
-has-effects-requires : tie.Need-has-effects-requires Inv-loop μ-loop
-has-effects-requires c κs = let t = turn-of (c .before .before .before) in (start-of t .pre .loaded, below t)
+knows-effects-requires : tie.Need-knows-effects-requires Inv-loop μ-loop
+knows-effects-requires c κs = let t = turn-of (c .before .before .before .before) in (start-of t .pre .loaded, below t, t .before .loop .inv .1)
 
 step-requires : tie.Need-step-requires Inv-loop μ-loop
-step-requires c κs = let t = turn-of (c .before .before .before .before .before .before) in (start-of t .pre .loaded, below t)
+step-requires c κs = let t = turn-of (c .before .before .before .before .before .before .before) in (start-of t .pre .loaded, below t)
 
 loop-less : tie.Need-loop-less Inv-loop μ-loop
 loop-less c = search needs
 
 loop-again : tie.Need-loop-again Inv-loop μ-loop
 loop-again c =
-    let j = c .before .before .before .before .before .before .before in
+    let k = c .before .before .before .before in
+    let j = k .before .before .before .before in
     let t = turn-of (j .before) in
-    following-held _ _ (start-of t .pre .loaded .formed) _ _ _ _ (t .before .loop .inv) (omega arith) _ refl _ _ (j .before .further .ensures) (goes j)
-    (sym (c .before .before .before .before .has-effects .ensures) ∙ c .before .before .before .if3 .taken) (c .before .step .ensures)
+    let held = sym (k .knows-effects .ensures .0) ∙ c .before .before .before .if3 .taken in (
+      following-held _ _ (start-of t .pre .loaded .formed) _ _ _ _ (t .before .loop .inv .0) (omega arith) _ refl _ _ (j .before .further .ensures) (goes j) held (c .before .step .ensures),
+      known-held _ _ _ _ held (k .knows-effects .ensures .1),
+    )
 
 step-requires-2 : tie.Need-step-requires-2 Inv-loop μ-loop
-step-requires-2 c κs = let t = turn-of (c .before .before .before .before .before) in (start-of t .pre .loaded, below t)
+step-requires-2 c κs = let t = turn-of (c .before .before .before .before .before .before) in (start-of t .pre .loaded, below t)
 
 loop-less-2 : tie.Need-loop-less-2 Inv-loop μ-loop
 loop-less-2 c = search needs
 
 loop-again-2 : tie.Need-loop-again-2 Inv-loop μ-loop
 loop-again-2 c =
-    let j = c .before .before .before .before .before in
+    let k = c .before .before in
+    let j = k .before .before .before .before in
     let t = turn-of (j .before) in
-    following-turn _ _ (start-of t .pre .loaded .formed) _ _ _ _ (t .before .loop .inv) (omega arith) _ refl _ _ _ (j .before .further .ensures) (goes j) (c .step2 .ensures .0) (c .step2 .ensures .1)
+    let E = c .step2 .ensures in (
+      following-turn _ _ (start-of t .pre .loaded .formed) _ _ _ _ (t .before .loop .inv .0) (omega arith) _ refl _ _ _ (j .before .further .ensures) (goes j) (E .0) (E .1),
+      rw (c .step2 .ensures .0) (k .knows-effects .ensures .1),
+    )
 
 returns : tie.Need-returns Inv-loop μ-loop
 returns c =
-    let I = c .before .loop .inv in
+    let I = c .before .loop .inv .0 in
     let e = tracing-end _ _ _ _ _ _ (I .traced) (omega arith) in
     record { painted = follows-painted _ _ _ _ _ _ I (e .0); run-real = follows-real _ _ _ _ _ _ I (e .0) _ (e .1); relaxed′ = follows-relaxed _ _ _ _ _ _ I (e .0) }
 
@@ -117,7 +126,7 @@ returns-2 : tie.Need-returns-2 Inv-loop μ-loop
 returns-2 c =
     let f = c .before .before .before .before .before .before in
     let t = turn-of f in
-    let I = t .before .loop .inv in
+    let I = t .before .loop .inv .0 in
     let fails = ap (seen t) (sym (paints t)) ∙ sym (c .before .applies-red-black .ensures) ∙ not-true _ (c .if2 .taken) in
     let e = tracing-stop _ _ (start-of t .pre .loaded .formed) _ _ _ _ (I .traced) (omega arith) _ refl _ (f .further .ensures) (omega arith) fails in
     record { painted = follows-painted _ _ _ _ _ _ I (e .0); run-real = follows-real _ _ _ _ _ _ I (e .0) _ (e .1); relaxed′ = follows-relaxed _ _ _ _ _ _ I (e .0) }
@@ -137,7 +146,7 @@ follow-spec =
     further-requires
     applies-red-black-requires
     add-k
-    has-effects-requires
+    knows-effects-requires
     step-requires
     loop-less
     loop-again

@@ -1,33 +1,39 @@
 use borrow.Author.Needs.{needs}
-use mathlib.Core.Path.{sym, ap}
-use Rattle.answers.specs.Answers.{refusalIn}
-use Rattle.answers.proofs.Stages.{passed-by, refused-by}
-use Rattle.judge.proofs.Entry.{judge-refused}
+use mathlib.Core.Path.{refl}
+use mathlib.Core.Bool.{true, false}
+use Rattle.task.proofs.Size.{room-in}
 use Rattle.judge.proofs.judge.Statement.{statement}
 use Rattle.judge.proofs.judge.Tie as tie
 
-check-requires : tie.Need-check-requires
-check-requires c κs = search needs
+is-short-requires : tie.Need-is-short-requires
+is-short-requires c κs = search needs
 
-enum-known-c : tie.Need-enum-known-c
-enum-known-c c = search needs
+slice-aggregate-judge-in : tie.Need-slice-aggregate-judge-in
+slice-aggregate-judge-in c = search needs
 
-enum-told : tie.Need-enum-told
-enum-told c = search needs
-
-judge-accepted-requires : tie.Need-judge-accepted-requires
-judge-accepted-requires c κs = passed-by _ _ (c .enum-told .given .1) (c .before .before .check .ensures)
+judge-in-requires : tie.Need-judge-in-requires
+judge-in-requires c κs = room-in _ _ (c .before .before .is-short .result) true (c .before .before .is-short .ensures) (c .before .if1 .taken) refl
 
 returns : tie.Need-returns
 returns c = search needs
 
+slice-aggregate-judge-in-2 : tie.Need-slice-aggregate-judge-in-2
+slice-aggregate-judge-in-2 c = search needs
+
+judge-in-requires-2 : tie.Need-judge-in-requires-2
+judge-in-requires-2 c κs = room-in _ _ (c .before .before .is-short .result) false (c .before .before .is-short .ensures) (c .before .if1 .left) refl
+
 returns-2 : tie.Need-returns-2
-returns-2 c =
-    let a = c .before .before .before .before .before .before .args in
-    let e = c .before .c .given .1 in
-    judge-refused (a .bytes .now) (a .list .now) _ _ (refused-by _ _ _ _ e (sym (ap refusalIn e)) (c .before .before .before .check .ensures))
+returns-2 c = search needs
 
 pub judge-spec : {M : Type 1} → statement M
 judge-spec =
     tie.close
-    (tie.spec check-requires enum-known-c enum-told judge-accepted-requires returns returns-2)
+    (tie.spec
+    is-short-requires
+    slice-aggregate-judge-in
+    judge-in-requires
+    returns
+    slice-aggregate-judge-in-2
+    judge-in-requires-2
+    returns-2)

@@ -9,7 +9,7 @@ use Rattle.planning.proofs.Formed.{Formed}
 use Rattle.task.specs.Task.{taskIn}
 use Rattle.state.specs.Sets.{setsOf}
 use Rattle.paths.specs.Paths.{pathsOf, leadTo}
-use Rattle.paths.proofs.Walking.{Walking, Move, walking-start, walking-move, walking-long, walking-less, walking-turn, walking-end}
+use Rattle.paths.proofs.Walking.{put-none, Walking, Move, walking-start, walking-move, walking-long, walking-less, walking-turn, walking-end}
 use Rattle.paths.proofs.path.Statement.{statement}
 use Rattle.paths.proofs.path.Tie as tie
 
@@ -20,7 +20,7 @@ abbrev μ-loop : tie.MeasureT-loop
 μ-loop task ever memo v c d list₀ at from x₀ e₀ l₀ list x e l = length (pathsOf (taskIn task) (setsOf ever) v x d)
 
 abbrev start-of : tie.After-prepare Inv-loop μ-loop → tie.Start Inv-loop μ-loop
-start-of f = f .before .before .before .before .before
+start-of f = f .before .before .before .before .before .before
 
 abbrev found-at : tie.At-loop Inv-loop μ-loop → tie.After-prepare Inv-loop μ-loop
 found-at h = h .before .before .before .before .before
@@ -44,8 +44,14 @@ moved : (h : tie.At-loop Inv-loop μ-loop) → (h .loop .l % 64 ≡ h .loop .x �
     → let s = start-of (found-at h) in Move (taskIn (s .args .task .now)) (formed (found-at h)) (setsOf (s .args .ever .now)) (s .args .v) (s .args .d) (h .loop .x) (h .loop .l)
 moved h ne = walking-move _ (formed (found-at h)) _ _ _ _ _ _ _ _ _ _ (h .loop .inv) ne
 
+returns : tie.Need-returns Inv-loop μ-loop
+returns c =
+    let s = c .before .before .before .before in
+    let a = s .args in
+    (put-none (taskIn (a .task .now)) (setsOf (a .ever .now)) (a .v) (a .c) (a .d) (a .at) (a .list .now) (c .if1 .taken) (s .pre .1 .2), s .pre .0 .2)
+
 prepare-requires : tie.Need-prepare-requires Inv-loop μ-loop
-prepare-requires c κs = let p = c .before .before .before .before .pre in ((p .0 .0, p .0 .1, p .1 .1), p .0 .2)
+prepare-requires c κs = let p = c .before .before .before .before .before .pre in ((p .0 .0, p .0 .1, p .1 .1), p .0 .2)
 
 mul-from : tie.Need-mul-from Inv-loop μ-loop
 mul-from c = let d = small (c .before .before) in record { fits = omega (arith, d) }
@@ -74,8 +80,8 @@ same-length c = let f = found-at (c .before .before) in f .prepare .ensures .0 .
 same-length-2 : tie.Need-same-length-2 Inv-loop μ-loop
 same-length-2 c = c .before .before .loop .inv .long
 
-returns : tie.Need-returns Inv-loop μ-loop
-returns c =
+returns-2 : tie.Need-returns-2 Inv-loop μ-loop
+returns-2 c =
     let h = c .before .before in
     let f = found-at h in
     (walking-long _ (formed f) _ _ _ _ _ _ _ _ _ _ (h .loop .inv) (λ q. omega (arith, q)) (omega (arith, h .loop .inv .long)), f .prepare .ensures .0)
@@ -122,8 +128,8 @@ same-length-3 c = let f = found-at (c .before) in f .prepare .ensures .0 .long �
 same-length-4 : tie.Need-same-length-4 Inv-loop μ-loop
 same-length-4 c = c .before .loop .inv .long
 
-returns-2 : tie.Need-returns-2 Inv-loop μ-loop
-returns-2 c =
+returns-3 : tie.Need-returns-3 Inv-loop μ-loop
+returns-3 c =
     let h = c .before in
     let f = found-at h in
     (walking-end _ (formed f) _ _ _ _ _ _ _ _ _ _ (h .loop .inv) (omega arith), f .prepare .ensures .0)
@@ -134,6 +140,7 @@ path-spec =
     (tie.spec
     Inv-loop
     μ-loop
+    returns
     prepare-requires
     mul-from
     add-wide
@@ -143,7 +150,7 @@ path-spec =
     loop-holds
     same-length
     same-length-2
-    returns
+    returns-2
     cast-list
     mul-list
     slice-write-list
@@ -156,4 +163,4 @@ path-spec =
     loop-again
     same-length-3
     same-length-4
-    returns-2)
+    returns-3)

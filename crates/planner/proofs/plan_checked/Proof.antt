@@ -1,23 +1,18 @@
-use mathlib.Core.Path.{sym, ap}
-use Rattle.planning.specs.Record.{taskOf}
-use Rattle.answers.specs.Answers.{refusalIn}
-use Rattle.answers.proofs.Stages.{passed-by, refused-by}
-use Rattle.planner.proofs.Drafts.{drafted-stop}
+use mathlib.Core.Path.{refl}
+use mathlib.Core.Bool.{true, false}
+use Rattle.task.proofs.Size.{room-in}
 use borrow.Author.Needs.{needs}
 use Rattle.planner.proofs.plan_checked.Statement.{statement}
 use Rattle.planner.proofs.plan_checked.Tie as tie
 
-check-requires : tie.Need-check-requires
-check-requires c κs = search needs
+is-short-requires : tie.Need-is-short-requires
+is-short-requires c κs = search needs
 
-enum-known-c : tie.Need-enum-known-c
-enum-known-c c = search needs
+slice-aggregate-plan-in : tie.Need-slice-aggregate-plan-in
+slice-aggregate-plan-in c = search needs
 
-enum-told : tie.Need-enum-told
-enum-told c = search needs
-
-plan-accepted-requires : tie.Need-plan-accepted-requires
-plan-accepted-requires c κs = passed-by _ _ (c .before .before .enum-told .given .1) (c .before .before .before .before .check .ensures)
+plan-in-requires : tie.Need-plan-in-requires
+plan-in-requires c κs = room-in _ _ (c .before .before .before .before .is-short .result) true (c .before .before .before .before .is-short .ensures) (c .before .before .before .if1 .taken) refl
 
 same-length : tie.Need-same-length
 same-length c = search needs
@@ -28,20 +23,33 @@ same-length-2 c = search needs
 returns : tie.Need-returns
 returns c = search needs
 
+slice-aggregate-plan-in-2 : tie.Need-slice-aggregate-plan-in-2
+slice-aggregate-plan-in-2 c = search needs
+
+plan-in-requires-2 : tie.Need-plan-in-requires-2
+plan-in-requires-2 c κs = room-in _ _ (c .before .before .before .before .is-short .result) false (c .before .before .before .before .is-short .ensures) (c .before .before .before .if1 .left) refl
+
+same-length-3 : tie.Need-same-length-3
+same-length-3 c = search needs
+
+same-length-4 : tie.Need-same-length-4
+same-length-4 c = search needs
+
 returns-2 : tie.Need-returns-2
-returns-2 c =
-    let e = c .before .c .given .1 in drafted-stop (taskOf (c .before .before .before .before .before .before .before .before .before .args .bytes .now)) _ _ _ _ _ _ _
-    (refused-by _ _ _ _ e (sym (ap refusalIn e)) (c .before .before .before .check .ensures))
+returns-2 c = search needs
 
 pub plan-checked-spec : {M : Type 1} → statement M
 plan-checked-spec =
     tie.close
     (tie.spec
-    check-requires
-    enum-known-c
-    enum-told
-    plan-accepted-requires
+    is-short-requires
+    slice-aggregate-plan-in
+    plan-in-requires
     same-length
     same-length-2
     returns
+    slice-aggregate-plan-in-2
+    plan-in-requires-2
+    same-length-3
+    same-length-4
     returns-2)

@@ -37,7 +37,7 @@ cast-t11 : tie.Need-cast-t11
 cast-t11 c = omega arith
 
 returns-4 : tie.Need-returns-4
-returns-4 c = variable-sound _ _ _ (c .before .before .window-at .ensures 20 (omega arith) (omega arith)) (omega arith) (c .before .is-sound-variable .ensures (not-false _ (c .if3 .left)))
+returns-4 c = variable-sound _ _ _ (c .before .before .window-at .ensures 20 (omega arith) (omega arith)) (omega arith) (c .before .is-sound-variable .ensures .0 (not-false _ (c .if3 .left)))
 
 pub check-variable-spec : {M : Type 1} → statement M
 check-variable-spec =

@@ -1,5 +1,5 @@
 -- The first i variables passed, and their counts of values stand in the list.
-use Rattle.record.proofs.Laws.{Seen, variables-start, variable-stops, variables-turn, variables-done, not-done}
+use Rattle.record.proofs.Laws.{Seen, variables-start, variable-stops, variables-turn, variables-done, count-is, count-below, not-done}
 use Rattle.bits.proofs.Window.{bitsAt-lt}
 use Rattle.answers.proofs.Stages.{passed}
 use Prim.Native.Nat.{_+_, _*_, _-_}
@@ -66,8 +66,10 @@ loop-less c = omega arith
 
 loop-again : tie.Need-loop-again Inv-loop μ-loop
 loop-again c =
-    variables-turn _ _ _ _ (c .before .before .before .before .before .loop .inv) _ (omega arith) (omega arith)
-    (passed _ _ _ _ (c .before .v .given .1) (c .before .before .before .check-variable .ensures))
+    let b = c .before .before .before .before .before .before .before .args .bytes .now in
+    let i = c .before .before .before .before .before .loop .i in
+    let q = passed _ _ _ _ (c .before .v .given .1) (c .before .before .before .check-variable .ensures) in
+    variables-turn _ _ _ _ (c .before .before .before .before .before .loop .inv) _ (omega arith) (omega arith) (q .0) (omega (arith, count-is b i _ (q .1), count-below b i))
 
 returns-2 : tie.Need-returns-2 Inv-loop μ-loop
 returns-2 c = (variables-done _ _ _ _ (c .before .loop .inv) (omega arith) .0, λ _. variables-done _ _ _ _ (c .before .loop .inv) (omega arith) .1)

@@ -1,5 +1,5 @@
 -- The two counts are the 8 bits behind the cost; fields that are there and two lists that pass make the action pass.
-use Rattle.record.proofs.Laws.{action-sound}
+use Rattle.record.proofs.Laws.{pre-count, eff-count, action-sound}
 use native.Mathlib.Omega.{arith}
 use borrow.Author.Tests.{not-false}
 use borrow.Author.Needs.{needs}
@@ -59,7 +59,8 @@ add-result-3 c = omega arith
 
 returns-5 : tie.Need-returns-5
 returns-5 c =
-    λ _. action-sound _ _ _ (c .before .before .before .before .window-at .ensures 8 (omega arith) (omega arith)) (omega arith)
+    let w = c .before .before .before .before .window-at .ensures 8 (omega arith) (omega arith) in
+    λ _. action-sound _ _ _ _ (pre-count _ _ _ w) (eff-count _ _ _ w) (omega arith)
     (c .before .before .before .sound-facts .ensures (not-false _ (c .before .before .if3 .left))) (c .before .sound-facts2 .ensures (not-false _ (c .if4 .left)))
 
 pub sound-action-spec : {M : Type 1} → statement M

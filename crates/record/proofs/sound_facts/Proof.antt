@@ -46,8 +46,8 @@ loop-less c = omega arith
 
 loop-again : tie.Need-loop-again Inv-loop μ-loop
 loop-again c =
-    run-turn _ _ _ _ _ _ _ _ _ (c .before .before .before .before .loop .inv) (c .before .before .window-at .ensures) (omega arith)
-    (c .before .before .before .before .before .before .before .pre .3) (omega arith) (c .before .sound-few .ensures (omega arith))
+    run-turn _ _ _ _ _ _ _ _ (c .before .before .before .before .loop .inv) (c .before .before .window-at .ensures) (omega arith)
+    (c .before .before .before .before .before .before .before .pre .3) _ (omega arith) (c .before .sound-few .ensures .0 (omega arith))
 
 returns-3 : tie.Need-returns-3 Inv-loop μ-loop
 returns-3 c = λ _. run-none _ _ _ _ _ _ (c .before .before .loop .inv) (c .if3 .taken)
@@ -60,8 +60,8 @@ sound-few-requires-2 c κs = omega arith
 
 returns-4 : tie.Need-returns-4 Inv-loop μ-loop
 returns-4 c =
-    λ e. run-last _ _ _ _ _ _ _ _ _ (c .before .before .before .before .loop .inv) (c .before .window-at2 .ensures) (omega arith)
-    (c .before .before .before .before .before .before .before .pre .3) (c .sound-few2 .ensures (ltb-true _ _ e))
+    λ e. run-last _ _ _ _ _ _ _ _ (c .before .before .before .before .loop .inv) (c .before .window-at2 .ensures) (omega arith)
+    (c .before .before .before .before .before .before .before .pre .3) _ (c .sound-few2 .ensures .0 (ltb-true _ _ e))
 
 pub sound-facts-spec : {M : Type 1} → statement M
 sound-facts-spec =

@@ -46,16 +46,16 @@ behind c =
 loop-holds : tie.Need-loop-holds Inv-loop μ-loop
 loop-holds c =
     let p = c .before .pre in
-    keeping-start (p .0) _ _ (p .1) (p .2) (p .3)
+    keeping-start (p .0 .0) _ _ (p .1 .0) (p .1 .1) (p .1 .2)
 
 sub-k : tie.Need-sub-k Inv-loop μ-loop
 sub-k c = omega arith
 
 mul-i : tie.Need-mul-i Inv-loop μ-loop
-mul-i c = record { fits = omega (arith, start c .pre .0 .few, c .before .loop .inv .within) }
+mul-i c = record { fits = omega (arith, start c .pre .0 .0 .few, c .before .loop .inv .within) }
 
 element-copy-out-i : tie.Need-element-copy-out-i Inv-loop μ-loop
-element-copy-out-i c = omega (arith, start c .pre .0 .few, c .before .loop .inv .within)
+element-copy-out-i c = omega (arith, start c .pre .0 .0 .few, c .before .loop .inv .within)
 
 wide-requires : tie.Need-wide-requires Inv-loop μ-loop
 wide-requires c κs = search needs
@@ -63,7 +63,7 @@ wide-requires c κs = search needs
 reached-needed-requires : tie.Need-reached-needed-requires Inv-loop μ-loop
 reached-needed-requires c κs =
     let turn = wide-to-turn c in
-    let R = start turn .pre .0 in
+    let R = start turn .pre .0 .0 in
     (R .loaded, rw (c .wide .ensures) (entry-below R (turn .before .loop .k - 1) (within turn)))
 
 answer-is : (c : tie.After-reached-needed Inv-loop μ-loop) → let turn = reached-to-turn c in let a = start turn .args in let i = getD (a .run .now) (turn .before .loop .k - 1) 0 in
@@ -71,12 +71,13 @@ answer-is : (c : tie.After-reached-needed Inv-loop μ-loop) → let turn = reach
 answer-is c =
     let turn = reached-to-turn c in
     let a = start turn .args in
-    c .reached-needed .ensures ∙ ap (λ x. reachedNeeded (byOf (a .first .now)) (setsOf (turn .before .loop .needed)) x (act (taskIn (a .task .now)) x .eff)) (c .before .wide .ensures)
+    let t = taskIn (a .task .now) in
+    c .reached-needed .ensures ∙ ap (λ x. reachedNeeded (byOf (a .first .now)) (setsOf (turn .before .loop .needed)) x (act t x .eff)) (c .before .wide .ensures)
 
 room : (c : tie.Then1 Inv-loop μ-loop) → 0 < then1-to-turn c .before .loop .m
 room c =
     let turn = then1-to-turn c in
-    keeping-room (start turn .pre .0) (turn .before .loop .k - 1) (within turn) (behind turn)
+    keeping-room (start turn .pre .0 .0) (turn .before .loop .k - 1) (within turn) (behind turn)
 
 sub-m : tie.Need-sub-m Inv-loop μ-loop
 sub-m c = room c
@@ -93,7 +94,7 @@ wide-requires-2 c κs = search needs
 add-preconditions-requires : tie.Need-add-preconditions-requires Inv-loop μ-loop
 add-preconditions-requires c κs =
     let turn = then1-to-turn (wide2-to-then1 c) in
-    let R = start turn .pre .0 in
+    let R = start turn .pre .0 .0 in
     (R .loaded, rw (c .wide2 .ensures) (entry-below R (turn .before .loop .k - 1) (within turn)), turn .before .loop .inv .needed-long)
 
 loop-less : tie.Need-loop-less Inv-loop μ-loop
@@ -104,7 +105,7 @@ loop-again c =
     let at-wide2 = c .before in
     let at-then1 = wide2-to-then1 at-wide2 in
     let turn = then1-to-turn at-then1 in
-    keeping-yes (start turn .pre .0) (turn .before .loop .k - 1) (within turn) (behind turn) (sym (at-then1 .if1 .taken) ∙ answer-is (at-then1 .before)) _
+    keeping-yes (start turn .pre .0 .0) (turn .before .loop .k - 1) (within turn) (behind turn) _ (start turn .pre .0 .1) (sym (at-then1 .if1 .taken) ∙ answer-is (at-then1 .before)) _
     (rw (at-wide2 .wide2 .ensures) at (c .add-preconditions .ensures))
 
 loop-less-2 : tie.Need-loop-less-2 Inv-loop μ-loop
@@ -113,14 +114,14 @@ loop-less-2 c = omega arith
 loop-again-2 : tie.Need-loop-again-2 Inv-loop μ-loop
 loop-again-2 c =
     let turn = reached-to-turn (c .before) in
-    keeping-no (start turn .pre .0) (turn .before .loop .k - 1) (within turn) (behind turn) (sym (c .if1 .left) ∙ answer-is (c .before))
+    keeping-no (start turn .pre .0 .0) (turn .before .loop .k - 1) (within turn) (behind turn) _ (start turn .pre .0 .1) (sym (c .if1 .left) ∙ answer-is (c .before))
 
 returns : tie.Need-returns Inv-loop μ-loop
 returns c =
     let head = c .before in
     let I = head .loop .inv in
     let e : head .loop .k ≡ 0 = omega arith in
-    (I .end, I .long, keeping-end (head .before .before .pre .0) _ _ _ (rw e at I))
+    (I .end, I .long, keeping-end (head .before .before .pre .0 .0) _ _ _ (rw e at I))
 
 pub keep-back-spec : {M : Type 1} → statement M
 keep-back-spec =

@@ -5,9 +5,16 @@ use lib.ListN.{length, take, drop, length-drop}
 use lib.Seq.{take-all}
 use borrow.Author.Needs.{needs}
 use Rattle.planning.specs.Runs.{has}
+use Rattle.relax.proofs.Laws.{achieved-of}
 use Rattle.relax.proofs.Answers.{joined-alone, front-of}
 use Rattle.relax.proofs.keep_run.Statement.{statement}
 use Rattle.relax.proofs.keep_run.Tie as tie
+
+note-run-requires : tie.Need-note-run-requires
+note-run-requires c κs = let p = c .before .before .pre in (p .0, p .1)
+
+unset-initial-requires : tie.Need-unset-initial-requires
+unset-initial-requires c κs = (c .before .before .before .before .pre .0 .loaded, c .before .note-run .ensures .0)
 
 load-requires : tie.Need-load-requires
 load-requires c κs = search needs
@@ -21,10 +28,13 @@ add-facts-requires c κs =
 
 keep-back-requires : tie.Need-keep-back-requires
 keep-back-requires c κs =
-    let at-add-facts = c .before .before in
+    let at-add-facts = c .before .before .before in
     let at-load = at-add-facts .before .before .before .before .before in
+    let at-unset = at-load .before in
+    let at-note = at-unset .before .before in
     let J = at-add-facts .add-facts .ensures in
-    (at-load .before .before .pre .0, J .long, refl, joined-alone _ _ _ refl J ∙ ap has (at-load .load .ensures .are))
+    let A = achieved-of _ _ _ _ (at-note .note-run .ensures .1) (at-unset .unset-initial .ensures) in
+    ((at-note .before .before .before .pre .0, A), (J .long, refl, joined-alone _ _ _ refl J ∙ ap has (at-load .load .ensures .are)))
 
 mul-copy : tie.Need-mul-copy
 mul-copy c = search needs
@@ -50,18 +60,20 @@ cast-result c = search needs
 returns : tie.Need-returns
 returns c =
     let at-keep-back = c .before .before .before .before in
-    let at-load = at-keep-back .before .before .before .before .before .before .before .before in
-    let at-start = at-load .before .before in
+    let at-load = at-keep-back .before .before .before .before .before .before .before .before .before in
+    let at-start = at-load .before .before .before .before .before .before in
     let K = at-keep-back .keep-back .ensures in
     let m = at-keep-back .keep-back .result in
     let kept = at-keep-back .keep-back .last .1 .1 .1 .1 .1 .0 in
     let all = take-all (1024 - m) (drop m kept) (rw (length-drop m kept) (omega (arith, K .1))) in
-    front-of _ kept (at-start .args .plan .now) _ m _ (K .0) (K .1) (K .2) (at-start .pre .1) (omega arith) (take (1024 - m) (drop m kept)) all (c .copy .ensures)
+    front-of _ kept (at-start .args .plan .now) _ m _ (K .0) (K .1) (K .2) (at-start .pre .2) (omega arith) (take (1024 - m) (drop m kept)) all (c .copy .ensures)
 
 pub keep-run-spec : {M : Type 1} → statement M
 keep-run-spec =
     tie.close
     (tie.spec
+    note-run-requires
+    unset-initial-requires
     load-requires
     add-facts-requires
     keep-back-requires

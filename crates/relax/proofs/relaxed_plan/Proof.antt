@@ -10,7 +10,7 @@ use Rattle.relax.proofs.relaxed_plan.Statement.{statement}
 use Rattle.relax.proofs.relaxed_plan.Tie as tie
 
 abbrev run-to-start : tie.After-run-forward → tie.Start
-run-to-start c = c .before .before .before .before
+run-to-start c = c .before .before .before
 
 abbrev reached-to-run : tie.After-reached → tie.After-run-forward
 reached-to-run c = c .before .before .before .before

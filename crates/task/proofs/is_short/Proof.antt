@@ -5,7 +5,7 @@ use Rattle.task.proofs.is_short.Statement.{statement}
 use Rattle.task.proofs.is_short.Tie as tie
 
 returns : tie.Need-returns
-returns c = let s = c .args .bytes .now in short-room s (c .pre) (leb (length s) 2877) (leb→le (length s) 2877)
+returns c = let s = c .args .bytes .now in λ e. short-room s e (leb (length s) 2877) (leb→le (length s) 2877)
 
 pub is-short-spec : {M : Type 1} → statement M
 is-short-spec = tie.close (tie.spec returns)

@@ -1,5 +1,5 @@
 -- Four numbers below 65,536, each in its place.
-use Prim.Native.Nat.{_/_, _%_}
+use Prim.Native.Nat.{_/_, _%_, _^_}
 use native.Mathlib.Omega.{arith}
 use borrow.Author.Needs.{needs}
 use Rattle.lists.proofs.Four.{spread-cut}
@@ -26,8 +26,8 @@ add-result-3 c = search needs
 
 returns : tie.Need-returns
 returns c =
-    let w = c .args .word in
-    spread-cut (w / 68719476736 % 4096) (w / 16777216 % 4096) (w / 4096 % 4096) (w % 4096) (omega arith) (omega arith) (omega arith) (omega arith)
+    let w = c .args .window in
+    spread-cut (w / 2 ^ 52 % 4096) (w / 2 ^ 40 % 4096) (w / 2 ^ 28 % 4096) (w / 2 ^ 16 % 4096) (omega arith) (omega arith) (omega arith) (omega arith)
 
 pub spread-spec : {M : Type 1} → statement M
 spread-spec =
