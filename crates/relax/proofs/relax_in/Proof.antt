@@ -7,6 +7,13 @@ use borrow.Author.Needs.{needs}
 use Rattle.relax.proofs.relax_in.Statement.{statement}
 use Rattle.relax.proofs.relax_in.Tie as tie
 
+-- the points of the code, from the last to the first
+abbrev start-of : tie.After-read → tie.Start
+start-of c = c .before .before .before .before .before
+
+abbrev read-of : tie.After-enum-told → tie.After-read
+read-of c = c .before .before .before .before
+
 read-requires : tie.Need-read-requires
 read-requires c κs = search needs
 
@@ -17,7 +24,7 @@ enum-told : tie.Need-enum-told
 enum-told c = search needs
 
 relax-loaded-requires : tie.Need-relax-loaded-requires
-relax-loaded-requires c κs = let r = c .before .before .before .before .before .before .read .ensures in r .1 (passed-by _ _ (c .before .before .enum-told .given .1) (r .0)) .loaded
+relax-loaded-requires c κs = let told = c .before .before in let r = read-of told .read .ensures in r .1 (passed-by _ _ (told .enum-told .given .1) (r .0)) .loaded
 
 same-length : tie.Need-same-length
 same-length c = search needs
@@ -27,9 +34,10 @@ same-length-2 c = search needs
 
 returns : tie.Need-returns
 returns c =
-    let a = c .before .before .before .before .before .before .before .before .before .before .before .before .before .before .args in
-    let r = c .before .before .before .before .before .before .before .before .before .read .ensures in
-    let e = passed-by _ _ (c .before .before .before .before .before .enum-told .given .1) (r .0) in
+    let told = c .before .before .before .before .before in
+    let a = start-of (read-of told) .args in
+    let r = read-of told .read .ensures in
+    let e = passed-by _ _ (told .enum-told .given .1) (r .0) in
     let d = c .before .before .relax-loaded .ensures in
     let z = relax-accepts (a .bytes .now) (length (a .plan .now)) e _ (r .1 e .same) in
     (d .0 ∙ z .0, d .1 ∙ z .1)
@@ -45,8 +53,9 @@ same-length-4 c = search needs
 
 returns-2 : tie.Need-returns-2
 returns-2 c =
-    let a = c .before .before .before .before .before .before .before .before .before .before .before .before .before .before .args in
-    let r = c .before .before .before .before .before .before .before .before .before .read .ensures .0 in
+    let at-read = c .before .before .before .before .before .before .before .before .before in
+    let a = start-of at-read .args in
+    let r = at-read .read .ensures .0 in
     let z = relax-refused (a .bytes .now) (length (a .plan .now)) _ _ (ap checkOf (sym (c .before .before .before .before .before .c .given .1)) ∙ r) in
     (z .0, c .before .before .blank .ensures ∙ z .1)
 
