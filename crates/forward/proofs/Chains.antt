@@ -1,7 +1,7 @@
 -- Where each action waits, by its rank: what settling an action, taking a chain off and a larger state do to it. A chain is a list that the links
 -- follow; an action is on one chain at most, since each number of a chain has its place there (`owns`), so a link may be changed
 -- where its action is on none.
-use mathlib.Core.Path.{_≡_, refl, sym, _∙_, subst}
+use mathlib.Core.Path.{_≡_, refl, sym, ap, _∙_, subst}
 use mathlib.Core.Logic.{_⊎_, inl, inr, _≢_}
 use mathlib.Core.Bool.{Bool, true, false, not, _||_}
 use mathlib.Core.List.{List, [], _∷_}
@@ -24,7 +24,8 @@ use Rattle.task.specs.Task.{preAt, effAt, taskIn}
 use Rattle.state.specs.Sets.{setsOf}
 use Rattle.state.proofs.Members.{inSet-empty}
 use Rattle.ranking.specs.Ranked.{Before, Ranked}
-use Rattle.forward.specs.Waiting.{reaches, member, Ready, Passing, Lowest, With, Without, ranked, headAt, linkAt, placeAt, hung, Looked, Settles, goes, waits, mem, Each, Chain, Sites}
+use Rattle.forward.specs.Waiting.{reaches, member, Ready, Passing, Lowest, With, Without, ranked, Looked, Settles, goes, waits, mem, Each, Chain, Sites}
+use Rattle.forward.specs.Waiting.{factsEnd, linkAt, placeAt, headAt, Free, hung}
 
 -- a function changed at one place
 put : {B : Type 0} → (ℕ → B) → ℕ → B → ℕ → B
@@ -109,33 +110,33 @@ empty-by-length [] e = refl
 empty-by-length (j ∷ l) e = absurd (omega arith)
 
 -- rank h in front of the chain of f: what the list then says
-module _ (work : List ℕ) (f h : ℕ) (n : length work ≡ 6144) (g : f < 4096) (b : h < 1024) where
+module _ (work : List ℕ) (f h : ℕ) (n : 2048 + f < length work) (b : h < 1024) where
   abbrev linked : List ℕ
-  linked = set work (4096 + h) (headAt work f)
+  linked = set work h (headAt work f)
 
-  hung-long : length (hung work f h) ≡ 6144
+  hung-long : length (hung work f h) ≡ length work
   unfolding hung
-  hung-long = simp length-set n
+  hung-long = simp length-set refl
 
   hung-head : headAt (hung work f h) f ≡ h
   unfolding hung
-  hung-head = getD-set-same linked f h 0 (rw length-set (omega arith))
+  hung-head = getD-set-same linked (2048 + f) h 0 (rw length-set n)
 
-  hung-heads : (x : ℕ) → x < 4096 → x ≢ f → headAt (hung work f h) x ≡ headAt work x
+  hung-heads : (x : ℕ) → x ≢ f → headAt (hung work f h) x ≡ headAt work x
   unfolding hung
-  hung-heads x l q = getD-set-other linked f x h 0 q ∙ getD-set-other work (4096 + h) x (headAt work f) 0 (omega arith)
+  hung-heads x q = getD-set-other linked (2048 + f) (2048 + x) h 0 (omega arith) ∙ getD-set-other work h (2048 + x) (headAt work f) 0 (omega arith)
 
   hung-link : linkAt (hung work f h) h ≡ headAt work f
   unfolding hung
-  hung-link = getD-set-other linked f (4096 + h) h 0 (omega arith) ∙ getD-set-same work (4096 + h) (headAt work f) 0 (omega arith)
+  hung-link = getD-set-other linked (2048 + f) h h 0 (omega arith) ∙ getD-set-same work h (headAt work f) 0 (omega arith)
 
-  hung-links : (i : ℕ) → i ≢ h → linkAt (hung work f h) i ≡ linkAt work i
+  hung-links : (i : ℕ) → i ≢ h → i < 1024 → linkAt (hung work f h) i ≡ linkAt work i
   unfolding hung
-  hung-links i q = getD-set-other linked f (4096 + i) h 0 (omega arith) ∙ getD-set-other work (4096 + h) (4096 + i) (headAt work f) 0 (omega arith)
+  hung-links i q l = getD-set-other linked (2048 + f) i h 0 (omega arith) ∙ getD-set-other work h i (headAt work f) 0 q
 
-  hung-places : (j : ℕ) → placeAt (hung work f h) j ≡ placeAt work j
+  hung-places : (j : ℕ) → j < 1024 → placeAt (hung work f h) j ≡ placeAt work j
   unfolding hung
-  hung-places j = getD-set-other linked f (5120 + j) h 0 (omega arith) ∙ getD-set-other work (4096 + h) (5120 + j) (headAt work f) 0 (omega arith)
+  hung-places j l = getD-set-other linked (2048 + f) (1024 + j) h 0 (omega arith) ∙ getD-set-other work h (1024 + j) (headAt work f) 0 (omega arith)
 
 -- places that are passed stay passed in a larger state
 pub passing-up : (s s′ : State) (l : List ℕ) (a b k : ℕ) → s ⊆ s′ → Passing s l a b k → Passing s′ l a b k
@@ -149,6 +150,7 @@ module _ {task order : List ℕ} {A : ℕ} {s owed : State} {work ready : List �
     few = S .few;
     named = S .named;
     long = S .long;
+    wide = S .wide;
     ready-sound = S .ready-sound;
     w = S .w;
     line = S .line;
@@ -176,22 +178,23 @@ module _ {task order : List ℕ} {A : ℕ} {s owed : State} {work ready : List �
   -- the place of rank x is noted
   module _ {h n : ℕ} (S : Sites task order A s owed work ready h n) (x p : ℕ) (b : x < 1024) (P : x < A → Looked s task (getD order x 0) p) where
     abbrev noted : List ℕ
-    noted = set work (5120 + x) p
+    noted = set work (1024 + x) p
 
     noted-link : (i : ℕ) → i < 1024 → linkAt noted i ≡ linkAt work i
-    noted-link i l = getD-set-other work (5120 + x) (4096 + i) p 0 (omega arith)
+    noted-link i l = getD-set-other work (1024 + x) i p 0 (omega arith)
 
     sites-noted : Sites task order A s owed noted ready h n
     sites-noted = record {
       few = S .few;
       named = S .named;
-      long = simp length-set (S .long);
+      long = rw length-set (S .long);
+      wide = S .wide;
       ready-sound = S .ready-sound;
       w = S .w;
       line = S .line;
       rest = S .rest;
       left = S .left;
-      chained = λ f l. rw (getD-set-other work (5120 + x) f p 0 (omega arith))
+      chained = λ f l. rw (getD-set-other work (1024 + x) (2048 + f) p 0 (omega arith))
           (chain-same work noted (λ j. (S .w j ≡ f) × (j < A)) (λ i _. noted-link i) (S .line f) (headAt work f) (S .owns f l) (S .chained f l));
       chained-rest = chain-same work noted (λ j. (S .w j ≡ 4096) × (j < A)) (λ i _. noted-link i) (S .rest) h (S .owns-rest) (S .chained-rest);
       owns = S .owns;
@@ -206,8 +209,8 @@ module _ {task order : List ℕ} {A : ℕ} {s owed : State} {work ready : List �
     }
       where
         go : (j : ℕ) → j < A → Dec (j ≡ x) → Looked s task (getD order j 0) (placeAt noted j)
-        go j l (yes e) = rw (e, getD-set-same work (5120 + x) p 0 (omega (arith, S .long))) (P (omega arith))
-        go j l (no q) = rw (getD-set-other work (5120 + x) (5120 + j) p 0 (omega arith)) (S .places j l)
+        go j l (yes e) = rw (e, getD-set-same work (1024 + x) p 0 (omega (arith, S .long))) (P (omega arith))
+        go j l (no q) = rw (getD-set-other work (1024 + x) (1024 + j) p 0 (omega arith)) (S .places j l)
 
   -- the action in front of those that are left is settled
   pub record Front (h n : ℕ) (S : Sites task order A s owed work ready h n) : Type 0 where
@@ -243,10 +246,10 @@ module _ {task order : List ℕ} {A : ℕ} {s owed : State} {work ready : List �
     F : Front h n S
     F = front S b
 
-    not-h : (f : ℕ) → f < 4096 → Each (λ i. i ≢ h) (S .line f)
+    not-h : (f : ℕ) → f < factsEnd task → Each (λ i. i ≢ h) (S .line f)
     not-h f l =
         each-map (λ i. (S .w i ≡ f) × (i < A)) (λ i. i ≢ h)
-        (λ i o e. let z : S .w h ≡ f = rw e at (o .0) in omega (arith, F .place)) (S .line f) (S .owns f l)
+        (λ i o e. let z : S .w h ≡ f = rw e at (o .0) in omega (arith, F .place, S .wide)) (S .line f) (S .owns f l)
 
     still : (v f : ℕ) (l : List ℕ) → Each (λ i. i ≢ h) l → Each (λ j. (S .w j ≡ f) × (j < A)) l → Each (λ j. (put (S .w) h v j ≡ f) × (j < A)) l
     still v f l a o =
@@ -257,6 +260,7 @@ module _ {task order : List ℕ} {A : ℕ} {s owed : State} {work ready : List �
       few = S .few;
       named = S .named;
       long = S .long;
+      wide = S .wide;
       ready-sound = W .sound;
       w = put (S .w) h 4097;
       line = S .line;
@@ -280,7 +284,10 @@ module _ {task order : List ℕ} {A : ℕ} {s owed : State} {work ready : List �
       places = S .places;
     }
 
-    module _ (f : ℕ) (g : f < 4096) where
+    module _ (f : ℕ) (g : f < factsEnd task) where
+      room : 2048 + f < length work
+      room = omega (arith, S .long)
+
       abbrev new : List ℕ
       new = hung work f h
 
@@ -288,7 +295,7 @@ module _ {task order : List ℕ} {A : ℕ} {s owed : State} {work ready : List �
       line′ = put (S .line) f (h ∷ S .line f)
 
       relinked : (x : ℕ) (l : List ℕ) → Each (λ i. i ≢ h) l → Chain work x l → Chain new x l
-      relinked x l a c = chain-same work new (λ i. i ≢ h) (λ i q _. hung-links work f h (S .long) g b i q) l x a c
+      relinked x l a c = chain-same work new (λ i. i ≢ h) (hung-links work f h room b) l x a c
 
       lined : (j y : ℕ) → T (mem j (S .line y)) → T (mem j (line′ y))
       unfolding mem
@@ -299,40 +306,41 @@ module _ {task order : List ℕ} {A : ℕ} {s owed : State} {work ready : List �
       settled-waits p u = record {
         few = S .few;
         named = S .named;
-        long = hung-long work f h (S .long) g b;
+        long = rw (hung-long work f h room b) (S .long);
+        wide = S .wide;
         ready-sound = S .ready-sound;
         w = put (S .w) h f;
         line = line′;
         rest = F .tail;
         left = omega (arith, F .short);
-        chained = put-cases (λ x l. x < 4096 → Chain new (headAt new x) l) (S .line) f (h ∷ S .line f)
+        chained = put-cases (λ x l. x < factsEnd task → Chain new (headAt new x) l) (S .line) f (h ∷ S .line f)
             (λ l. (
-              hung-head work f h (S .long) g b,
+              hung-head work f h room b,
               b,
               not-h f l,
-              rw (hung-link work f h (S .long) g b) (relinked (headAt work f) (S .line f) (not-h f l) (S .chained f l)),
+              rw (hung-link work f h room b) (relinked (headAt work f) (S .line f) (not-h f l) (S .chained f l)),
             ))
-            (λ x q l. rw (hung-heads work f h (S .long) g b x l q) (relinked (headAt work x) (S .line x) (not-h x l) (S .chained x l)));
+            (λ x q l. rw (hung-heads work f h room b x q) (relinked (headAt work x) (S .line x) (not-h x l) (S .chained x l)));
         chained-rest = relinked (linkAt work h) (F .tail) (F .apart) (F .chain);
-        owns = put-cases (λ x l. x < 4096 → Each (λ j. (put (S .w) h f j ≡ x) × (j < A)) l) (S .line) f (h ∷ S .line f)
+        owns = put-cases (λ x l. x < factsEnd task → Each (λ j. (put (S .w) h f j ≡ x) × (j < A)) l) (S .line) f (h ∷ S .line f)
             (λ l. ((put-same (S .w) h f, F .below), still f f (S .line f) (not-h f l) (S .owns f l)))
             (λ x q l. still f x (S .line x) (not-h x l) (S .owns x l));
         owns-rest = still f 4096 (F .tail) (F .apart) (F .own);
         on-line = put-cases (λ j y. j < A → y < 4096 → T (mem j (line′ y))) (S .w) h f
             (λ _ _. rw (put-same (S .line) f (h ∷ S .line f)) (or-l (eqb h h) (mem h (S .line f)) (eqb-refl h)))
             (λ j _ l k. lined j (S .w j) (S .on-line j l k));
-        on-rest = put-cases (λ j y. j < A → y ≡ 4096 → T (mem j (F .tail))) (S .w) h f (λ _ l. absurd (omega arith)) (λ j q. F .others j q);
+        on-rest = put-cases (λ j y. j < A → y ≡ 4096 → T (mem j (F .tail))) (S .w) h f (λ _ l. absurd (omega (arith, S .wide))) (λ j q. F .others j q);
         needs = put-cases (λ j y. j < A → y < 4096 → T (has (ranked task order j .pre) (y / 64) (y % 64))) (S .w) h f (λ _ _. p) (λ j _. S .needs j);
         unreached = put-cases (λ j y. j < A → y < 4096 → T (reaches s y) → T (reaches owed y)) (S .w) h f (λ _ _ t. absurd (rw u at t)) (λ j _. S .unreached j);
-        out = put-cases (λ j y. j < A → 4096 < y → T (member ready j) ⊎ T (holds s (ranked task order j .eff))) (S .w) h f (λ _ l. absurd (omega arith)) (λ j _. S .out j);
+        out = put-cases (λ j y. j < A → 4096 < y → T (member ready j) ⊎ T (holds s (ranked task order j .eff))) (S .w) h f (λ _ l. absurd (omega (arith, S .wide))) (λ j _. S .out j);
         sound = S .sound;
-        places = λ j l. rw (hung-places work f h (S .long) g b j) (S .places j l);
+        places = λ j l. rw (hung-places work f h room b j (omega (arith, S .few))) (S .places j l);
       }
 
   -- the chain of fact f is taken off, to be settled
-  module _ (S : Sites task order A s owed work ready 65535 0) (f : ℕ) (g : f < 4096) where
+  module _ (S : Sites task order A s owed work ready 65535 0) (f : ℕ) (g : f < factsEnd task) where
     abbrev taken : List ℕ
-    taken = set work f 65535
+    taken = set work (2048 + f) 65535
 
     abbrev w′ : ℕ → ℕ
     w′ x = put (λ y. y) f 4096 (S .w x)
@@ -351,15 +359,16 @@ module _ {task order : List ℕ} {A : ℕ} {s owed : State} {work ready : List �
     unfolding mem
     none-left x b e = rw (empty-by-length (S .rest) (S .left)) at (S .on-rest x b e)
 
-    rechained : (x : ℕ) → x < 4096 → Chain taken (headAt work x) (S .line x)
+    rechained : (x : ℕ) → x < factsEnd task → Chain taken (headAt work x) (S .line x)
     rechained x l =
-        chain-same work taken (λ j. (S .w j ≡ x) × (j < A)) (λ i _ _. getD-set-other work f (4096 + i) 65535 0 (omega arith)) (S .line x) (headAt work x) (S .owns x l) (S .chained x l)
+        chain-same work taken (λ j. (S .w j ≡ x) × (j < A)) (λ i _ l. getD-set-other work (2048 + f) i 65535 0 (omega arith)) (S .line x) (headAt work x) (S .owns x l) (S .chained x l)
 
     pub sites-off : (owed′ : State) → ((y : ℕ) → y ≢ f → T (reaches owed y) → T (reaches owed′ y)) → Sites task order A s owed′ taken ready (headAt work f) 1024
     sites-off owed′ o = record {
       few = S .few;
       named = S .named;
-      long = simp length-set (S .long);
+      long = rw length-set (S .long);
+      wide = S .wide;
       ready-sound = S .ready-sound;
       w = w′;
       line = put (S .line) f [];
@@ -369,23 +378,23 @@ module _ {task order : List ℕ} {A : ℕ} {s owed : State} {work ready : List �
         S .few,
         distinct-length A (S .line f) (each-map (λ j. (S .w j ≡ f) × (j < A)) (λ j. j < A) (λ j p. p .1) (S .line f) (S .owns f g)) (chain-distinct work (S .line f) (headAt work f) (S .chained f g)),
       );
-      chained = put-cases (λ x l. x < 4096 → Chain taken (headAt taken x) l) (S .line) f []
-          (λ l. rw (getD-set-same work f 65535 0 (omega (arith, S .long))) (omega arith))
-          (λ x q l. rw (getD-set-other work f x 65535 0 q) (rechained x l));
+      chained = put-cases (λ x l. x < factsEnd task → Chain taken (headAt taken x) l) (S .line) f []
+          (λ l. rw (getD-set-same work (2048 + f) 65535 0 (omega (arith, S .long))) (omega arith))
+          (λ x q l. rw (getD-set-other work (2048 + f) (2048 + x) 65535 0 (omega arith)) (rechained x l));
       chained-rest = rechained f g;
-      owns = put-cases (λ x l. x < 4096 → Each (λ j. (w′ j ≡ x) × (j < A)) l) (S .line) f [] (λ _. tt)
+      owns = put-cases (λ x l. x < factsEnd task → Each (λ j. (w′ j ≡ x) × (j < A)) l) (S .line) f [] (λ _. tt)
           (λ x q l. each-map (λ j. (S .w j ≡ x) × (j < A)) (λ j. (w′ j ≡ x) × (j < A)) (λ j p. (w-other j (λ e. q (sym (p .0) ∙ e)) ∙ p .0, p .1)) (S .line x) (S .owns x l));
       owns-rest = each-map (λ j. (S .w j ≡ f) × (j < A)) (λ j. (w′ j ≡ 4096) × (j < A)) (λ j p. (w-f j (p .0), p .1)) (S .line f) (S .owns f g);
       on-line = λ j b l. stays (λ y. y < 4096 → T (mem j (put (S .line) f [] y))) j (omega arith) (λ q k. rw (put-other (S .line) f [] (S .w j) q) (S .on-line j b k)) l;
       on-rest = λ j b e. elim (ℕ-discrete (S .w j) f) [
-        | yes q ↦ subst (λ y. T (mem j (S .line y))) q (S .on-line j b (omega arith))
+        | yes q ↦ subst (λ y. T (mem j (S .line y))) q (S .on-line j b (omega (arith, S .wide)))
         | no q ↦ absurd (none-left j b (sym (w-other j q) ∙ e))
       ];
       needs = λ j b l. stays (λ y. y < 4096 → T (has (ranked task order j .pre) (y / 64) (y % 64))) j (omega arith) (λ _. S .needs j b) l;
       unreached = λ j b l. stays (λ y. y < 4096 → T (reaches s y) → T (reaches owed′ y)) j (omega arith) (λ q k t. o (S .w j) q (S .unreached j b k t)) l;
       out = λ j b l. stays (λ y. 4096 < y → T (member ready j) ⊎ T (holds s (ranked task order j .eff))) j (omega arith) (λ _. S .out j b) l;
       sound = S .sound;
-      places = λ j b. rw (getD-set-other work f (5120 + j) 65535 0 (omega arith)) (S .places j b);
+      places = λ j b. rw (getD-set-other work (2048 + f) (1024 + j) 65535 0 (omega (arith, S .few))) (S .places j b);
     }
 
   -- the state grows, and i, whose effects it then has, leaves the ready ones
@@ -396,6 +405,7 @@ module _ {task order : List ℕ} {A : ℕ} {s owed : State} {work ready : List �
     few = S .few;
     named = S .named;
     long = S .long;
+    wide = S .wide;
     ready-sound = W .sound;
     w = S .w;
     line = S .line;
@@ -483,6 +493,10 @@ sites-settled {task} {order} {A} {s} {owed} {work} {ready} {h} {n} S b work′ r
 pub zeros : (n x : ℕ) → _≡_ {A = ℕ} (getD (replicate n 0) x 0) 0
 zeros n x = let z : ℕ = 0 in elim (decLt x n) [ yes l ↦ getD-replicate n x z z l | no l ↦ List·getD-eq-default (replicate n z) z (rw (length-replicate n z) (omega arith)) ]
 
+-- nothing waits in a new list
+pub free-new : (task : List ℕ) (n : ℕ) → 2048 + factsEnd task ≤ n → Free task (replicate n 65535)
+free-new task n h = let e = length-replicate {A = ℕ} n 65535 in (rw e h, rw e refl)
+
 -- no rank is ready
 ready-none : Ready (replicate 17 0)
 ready-none = record { long = length-replicate {A = ℕ} 17 0; filled = λ w. rw (zeros 17 0, zeros 17 (w + 1), inSet-empty w) refl }
@@ -501,6 +515,7 @@ module _ {task order : List ℕ} {s owed : State} where
     few = omega arith;
     named = λ i l. named i l (ℕ-discrete i j);
     long = S .long;
+    wide = S .wide;
     ready-sound = S .ready-sound;
     w = put (S .w) j 4096;
     line = S .line;
@@ -529,19 +544,20 @@ module _ {task order : List ℕ} {s owed : State} where
       go i l (yes q) = rw q P
       go i l (no q) = S .places i (omega arith)
 
-  pub entered-start : {work ready : List ℕ} → work ≡ replicate 6144 65535 → ready ≡ replicate 17 0 → Entered task order s owed work ready 0
+  pub entered-start : {work ready : List ℕ} → factsEnd task ≤ 4096 → Free task work → ready ≡ replicate 17 0 → Entered task order s owed work ready 0
   unfolding member setsOf
-  entered-start ew er = rw (ew, er) (record {
+  entered-start {work} {ready} small free er = rw er (record {
     sites = record {
       few = omega arith;
       named = λ j b. absurd (omega arith);
-      long = length-replicate {A = ℕ} 6144 65535;
+      long = free .0;
+      wide = small;
       ready-sound = ready-none;
       w = λ _. 0;
       line = λ _. [];
       rest = [];
       left = omega arith;
-      chained = λ f l. rw (getD-replicate {A = ℕ} 6144 f 65535 0 (omega arith)) (omega arith);
+      chained = λ f l. omega (arith, blank (2048 + f) (omega (arith, free .0)));
       chained-rest = omega arith;
       owns = λ f l. tt;
       owns-rest = tt;
@@ -553,8 +569,11 @@ module _ {task order : List ℕ} {s owed : State} where
       sound = λ j m. absurd (rw (zeros 17 (j / 64 + 1), inSet-empty (j % 64)) at m);
       places = λ j b. absurd (omega arith);
     };
-    unlinked = λ x _ l. getD-replicate {A = ℕ} 6144 (4096 + x) 65535 0 (omega arith);
+    unlinked = λ x _ l. blank x (omega (arith, free .0));
   })
+    where
+      blank : (x : ℕ) → x < length work → getD work x 0 ≡ 65535
+      blank x l = ap (λ (d : List ℕ). getD d x 0) (free .1) ∙ getD-replicate {A = ℕ} (length work) x 65535 0 l
 
   -- rank j enters, with the place of its action's first precondition, and is settled
   module _ {work ready : List ℕ} {j : ℕ} (E : Entered task order s owed work ready j) (b : j < 1024) (m : getD order j 0 < actions (taskIn task))
@@ -562,20 +581,20 @@ module _ {task order : List ℕ} {s owed : State} where
     begun : Looked s task (getD order j 0) p
     begun = record { from = omega arith; to = omega arith; passed = λ x l m. absurd (omega arith) }
 
-    pub entered-place : Looked s task (getD order j 0) (placeAt (set work (5120 + j) p) j)
-    entered-place = rw (getD-set-same work (5120 + j) p 0 (omega (arith, E .sites .long))) begun
+    pub entered-place : Looked s task (getD order j 0) (placeAt (set work (1024 + j) p) j)
+    entered-place = rw (getD-set-same work (1024 + j) p 0 (omega (arith, E .sites .long))) begun
 
-    pub entered-turn : (work′ ready′ : List ℕ) → Settles s task order j (set work (5120 + j) p) ready work′ ready′ → Entered task order s owed work′ ready′ (j + 1)
+    pub entered-turn : (work′ ready′ : List ℕ) → Settles s task order j (set work (1024 + j) p) ready work′ ready′ → Entered task order s owed work′ ready′ (j + 1)
     entered-turn work′ ready′ Z =
-        let link : (x : ℕ) → x < 1024 → linkAt (set work (5120 + j) p) x ≡ linkAt work x = noted-link (E .sites) j p b (λ _. begun) in
-        let e : 1024 ≤ linkAt (set work (5120 + j) p) j = omega (arith, link j b, E .unlinked j (omega arith) b) in
+        let link : (x : ℕ) → x < 1024 → linkAt (set work (1024 + j) p) x ≡ linkAt work x = noted-link (E .sites) j p b (λ _. begun) in
+        let e : 1024 ≤ linkAt (set work (1024 + j) p) j = omega (arith, link j b, E .unlinked j (omega arith) b) in
         record {
           sites = sites-ended (sites-settled (sites-enter (sites-noted (E .sites) j p b (λ _. begun)) b e m entered-place) b work′ ready′ Z) e;
           unlinked = λ x q l. links Z x (omega arith) l ∙ link x l ∙ E .unlinked x (omega arith) l;
         }
       where
-        links : Settles s task order j (set work (5120 + j) p) ready work′ ready′ → (x : ℕ) → x ≢ j → x < 1024 → linkAt work′ x ≡ linkAt (set work (5120 + j) p) x
-        links (goes k P r W ew) x q l = rw ew (getD-set-other (set work (5120 + j) p) (5120 + j) (4096 + x) k 0 (omega arith))
+        links : Settles s task order j (set work (1024 + j) p) ready work′ ready′ → (x : ℕ) → x ≢ j → x < 1024 → linkAt work′ x ≡ linkAt (set work (1024 + j) p) x
+        links (goes k P r W ew) x q l = rw ew (getD-set-other (set work (1024 + j) p) (1024 + j) x k 0 (omega arith))
         links (waits k P f g r u ew er) x q l =
-            let n : length (set (set work (5120 + j) p) (5120 + j) k) ≡ 6144 = simp length-set (E .sites .long) in
-            rw ew (hung-links (set (set work (5120 + j) p) (5120 + j) k) f j n g b x q ∙ getD-set-other (set work (5120 + j) p) (5120 + j) (4096 + x) k 0 (omega arith))
+            let n : 2048 + f < length (set (set work (1024 + j) p) (1024 + j) k) = simp length-set (omega (arith, E .sites .long)) in
+            rw ew (hung-links (set (set work (1024 + j) p) (1024 + j) k) f j n b x q l ∙ getD-set-other (set work (1024 + j) p) (1024 + j) x k 0 (omega arith))

@@ -25,9 +25,9 @@ use Rattle.state.proofs.Listed.{Listed}
 use Rattle.state.proofs.Listing.{loaded-listed}
 use Rattle.state.proofs.Effects.{factsIn-none}
 use Rattle.forward.specs.declared.Ran.{Ran}
-use Rattle.forward.specs.Waiting.{reaches, member, Passing, Unmet, Lowest, Without, Settled, ByCost}
+use Rattle.forward.specs.Waiting.{reaches, member, Passing, Unmet, Lowest, Without, Settled, Headed, ByCost}
 use Rattle.forward.specs.Running.{RanOf}
-use Rattle.forward.proofs.Places.{passing-more}
+use Rattle.forward.proofs.Places.{passing-more, effects-headed}
 use Rattle.forward.proofs.Chains.{tally-fewer, passing-up, sites-none, sites-first, sites-leave}
 use Rattle.forward.proofs.Running.{Going, going-start, going-on, going-take, ended-met, ended-none, goals-met, goals-open}
 
@@ -40,7 +40,7 @@ pub record Looping (task order : List ℕ) (g : Goals) (plan sets work ready : L
   pub room : g .count ≤ length (g .facts)
   pub met : Passing (setsOf sets) (g .facts) 0 (g .count) k
   pub going : Going (taskIn task) plan (setsOf sets) n
-  pub facts : Facts task a b
+  pub facts : Headed task a b
   pub settled : Settled task order (setsOf sets) (has (factsIn task a b)) work ready
 
 -- What falls with each turn: actions whose effects are not all reached, then whether facts are to be looked at, then ready actions.
@@ -49,7 +49,7 @@ left task sets ready a b =
     2048 * tally (actions (taskIn task)) (λ j. not (holds (setsOf sets) (act (taskIn task) j .eff))) + 1024 * (1 - (1 - (b - a))) + tally 1024 (member ready)
 
 -- no fact is to be looked at
-facts-none : {task : List ℕ} {k : ℕ} → k ≤ length task → Facts task k k
+facts-none : {task : List ℕ} {k : ℕ} → k ≤ length task → Headed task k k
 facts-none h = record { rises = omega arith; within = h; small = λ x p q. absurd (omega arith) }
 
 pub looping-start : {task order : List ℕ} {g : Goals} {plan sets work ready : List ℕ} → Loaded task → ByCost task order → GoalsOf (taskIn task) g → length (g .facts) ≡ 64
@@ -170,11 +170,7 @@ module _ {task order : List ℕ} {g : Goals} {plan sets work₀ ready₀ work re
                   room = L .room;
                   met = passing-up s (setsOf sets′) (g .facts) 0 (g .count) r grows upto;
                   going = going-take (L .loaded .formed) (L .going) i (setsOf sets′) unmet-goal is-next stepped;
-                  facts = record {
-                    rises = omega (arith, listed .eff-below);
-                    within = omega (arith, listed .end-below);
-                    small = λ x p q. listed .small x (omega (arith, listed .pre-below)) (omega arith);
-                  };
+                  facts = rw (from, to) (effects-headed task (L .loaded) i listed);
                   settled = rw (from, to) (subst (λ (x : Action). Settled task order (setsOf sets′) (has (x .eff)) work ready′) (sym (listed .states)) taken);
                 }
 

@@ -9,14 +9,16 @@ use native.Mathlib.Omega.{arith}
 use native.Mathlib.Decide.{ℕ-discrete, decLt}
 use lib.Dec.{T, eqb, eqb→eq, eqb-refl}
 use lib.ListN.{length, getD}
-use Rattle.planning.specs.Runs.{State, has, holds, act}
+use Rattle.planning.specs.Runs.{State, has, holds, variables, count, act}
 use Rattle.planning.proofs.Tests.{and-l, and-r, and-i, or-l, or-r, or-cases}
 use Rattle.planning.proofs.Facts.{holds→sub, sub→holds}
 use Rattle.planning.specs.Record.{Action}
-use Rattle.task.specs.Task.{factOf, factsIn, preAt, effAt, actionIn, taskIn}
+use Rattle.planning.proofs.Formed.{Sorted, sorted-has}
+use Rattle.task.specs.Task.{factOf, factsIn, preAt, effAt, endAt, actionIn, taskIn, Loaded}
 use Rattle.state.proofs.Listed.{Listed}
+use Rattle.state.proofs.Listing.{between-inside}
 use Rattle.state.proofs.Effects.{factsIn-cons, factsIn-none}
-use Rattle.forward.specs.Waiting.{reaches, Passing, Looked}
+use Rattle.forward.specs.Waiting.{reaches, Passing, factsEnd, Headed, Looked}
 
 module _ (l : List ℕ) where
   at-has′ : (n a b v d : ℕ) → a + n ≡ b → b ≤ length l → T (has (factsIn l a b) v d) → (x : ℕ) × (a ≤ x) × (x < b) × (v ≡ getD l x 0 / 64) × (d ≡ getD l x 0 % 64)
@@ -105,11 +107,23 @@ passing-more s l a b k r P Q = record { from = omega (arith, P .from, Q .from); 
     go x p q (yes h) = P .passed x p h
     go x p q (no h) = Q .passed x (omega arith) q
 
+-- the effects of action i are facts of the task
+pub effects-headed : (task : List ℕ) → Loaded task → (i : ℕ) → Listed task i → Headed task (effAt task i) (endAt task i)
+unfolding actionIn
+effects-headed task D i L =
+    let t = taskIn task in
+    let sorted = subst (λ (a : Action). Sorted (variables t) (count t) 0 (a .eff)) (sym (L .states)) (D .formed .eff-sorted i) in
+    record {
+      rises = L .eff-below;
+      within = L .end-below;
+      small = λ k p q. omega (arith, between-inside (variables t) (count t) task (endAt task i) (L .end-below) (effAt task i) k p q sorted);
+    }
+
 -- what the first unmet precondition of action i says
-module _ (s : State) (task : List ℕ) (i k : ℕ) (L : Listed task i) (P : Looked s task i k) where
+module _ (s : State) (task : List ℕ) (i k : ℕ) (D : Loaded task) (L : Listed task i) (P : Looked s task i k) where
   -- fact f is a precondition that is not reached
   pub record Waits (f : ℕ) : Type 0 where
-    pub small : f < 4096
+    pub small : f < factsEnd task
     pub needs : T (has (act (taskIn task) i .pre) (f / 64) (f % 64))
     pub open′ : reaches s f ≡ false
 
@@ -118,11 +132,13 @@ module _ (s : State) (task : List ℕ) (i k : ℕ) (L : Listed task i) (P : Look
   pre-is v d = ap (λ (a : Action). has (a .pre) v d) (L .states)
 
   pub unmet-waits : k < effAt task i → (f : ℕ) → f ≡ getD task k 0 → reaches s (getD task k 0) ≡ false → Waits f
-  unmet-waits h f e u = rw e (record {
-    small = L .small k (P .from) (omega (arith, L .eff-below));
-    needs = rw (← pre-is (getD task k 0 / 64) (getD task k 0 % 64)) (has-at task (preAt task i) (effAt task i) (L .pre-below) (omega (arith, L .eff-below, L .end-below)) k (P .from) h);
-    open′ = u;
-  })
+  unmet-waits h f e u =
+      let t = taskIn task in
+      let x = getD task k 0 in
+      let needs : T (has (act t i .pre) (x / 64) (x % 64)) = rw (← pre-is (x / 64) (x % 64))
+      (has-at task (preAt task i) (effAt task i) (L .pre-below) (omega (arith, L .eff-below, L .end-below)) k (P .from) h) in
+      let inside = sorted-has (variables t) (count t) 0 (act t i .pre) (D .formed .pre-sorted i) (x / 64) (x % 64) needs in
+      rw e (record { small = omega (arith, inside .var-below); needs = needs; open′ = u })
 
   pub unmet-goes : effAt task i ≤ k → T (holds s (act (taskIn task) i .pre))
   unfolding actionIn

@@ -6,11 +6,11 @@ use mathlib.Core.Path.{_≡_}
 use mathlib.Core.Logic.{_⊎_, _≢_}
 use mathlib.Core.Bool.{Bool, false, not, _&&_, _||_}
 use mathlib.Core.List.{List, [], _∷_}
-use Prim.Native.Nat.{ℕ, _+_, _/_, _%_, _<_, _≤_}
+use Prim.Native.Nat.{ℕ, _+_, _*_, _/_, _%_, _<_, _≤_}
 use lib.Dec.{T, eqb}
-use lib.ListN.{length, getD, set}
+use lib.ListN.{length, getD, set, replicate}
 use Rattle.planning.specs.Record.{Action}
-use Rattle.planning.specs.Runs.{State, has, holds, actions, act}
+use Rattle.planning.specs.Runs.{State, has, holds, variables, actions, act}
 use Rattle.task.specs.Task.{preAt, effAt, taskIn}
 use Rattle.state.specs.Sets.{inSet, setsOf}
 use Rattle.ranking.specs.Ranked.{Ranked}
@@ -64,20 +64,38 @@ pub record Without (ready : List ℕ) (i : ℕ) (new : List ℕ) : Type 0 where
 abbrev pub ranked : List ℕ → List ℕ → ℕ → Action
 ranked task order j = act (taskIn task) (getD order j 0)
 
--- One list of 6,144 numbers says what waits: for each fact the rank of the first action of its chain, for each rank that of the next
--- one on its chain, and for each rank the place of the precondition that the action waits for.
-abbrev pub headAt : List ℕ → ℕ → ℕ
-headAt work f = getD work f 0
+-- the number behind those of the facts of a task
+abbrev pub factsEnd : List ℕ → ℕ
+factsEnd task = 64 * variables (taskIn task)
 
+-- One list of numbers says what waits: for each rank that of the next action on its chain, for each rank the place of the precondition
+-- that the action waits for, and for each fact the rank of the first action of its chain.
 abbrev pub linkAt : List ℕ → ℕ → ℕ
-linkAt work j = getD work (4096 + j) 0
+linkAt work j = getD work j 0
 
 abbrev pub placeAt : List ℕ → ℕ → ℕ
-placeAt work j = getD work (5120 + j) 0
+placeAt work j = getD work (1024 + j) 0
+
+abbrev pub headAt : List ℕ → ℕ → ℕ
+headAt work f = getD work (2048 + f) 0
+
+-- each fact of the task has its place in the list
+abbrev pub Room : List ℕ → List ℕ → Type 0
+Room task work = 2048 + factsEnd task ≤ length work
+
+-- nothing waits
+abbrev pub Free : List ℕ → List ℕ → Type 0
+Free task work = Room task work × (work ≡ replicate (length work) 65535)
+
+-- the facts from place a up to b are of the task, so that each has its chain
+pub record Headed (task : List ℕ) (a b : ℕ) : Type 0 where
+  pub rises : a ≤ b
+  pub within : b ≤ length task
+  pub small : (k : ℕ) → a ≤ k → k < b → getD task k 0 < factsEnd task
 
 -- rank j in front of the chain of fact f
 unfoldable pub hung : List ℕ → ℕ → ℕ → List ℕ
-hung work f j = set (set work (4096 + j) (getD work f 0)) f j
+hung work f j = set (set work j (getD work (2048 + f) 0)) (2048 + f) j
 
 -- the preconditions of action i before place k are reached
 abbrev pub Looked : State → List ℕ → ℕ → ℕ → Type 0
@@ -85,10 +103,10 @@ Looked s task i k = Passing s task (preAt task i) (effAt task i) k
 
 -- what settling the action of rank j does: it is ready, or hangs on the chain of a precondition f that is not reached; its place is noted
 pub data Settles (s : State) (task order : List ℕ) (j : ℕ) (work ready work′ ready′ : List ℕ) : Type 0 where
-  goes : (k : ℕ) → Looked s task (getD order j 0) k → T (holds s (ranked task order j .pre)) → With ready j ready′ → work′ ≡ set work (5120 + j) k
+  goes : (k : ℕ) → Looked s task (getD order j 0) k → T (holds s (ranked task order j .pre)) → With ready j ready′ → work′ ≡ set work (1024 + j) k
       → Settles s task order j work ready work′ ready′
-  waits : (k : ℕ) → Looked s task (getD order j 0) k → (f : ℕ) → f < 4096 → T (has (ranked task order j .pre) (f / 64) (f % 64)) → reaches s f ≡ false
-      → work′ ≡ hung (set work (5120 + j) k) f j → ready′ ≡ ready → Settles s task order j work ready work′ ready′
+  waits : (k : ℕ) → Looked s task (getD order j 0) k → (f : ℕ) → f < factsEnd task → T (has (ranked task order j .pre) (f / 64) (f % 64)) → reaches s f ≡ false
+      → work′ ≡ hung (set work (1024 + j) k) f j → ready′ ≡ ready → Settles s task order j work ready work′ ready′
 
 unfoldable pub mem : ℕ → List ℕ → Bool
 mem j [] = false
@@ -110,15 +128,16 @@ Chain work h (j ∷ l) = (h ≡ j) × (j < 1024) × Each (λ i. i ≢ j) l × Ch
 pub record Sites (task order : List ℕ) (A : ℕ) (s owed : State) (work ready : List ℕ) (h n : ℕ) : Type 0 where
   pub few : A ≤ 1024
   pub named : (j : ℕ) → j < A → getD order j 0 < actions (taskIn task)
-  pub long : length work ≡ 6144
+  pub long : Room task work
+  pub wide : factsEnd task ≤ 4096
   pub ready-sound : Ready ready
   pub w : ℕ → ℕ
   pub line : ℕ → List ℕ
   pub rest : List ℕ
   pub left : length rest ≤ n
-  pub chained : (f : ℕ) → f < 4096 → Chain work (headAt work f) (line f)
+  pub chained : (f : ℕ) → f < factsEnd task → Chain work (headAt work f) (line f)
   pub chained-rest : Chain work h rest
-  pub owns : (f : ℕ) → f < 4096 → Each (λ j. (w j ≡ f) × (j < A)) (line f)
+  pub owns : (f : ℕ) → f < factsEnd task → Each (λ j. (w j ≡ f) × (j < A)) (line f)
   pub owns-rest : Each (λ j. (w j ≡ 4096) × (j < A)) rest
   pub on-line : (j : ℕ) → j < A → w j < 4096 → T (mem j (line (w j)))
   pub on-rest : (j : ℕ) → j < A → w j ≡ 4096 → T (mem j rest)

@@ -8,7 +8,7 @@ use state::Relaxed;
 use state::State;
 ghost use mathlib.Core.Path.{_≡_};
 ghost use mathlib.Core.List.{[]};
-ghost use Prim.Native.Nat.{_<_, _≤_};
+ghost use Prim.Native.Nat.{_+_, _<_, _≤_};
 ghost use lib.ListN.{length, getD, replicate};
 ghost use lib.Dec.{T};
 ghost use Rattle.planning.specs.Runs.{has, actions};
@@ -16,7 +16,7 @@ ghost use Rattle.planning.specs.Calls.{forwardCall, forwardList};
 ghost use Rattle.task.specs.Task.{factsIn, taskIn, Loaded};
 ghost use Rattle.task.specs.Size.{RoomIn};
 ghost use Rattle.state.specs.Sets.{setsOf, Facts};
-ghost use Rattle.forward.specs.Waiting.{Unmet, member, Ready, LowestIn, Lowest, With, Without, hung, placeAt, Looked, Settles, Sites, Settled, ByCost};
+ghost use Rattle.forward.specs.Waiting.{Unmet, member, Ready, LowestIn, Lowest, With, Without, hung, placeAt, Looked, Settles, Sites, Settled, Headed, Room, Free, ByCost};
 ghost use Rattle.forward.specs.Running.{RanOf};
 ghost use Rattle.forward.specs.Answers.{foundOf, forwardOf, forwardIn};
 
@@ -80,21 +80,23 @@ fn unmark(ready: &mut [u64; SETS], i: usize)
     }
 }
 
-// What waits, by rank: for each fact the head of its chain of actions, 4,096; from LINK on each action's next on its chain; from PLACE
-// on the place of the precondition that it waits for.
-const LINK: usize = 4096;
+// What waits, by rank: each action's next on its chain; from PLACE on the place of the precondition that it waits for; from HEAD on for
+// each fact the head of its chain of actions. ALL is room for the facts of 64 variables, FEW for those of 16.
+const PLACE: usize = 1024;
 
-const PLACE: usize = 5120;
+const HEAD: usize = 2048;
+
+const FEW: usize = 3072;
 
 const ALL: usize = 6144;
 
 // Rank j hangs on the chain of fact f, in front.
-fn hang(work: &mut [u16; ALL], f: usize, j: u16)
-    requires { ⌜ (f < 4096) × (j < 1024) ⌝ }
+fn hang(work: &mut [u16], f: usize, j: u16)
+    requires { ⌜ (f < 4096) × (2048 + f < length (now work)) × (j < 1024) ⌝ }
     ensures { λ _. ⌜ now (work .exit) ≡ hung (now (work .entry)) f j ⌝ }
 {
-    work[LINK + j as usize] = work[f];
-    work[f] = j;
+    work[j as usize] = work[HEAD + f];
+    work[HEAD + f] = j;
 }
 
 // The action of rank j is ready, or waits for a precondition that is not reached. It is looked at from the place on that it reached
@@ -103,12 +105,12 @@ fn settle(
     sets: &[u64; 64],
     task: &[u16],
     order: &[u16; 1024],
-    work: &mut [u16; ALL],
+    work: &mut [u16],
     ready: &mut [u64; SETS],
     j: u16,
 )
     requires { ⌜ Loaded (now task) × (j < 1024) × (getD (now order) j 0 < actions (taskIn (now task))) ⌝ }
-    requires { ⌜ Ready (now ready) × Looked (setsOf (now sets)) (now task) (getD (now order) j 0) (placeAt (now work) j) ⌝ }
+    requires { ⌜ Ready (now ready) × Looked (setsOf (now sets)) (now task) (getD (now order) j 0) (placeAt (now work) j) × Room (now task) (now work) ⌝ }
     ensures { λ _. ⌜ Settles (setsOf (now (sets .entry))) (now (task .entry)) (now (order .entry)) j (now (work .entry)) (now (ready .entry)) (now (work .exit)) (now (ready .exit)) ⌝ }
 {
     let r = lists::wide(j);
@@ -127,7 +129,7 @@ fn settle_all(
     sets: &[u64; 64],
     task: &[u16],
     order: &[u16; 1024],
-    work: &mut [u16; ALL],
+    work: &mut [u16],
     ready: &mut [u64; SETS],
     h: u16,
     from: usize,
@@ -142,7 +144,7 @@ fn settle_all(
         if 1024 <= j {
             return;
         }
-        let after = work[LINK + j as usize];
+        let after = work[j as usize];
         settle(sets, task, order, work, ready, j);
         j = after;
         left -= 1;
@@ -154,20 +156,20 @@ fn wake(
     sets: &[u64; 64],
     task: &[u16],
     order: &[u16; 1024],
-    work: &mut [u16; ALL],
+    work: &mut [u16],
     ready: &mut [u64; SETS],
     from: usize,
     to: usize,
 )
-    requires { ⌜ Loaded (now task) × Facts (now task) from to × Settled (now task) (now order) (setsOf (now sets)) (has (factsIn (now task) from to)) (now work) (now ready) ⌝ }
+    requires { ⌜ Loaded (now task) × Headed (now task) from to × Settled (now task) (now order) (setsOf (now sets)) (has (factsIn (now task) from to)) (now work) (now ready) ⌝ }
     ensures { λ _. ⌜ Settled (now (task .entry)) (now (order .entry)) (setsOf (now (sets .entry))) (has []) (now (work .exit)) (now (ready .exit)) ⌝ }
     ensures { λ _. ⌜ (to ≤ from → now (ready .exit) ≡ now (ready .entry)) ⌝ }
 {
     let mut k = from;
     while k < to {
         let f = lists::wide(task[k]);
-        let h = work[f];
-        work[f] = 65535;
+        let h = work[HEAD + f];
+        work[HEAD + f] = 65535;
         k += 1;
         settle_all(sets, task, order, work, ready, h, k, to);
     }
@@ -178,10 +180,10 @@ fn settle_each(
     sets: &[u64; 64],
     task: &[u16],
     order: &[u16; 1024],
-    work: &mut [u16; ALL],
+    work: &mut [u16],
     ready: &mut [u64; SETS],
 )
-    requires { ⌜ Loaded (now task) × ByCost (now task) (now order) × (now work ≡ replicate 6144 65535) × (now ready ≡ replicate 17 0) ⌝ }
+    requires { ⌜ Loaded (now task) × ByCost (now task) (now order) × Free (now task) (now work) × (now ready ≡ replicate 17 0) ⌝ }
     ensures { λ _. ⌜ Settled (now (task .entry)) (now (order .entry)) (setsOf (now (sets .entry))) (has []) (now (work .exit)) (now (ready .exit)) ⌝ }
 {
     let n = task::actions(task);
@@ -200,10 +202,10 @@ pub struct Ran {
     pub state: Relaxed,
 }
 
-// The forward run of a loaded task: the actions in the front of `plan`. What waits for the effects of the action taken last wakes in the
-// turn after it: a step that ends a turn copies the state twice, any other three times.
-pub fn run_forward(task: &[u16], plan: &mut [u16; 1024]) -> Ran
-    requires { ⌜ Loaded (now task) × (length (now plan) ≡ 1024) ⌝ }
+// The forward run by an order of the actions by cost: those that it takes in the front of `plan`. What waits for the effects of the action
+// taken last wakes in the turn after it: a step that ends a turn copies the state twice, any other three times.
+fn run_ranked(task: &[u16], order: &[u16; 1024], work: &mut [u16], plan: &mut [u16; 1024]) -> Ran
+    requires { ⌜ Loaded (now task) × ByCost (now task) (now order) × Free (now task) (now work) × (length (now plan) ≡ 1024) ⌝ }
     ensures { λ r. ⌜ RanOf (taskIn (now (task .entry))) (now (plan .exit)) r ⌝ }
 {
     let goals = Goals::load(task);
@@ -211,17 +213,14 @@ pub fn run_forward(task: &[u16], plan: &mut [u16; 1024]) -> Ran
     let start = State::initial(task);
     let sets = start.sets;
     let mut s = Relaxed { sets };
-    let mut order = [0u16; 1024];
-    ranking::by_cost(task, &mut order);
-    let mut work = [65535u16; ALL];
     let mut ready = [0u64; SETS];
-    settle_each(&s.sets, task, &order, &mut work, &mut ready);
+    settle_each(&s.sets, task, order, work, &mut ready);
     let mut steps: usize = 0;
     let mut g: usize = 0;
     let mut from: usize = 0;
     let mut to: usize = 0;
     loop {
-        wake(&s.sets, task, &order, &mut work, &mut ready, from, to);
+        wake(&s.sets, task, order, work, &mut ready, from, to);
         from = to;
         g = unmet(&s.sets, &goals.facts, g, count);
         let rank = lowest(&ready);
@@ -242,6 +241,21 @@ pub fn run_forward(task: &[u16], plan: &mut [u16; 1024]) -> Ran
             s = s.step(task, i);
         }
     }
+}
+
+// The forward run of a loaded task, in the front of `plan`.
+pub fn run_forward(task: &[u16], plan: &mut [u16; 1024]) -> Ran
+    requires { ⌜ Loaded (now task) × (length (now plan) ≡ 1024) ⌝ }
+    ensures { λ r. ⌜ RanOf (taskIn (now (task .entry))) (now (plan .exit)) r ⌝ }
+{
+    let mut order = [0u16; 1024];
+    ranking::by_cost(task, &mut order);
+    if task::variables(task) <= 16 {
+        let mut work = [65535u16; FEW];
+        return run_ranked(task, &order, &mut work, plan);
+    }
+    let mut work = [65535u16; ALL];
+    run_ranked(task, &order, &mut work, plan)
 }
 
 // What the forward run answers.
@@ -292,7 +306,12 @@ fn forward_in(bytes: &[u8], task: &mut [u16], plan: &mut [u16]) -> Found
 pub fn forward(bytes: &[u8], plan: &mut [u16]) -> Found
     ensures { λ r. ⌜ (foundOf r ≡ forwardCall (now (bytes .entry)) (length (now (plan .entry)))) × (now (plan .exit) ≡ forwardList (now (bytes .entry)) (length (now (plan .entry)))) ⌝ }
 {
-    if task::is_short(bytes) {
+    let size = task::room_for(bytes);
+    if size <= task::TINY {
+        let mut task = [0u16; task::TINY];
+        return forward_in(bytes, &mut task, plan);
+    }
+    if size <= task::SHORT {
         let mut task = [0u16; task::SHORT];
         return forward_in(bytes, &mut task, plan);
     }

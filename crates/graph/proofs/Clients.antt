@@ -71,7 +71,7 @@ slice-more task k v h =
 pub record Taking (t : Task) (n : ℕ) (task₀ task : List ℕ) (left k : ℕ) : Type 0 where
   pub within : k ≤ n
   pub few : n ≤ 64
-  pub room : 5444 ≤ length task₀
+  pub room : 1348 ≤ length task₀
   pub long : length task ≡ length task₀
   pub kept : (j : ℕ) → (j < 260) ⊎ (324 ≤ j) → getD task j 0 ≡ getD task₀ j 0
   pub taken : ℕ → Bool
@@ -113,7 +113,7 @@ module _ (t : Task) (rows : List ℕ) (n : ℕ) (arcs : setsOf rows ≡ blackArc
   unfolding clientsFirst
   takes-one j taken v e = rw (clientsFirst, e) refl
 
-  pub taking-start : (task : List ℕ) (paint : ℕ) → modeOf paint ≡ black t → n ≤ 64 → 5444 ≤ length task → Taking t n task task paint 0
+  pub taking-start : (task : List ℕ) (paint : ℕ) → modeOf paint ≡ black t → n ≤ 64 → 1348 ≤ length task → Taking t n task task paint 0
   unfolding modeOf order
   taking-start task paint e b room = record {
     within = omega arith;
@@ -189,7 +189,7 @@ module _ (t : Task) (rows : List ℕ) (n : ℕ) (arcs : setsOf rows ≡ blackArc
     taking-end h = let z : n - k ≡ 0 = omega arith in filled (sym (append-nil (slice 260 (260 + k) task)) ∙ (rw z at (P .so-far)))
 
 -- the count is written behind the places
-pub ordered-end : (n : ℕ) (before filled after : List ℕ) → 5444 ≤ length before → Filled n before filled → after ≡ set filled 2 n → Ordered before after
+pub ordered-end : (n : ℕ) (before filled after : List ℕ) → 1348 ≤ length before → Filled n before filled → after ≡ set filled 2 n → Ordered before after
 unfolding orderIn
 ordered-end n before filled after room F e = rw e (record {
   few = rw count (F .few);

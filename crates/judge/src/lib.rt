@@ -263,11 +263,16 @@ fn judge_in(bytes: &[u8], task: &mut [u16], list: &[u16]) -> Judging
     Judging::Refused(f)
 }
 
-// A list of actions judged: checks 1 to 6, 13, 9. A byte makes at most 4 / 3 numbers, so that a small record does with a small list.
+// A list of actions judged: checks 1 to 6, 13, 9. The task of a small record is small.
 pub fn judge(bytes: &[u8], list: &[u16]) -> Judging
     ensures { λ r. ⌜ answerOf r ≡ judgeCall (now (bytes .entry)) (now (list .entry)) ⌝ }
 {
-    if task::is_short(bytes) {
+    let size = task::room_for(bytes);
+    if size <= task::TINY {
+        let mut tiny = [0u16; task::TINY];
+        return judge_in(bytes, &mut tiny, list);
+    }
+    if size <= task::SHORT {
         let mut small = [0u16; task::SHORT];
         return judge_in(bytes, &mut small, list);
     }

@@ -81,7 +81,12 @@ fn tell_in(bytes: &[u8], task: &mut [u16], list: &[u16], room: usize) -> Board
 fn tell(bytes: &[u8], list: &[u16], room: usize) -> Board
     ensures { λ r. ⌜ Called (now (bytes .entry)) (now (list .entry)) room r ⌝ }
 {
-    if task::is_short(bytes) {
+    let size = task::room_for(bytes);
+    if size <= task::TINY {
+        let mut tiny = [0u16; task::TINY];
+        return tell_in(bytes, &mut tiny, list, room);
+    }
+    if size <= task::SHORT {
         let mut small = [0u16; task::SHORT];
         return tell_in(bytes, &mut small, list, room);
     }

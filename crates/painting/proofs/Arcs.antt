@@ -100,13 +100,13 @@ pub few-values : (t : Task) → Formed t → (v n : ℕ) → n ≡ count t v →
 few-values t F v n e = omega (arith, F .count-max v)
 
 -- one action, which marks its facts with 2 × i
-module _ (t : Task) (F : Formed t) (i : ℕ) (h : i < actions t) (marks : List ℕ) (U : Unmarked (2 * i) marks) (f : ℕ) (K : Move (black t) (reducedEffects (act t i)) f) where
+module _ (t : Task) (F : Formed t) (i : ℕ) (h : i < actions t) (marks : List ℕ) (U : Unmarked t (2 * i) marks) (f : ℕ) (K : Move (black t) (reducedEffects (act t i)) f) where
   small : 2 * i < 65535
   small = omega (arith, F .actions-max)
 
   module _ (marks′ : List ℕ) (fs : List Fact) (all : fs ≡ act t i .pre ++ act t i .eff) (same : marks′ ≡ markAll (2 * i) f fs marks) where
-    pub lacking-unmarked : Unmarked (2 * i + 1) marks′
-    lacking-unmarked = rw (same, all) (unmarked-all (2 * i) f (act t i .pre ++ act t i .eff) marks (facts-small t F i) (unmarked-more (2 * i) (2 * i + 1) marks U (omega arith)))
+    pub lacking-unmarked : Unmarked t (2 * i + 1) marks′
+    lacking-unmarked = rw (same, all) (unmarked-all t (2 * i) f (act t i .pre ++ act t i .eff) marks (facts-small t F i) (unmarked-more t (2 * i) (2 * i + 1) marks U (omega arith)))
 
     pub lacking-move : cyclic t ≡ none → lacksBy t (marked (2 * i) marks′) i (f / 64) (f % 64) ≡ lacks t i
     lacking-move Y = lacks-is t F i (f / 64) (f % 64) (marked (2 * i) marks′) (K .states) allows h Y (K .on)
@@ -114,8 +114,8 @@ module _ (t : Task) (F : Formed t) (i : ℕ) (h : i < actions t) (marks : List �
         states : T (has (act t i .pre ++ act t i .eff) (f / 64) (f % 64))
         states = has-right (act t i .pre) (act t i .eff) (f / 64) (f % 64) (reduced-elim (act t i) (f / 64) (f % 64) (K .states) .0)
 
-        allows : Allows (f / 64) (f % 64) (act t i .pre ++ act t i .eff) (marked (2 * i) marks′)
-        allows = rw (same, all) (marks-allow (2 * i) f (act t i .pre ++ act t i .eff) marks (facts-small t F i) small U (K .small) states)
+        allows : Allows (variables t) (f / 64) (f % 64) (act t i .pre ++ act t i .eff) (marked (2 * i) marks′)
+        allows = rw (same, all) (marks-allow t (2 * i) f (act t i .pre ++ act t i .eff) marks (facts-small t F i) small U states)
 
 -- all actions in turn
 pub record Scanning (t : Task) (n : ℕ) (marks kept : List ℕ) (i : ℕ) : Type 0 where
@@ -200,7 +200,7 @@ module _ (before linked after : List ℕ) (paint : ℕ) (A : Acyclic before pain
   same = relinked-task before after (A .loaded) all
 
   pub readied-chained : Chained (taskIn after) after
-  readied-chained = rw same (ordered-chained (taskIn before) linked after O (L .chained))
+  readied-chained = rw same (ordered-chained (taskIn before) linked after (linked-acyclic before linked paint A L .loaded .heads .behind) O (L .chained))
 
   pub readied-acyclic : Acyclic after paint
   readied-acyclic = acyclic-relinked before after paint A all

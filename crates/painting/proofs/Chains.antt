@@ -17,9 +17,9 @@ use Rattle.planning.proofs.Facts.{has-here, has-there, has-cases, has→touches
 use Rattle.planning.proofs.Arcs.{reduced-elim, reduced-func}
 use Rattle.planning.proofs.Formed.{Formed, sorted-has, eff-func}
 use Rattle.planning.proofs.Painting.{black-inside, one-black}
-use Rattle.task.specs.Task.{taskIn, Loaded}
+use Rattle.task.specs.Task.{linksEnd, headsAt, taskIn, Heads, Loaded}
 use Rattle.task.specs.Links.{headAt, nextAt, linked, Next, Changes, Chained, Link, Relinked, Unlinked}
-use Rattle.task.proofs.Relinking.{relinked-task, relinked-loaded, relinked-none, relinked-link, relinked-trans, head-new, head-old, next-new, next-old}
+use Rattle.task.proofs.Relinking.{heads-fewer, heads-kept, relinked-task, relinked-loaded, relinked-none, relinked-link, relinked-trans, head-new, head-old, next-new, next-old}
 use Rattle.state.specs.Sets.{modeOf}
 use Rattle.graph.specs.Graph.{Ordered}
 use Rattle.graph.proofs.Searches.{false-not}
@@ -95,6 +95,11 @@ module _ (m : Mode) (t : Task) (F : Formed t) (i : ℕ) where
   pub the-move : (f : ℕ) → f ≡ moveOf m (reducedEffects (act t i)) → (f ≡ 65535 → ⊥) → Move m (reducedEffects (act t i)) f
   the-move f e n = elim formed-move [ inl q ↦ absurd (n (e ∙ q .0)) | inr q ↦ rw e q ]
 
+  pub move-heads : (f : ℕ) → Move m (reducedEffects (act t i)) f → (task : List ℕ) → Heads (64 * variables t) task → Heads (f + 1) task
+  move-heads f M task =
+      let k = sorted-has (variables t) (count t) 0 (act t i .eff) (F .eff-sorted i) (f / 64) (f % 64) (reduced-elim (act t i) (f / 64) (f % 64) (M .states) .0) in
+      heads-fewer (f + 1) (64 * variables t) task (omega (arith, k .var-below))
+
   pub no-move : (f : ℕ) → f ≡ moveOf m (reducedEffects (act t i)) → f ≡ 65535 → NoMove m (reducedEffects (act t i))
   no-move f e n = elim formed-move [ inl q ↦ q .1 | inr q ↦ absurd (omega (arith, q .small)) ]
 
@@ -135,8 +140,9 @@ module _ (task₀ : List ℕ) (paint : ℕ) (A : Acyclic task₀ paint) where
     near : i < 1024
     near = omega (arith, below, F .actions-max)
 
-    room : 5444 ≤ length task
-    room = omega (arith, A .loaded .head, L .relinked .long)
+    -- an action's move is of a variable of the task
+    room : (f : ℕ) → Move (black (taskIn task₀)) (reducedEffects (act (taskIn task₀) i)) f → Heads (f + 1) task
+    room f M = move-heads (black (taskIn task₀)) (taskIn task₀) F i f M task (heads-kept (64 * variables (taskIn task₀)) task₀ task (L .relinked) (A .loaded .heads))
 
     linked-none : NoMove (black (taskIn task₀)) (reducedEffects (act (taskIn task₀) i)) → Linking task₀ task i
     linked-none absent = record {
@@ -153,7 +159,7 @@ module _ (task₀ : List ℕ) (paint : ℕ) (A : Acyclic task₀ paint) where
 
     linked-move : (f : ℕ) → Move (black (taskIn task₀)) (reducedEffects (act (taskIn task₀) i)) f → Linking task₀ (linked f i task) i
     linked-move f M = record {
-      relinked = relinked-link task₀ task f i (M .small) near (L .relinked);
+      relinked = relinked-link task₀ task f i (A .loaded .heads .behind) near (L .relinked);
       within = omega (arith, L .within);
       heads = λ v e vb eb o. front v e vb eb o (ℕ-discrete (64 * v + e) f);
       links = λ v e j o l k h. behind v e j (ℕ-discrete j i) o l k h;
@@ -167,9 +173,9 @@ module _ (task₀ : List ℕ) (paint : ℕ) (A : Acyclic task₀ paint) where
             let a : f / 64 ≡ v = omega arith in
             let c : f % 64 ≡ e = omega arith in
             let p : Changes (taskIn task₀) v e i = rw (a, c) at (M .states) in
-            rw (q, head-new task f i (M .small) near room) (next-here (actions (taskIn task₀)) (Changes (taskIn task₀) v e) i below p)
+            rw (q, head-new task f i near (room f M)) (next-here (actions (taskIn task₀)) (Changes (taskIn task₀) v e) i below p)
         front v e vb eb o (no q) =
-            rw (head-old task f i (M .small) near room (64 * v + e) (omega arith) q)
+            rw (head-old task f i near (room f M) (64 * v + e) q)
             (next-skip (actions (taskIn task₀)) (Changes (taskIn task₀) v e) i (headAt task (64 * v + e))
             (λ h. let r = one-move i v e (f / 64) (f % 64) below o (M .on) h (M .states) in q (rw (r .0, r .1) number)) (L .heads v e vb eb o))
 
@@ -179,8 +185,8 @@ module _ (task₀ : List ℕ) (paint : ℕ) (A : Acyclic task₀ paint) where
             let g : Changes (taskIn task₀) v e i = subst (λ (y : ℕ). T (has (reducedEffects (act (taskIn task₀) y)) v e)) q h in
             let r = one-move i v e (f / 64) (f % 64) below o (M .on) g (M .states) in
             let z : f ≡ 64 * v + e = rw (r .0, r .1) (sym number) in
-            rw (q, next-new task f i (M .small) near room, z) (L .heads v e (omega (arith, r .0, M .small)) (omega (arith, r .1)) o)
-        behind v e j (no q) o l k h = rw (next-old task f i (M .small) near room j q) (L .links v e j o (omega arith) k h)
+            rw (q, next-new task f i near (room f M), z) (L .heads v e (omega (arith, r .0, M .small)) (omega (arith, r .1)) o)
+        behind v e j (no q) o l k h = rw (next-old task f i near (room f M) j (omega (arith, F .actions-max)) q) (L .links v e j o (omega arith) k h)
 
     linking-turn : (task′ : List ℕ) → task′ ≡ linkedMove (moveOf (black (taskIn task₀)) (reducedEffects (act (taskIn task₀) i))) i task → Linking task₀ task′ i
     linking-turn task′ K = go (moveOf (black (taskIn task₀)) (reducedEffects (act (taskIn task₀) i))) K (formed-move (black (taskIn task₀)) (taskIn task₀) F i)
@@ -238,19 +244,22 @@ module _ (entry task₀ : List ℕ) (paint : ℕ) (A : Acyclic entry paint) (n :
         }
 
 -- the order stands outside of the chains, and both outside of the task
-pub ordered-chained : (t : Task) (before after : List ℕ) → Ordered before after → Chained t before → Chained t after
-ordered-chained t before after O C = record {
-  heads = λ v e vb eb o. rw (O .kept (324 + (64 * v + e)) (λ q. omega arith) (inr (omega arith))) (C .heads v e vb eb o);
-  links = λ v e i o b h. rw (O .kept (4420 + i) (λ q. omega arith) (inr (omega arith))) (C .links v e i o b h);
+pub ordered-chained : (t : Task) (before after : List ℕ) → linksEnd ≤ headsAt before → Ordered before after → Chained t before → Chained t after
+ordered-chained t before after l O C = record {
+  heads = λ v e vb eb o. rw (same, O .kept (headsAt before + (64 * v + e)) (λ q. omega arith) (inr (omega arith))) (C .heads v e vb eb o);
+  links = λ v e i o b h. rw (O .kept (324 + i) (λ q. omega arith) (inr (omega arith))) (C .links v e i o b h);
 }
+  where
+    same : headsAt after ≡ headsAt before
+    same = O .kept 3 (λ q. omega arith) (inl (omega arith))
 
 pub ordered-relinked : (before after : List ℕ) → Ordered before after → Relinked before after
 ordered-relinked before after O = record { long = O .long; kept = λ k h. O .kept k (λ q. h (inl q)) (go k h (decLt k 260)) }
   where
-    go : (k : ℕ) → (Link k → ⊥) → Dec (k < 260) → (k < 260) ⊎ (324 ≤ k)
+    go : (k : ℕ) → (Link before k → ⊥) → Dec (k < 260) → (k < 260) ⊎ (324 ≤ k)
     go k h (yes l) = inl l
-    go k h (no l) = inr (far (decLt k 5444))
+    go k h (no l) = inr (far (decLt k 1348))
       where
-        far : Dec (k < 5444) → 324 ≤ k
-        far (yes m) = absurd (h (inr (omega arith, m)))
+        far : Dec (k < 1348) → 324 ≤ k
+        far (yes m) = absurd (h (inr (omega arith, inl m)))
         far (no m) = omega arith

@@ -14,12 +14,12 @@ use Rattle.task.specs.Task.{factsIn, preAt, effAt, taskIn, Loaded}
 use Rattle.state.proofs.Listing.{loaded-listed}
 use Rattle.painting.proofs.Walks.{pre-facts}
 use Rattle.painting.specs.Returns.{markAll, marked, Unmarked, returned, unreturnedFrom, Complete, Kept, Ready}
-use Rattle.painting.proofs.Marks.{marks-others, unmarked-start, unmarked-all, unmarked-more}
+use Rattle.painting.proofs.Marks.{marks-others, unmarked-all, unmarked-more}
 use Rattle.painting.proofs.Returns.{needs-small, complete-of}
 
-pub ready-start : (t : Task) → Ready t 0 (replicate 4096 65535) (replicate 32 65536)
-ready-start t = record {
-  unmarked = unmarked-start;
+pub ready-start : (t : Task) (marks : List ℕ) → Unmarked t 0 marks → Ready t 0 marks (replicate 32 65536)
+ready-start t marks U = record {
+  unmarked = U;
   complete = record {
     long = length-replicate {A = ℕ} 32 65536;
     each = λ s h l. absurd (omega (arith, getD-replicate {A = ℕ} 32 s 65536 0 h));
@@ -27,7 +27,7 @@ ready-start t = record {
 }
 
 pub ready-more : (t : Task) (own k : ℕ) (marks kept : List ℕ) → Ready t own marks kept → own ≤ k → Ready t k marks kept
-ready-more t own k marks kept R l = record { unmarked = unmarked-more own k marks (R .unmarked) l; complete = R .complete }
+ready-more t own k marks kept R l = record { unmarked = unmarked-more t own k marks (R .unmarked) l; complete = R .complete }
 
 -- one more is kept
 pub kept-more : (t : Task) → Formed t → (kept : List ℕ) → Kept t kept → (s v j : ℕ) → s < 32 → Complete t v j → Kept t (set kept s (v * 1024 + j))
@@ -49,15 +49,17 @@ kept-at t kept K s c f h e b q =
     rw (← x, e) C
 
 -- action j is tried: its preconditions are marked, and nothing else
-module _ (task : List ℕ) (L : Loaded task) (j : ℕ) (h : j < actions (taskIn task)) (own : ℕ) (b : own < 65535) (marks : List ℕ) (U : Unmarked own marks) where
+module _ (task : List ℕ) (L : Loaded task) (j : ℕ) (h : j < actions (taskIn task)) (own : ℕ) (b : own < 65535) (marks : List ℕ) (U : Unmarked (taskIn task) own marks) where
   module _ (x y : ℕ) (ex : x ≡ preAt task j) (ey : y ≡ effAt task j) (marks′ : List ℕ) (same : marks′ ≡ markAll own 4096 (factsIn task x y) marks) where
     own-marks : marks′ ≡ markAll own 4096 (act (taskIn task) j .pre) marks
     own-marks = same ∙ rw (pre-facts task j (loaded-listed task L j h) x y ex ey) refl
 
-    pub tried-unmarked : Unmarked (own + 1) marks′
-    tried-unmarked = rw own-marks (unmarked-all own 4096 (act (taskIn task) j .pre) marks (needs-small (taskIn task) (L .formed) j) (unmarked-more own (own + 1) marks U (omega arith)))
+    pub tried-unmarked : Unmarked (taskIn task) (own + 1) marks′
+    tried-unmarked = rw own-marks (unmarked-all (taskIn task) own 4096 (act (taskIn task) j .pre) marks (needs-small (taskIn task) (L .formed) j)
+        (unmarked-more (taskIn task) own (own + 1) marks U (omega arith)))
 
     pub tried-complete : (v e n : ℕ) → returned (taskIn task) (marked own marks′) v e ≡ true → n ≡ count (taskIn task) v
         → unreturnedFrom (taskIn task) (marked own marks′) v e 0 (n - 0) ≡ false → Complete (taskIn task) v j
     tried-complete v e n r q z = complete-of (taskIn task) (L .formed) (marked own marks′) v e j n h (λ u w c d g.
-        marks-others own 4096 (act (taskIn task) j .pre) marks (needs-small (taskIn task) (L .formed) j) b U u w c d (λ k. omega arith) (rw own-marks at g)) r q z
+        marks-others (taskIn task) own 4096 (act (taskIn task) j .pre) marks (needs-small (taskIn task) (L .formed) j) b U u w c d
+        (λ k. omega (arith, c, L .formed .variables-max)) (rw own-marks at g)) r q z

@@ -11,15 +11,15 @@ use borrow.Author.Tests.{eq-eqb, ne-eqb}
 use lib.Dec.{T, eqb, eqb→eq, eqb-refl}
 use lib.ListN.{length, getD, set, replicate, length-set, length-replicate, getD-replicate}
 use lib.Seq.{getD-set-same, getD-set-other}
-use Rattle.planning.specs.Record.{Fact}
-use Rattle.planning.specs.Runs.{State, has}
+use Rattle.planning.specs.Record.{Fact, Task}
+use Rattle.planning.specs.Runs.{State, has, variables, actions}
 use Rattle.planning.proofs.Tests.{or-l, or-r, or-cases}
 use Rattle.planning.proofs.Facts.{has-here, has-there, has-nil, has-cases}
-use Rattle.task.specs.Task.{factOf, factsIn}
+use Rattle.task.specs.Task.{preAt, endAt, factOf, factsIn, taskIn, Loaded}
 use Rattle.state.proofs.Effects.{factsIn-cons, factsIn-none}
 use Rattle.state.specs.Sets.{Facts}
-use Rattle.painting.specs.Returns.{place, markAll, marked, Unmarked}
-use Rattle.painting.proofs.Walks.{number, facts-rest}
+use Rattle.painting.specs.Returns.{place, markAll, marked, Spans, Markable, Unmarked}
+use Rattle.painting.proofs.Walks.{number, fact-inside, facts-rest}
 
 pub place-own : (f g : ℕ) → g / 64 ≡ f / 64 → place f g ≡ f
 unfolding place
@@ -29,69 +29,83 @@ pub place-other : (f g : ℕ) → (g / 64 ≡ f / 64 → ⊥) → place f g ≡ 
 unfolding place
 place-other f g n = rw (ne-eqb (g / 64) (f / 64) n) refl
 
-place-small : (f g : ℕ) → g < 4096 → place f g < 4096
-place-small f g b = go (ℕ-discrete (g / 64) (f / 64))
+-- a fact of one of n variables is marked below 64 × n
+place-inside : (n f g : ℕ) → g / 64 < n → place f g < 64 * n
+place-inside n f g b = go (ℕ-discrete (g / 64) (f / 64))
   where
-    go : Dec (g / 64 ≡ f / 64) → place f g < 4096
+    go : Dec (g / 64 ≡ f / 64) → place f g < 64 * n
     go (yes e) = rw (place-own f g e) (omega arith)
-    go (no n) = rw (place-other f g n) b
+    go (no e) = rw (place-other f g e) (omega arith)
+
+-- an action finds the places for its facts
+module _ (task : List ℕ) (L : Loaded task) (i : ℕ) (h : i < actions (taskIn task)) (f : ℕ) (marks : List ℕ) (S : Spans (taskIn task) marks) (a b : ℕ) where
+  pub markable : a ≡ preAt task i → b ≤ endAt task i → Facts task a b → Markable task a b f marks
+  markable ea eb F = record {
+    facts = F;
+    inside = λ k l m. omega (arith, place-inside (variables (taskIn task)) f (getD task k 0) (fact-inside task L i h k (omega arith) (omega arith)));
+  }
 
 -- the loop: marks so far with those of the facts from place k on are the marks of all
 pub record Marking (fs : List Fact) (task : List ℕ) (b f i : ℕ) (marks₀ marks : List ℕ) (k : ℕ) : Type 0 where
-  pub facts : Facts task k b
+  pub long : length marks ≡ length marks₀
+  pub rest : Markable task k b f marks
   pub so-far : markAll i f fs marks₀ ≡ markAll i f (factsIn task k b) marks
 
 module _ (fs : List Fact) (task : List ℕ) (b f i : ℕ) (marks₀ : List ℕ) where
-  pub marking-start : (k : ℕ) → Facts task k b → factsIn task k b ≡ fs → Marking fs task b f i marks₀ marks₀ k
-  marking-start k F e = record { facts = F; so-far = ap (λ (gs : List Fact). markAll i f gs marks₀) (sym e) }
+  pub marking-start : (k : ℕ) → Markable task k b f marks₀ → factsIn task k b ≡ fs → Marking fs task b f i marks₀ marks₀ k
+  marking-start k F e = record { long = refl; rest = F; so-far = ap (λ (gs : List Fact). markAll i f gs marks₀) (sym e) }
 
   module _ (marks : List ℕ) (k : ℕ) (M : Marking fs task b f i marks₀ marks k) where
-    pub marking-small : k < b → (g p : ℕ) → g ≡ getD task k 0 → p ≡ place f g → p < 4096
-    marking-small h g p e q = rw q (place-small f g (omega (arith, M .facts .small k (omega arith) h)))
+    pub marking-inside : k < b → (g p : ℕ) → g ≡ getD task k 0 → p ≡ place f g → p < length marks
+    marking-inside h g p e q = rw (q, e) (M .rest .inside k (omega arith) h)
 
     pub marking-turn : k < b → (g p : ℕ) → g ≡ getD task k 0 → p ≡ place f g → Marking fs task b f i marks₀ (set marks p i) (k + 1)
     unfolding markAll factOf
     marking-turn h g p e q = record {
-      facts = facts-rest task k b (M .facts) h;
-      so-far = M .so-far ∙ rw (factsIn-cons task k b h (M .facts .within), markAll, number (getD task k 0), ← e, ← q) refl;
+      long = length-set marks p i ∙ M .long;
+      rest = record { facts = facts-rest task k b (M .rest .facts) h; inside = λ j l m. rw (length-set marks p i) (M .rest .inside j (omega arith) m) };
+      so-far = M .so-far ∙ rw (factsIn-cons task k b h (M .rest .facts .within), markAll, number (getD task k 0), ← e, ← q) refl;
     }
 
     pub marking-end : b ≤ k → marks ≡ markAll i f fs marks₀
     unfolding markAll
-    marking-end h = sym (M .so-far ∙ rw (factsIn-none task k b (omega (arith, M .facts .rises))) refl)
+    marking-end h = sym (M .so-far ∙ rw (factsIn-none task k b (omega (arith, M .rest .facts .rises))) refl)
 
--- variables and values below 64
-abbrev pub Small : List Fact → Type 0
-Small [] = Unit {0}
-Small (g ∷ gs) = (g .var < 64) × (g .val < 64) × Small gs
+-- variables below n, values below 64
+abbrev pub Small : ℕ → List Fact → Type 0
+Small n [] = Unit {0}
+Small n (g ∷ gs) = (g .var < n) × (g .val < 64) × Small n gs
 
 -- some fact of the list is marked at p
 placed : ℕ → List Fact → ℕ → Bool
 placed f [] p = false
 placed f (g ∷ gs) p = eqb p (place f (64 * g .var + g .val)) || placed f gs p
 
-module _ (i f : ℕ) where
-  unmarked-set : (marks : List ℕ) (p : ℕ) → p < 4096 → Unmarked (i + 1) marks → Unmarked (i + 1) (set marks p i)
+module _ (t : Task) (i f : ℕ) where
+  unmarked-set : (marks : List ℕ) (p : ℕ) → p < 64 * variables t → Unmarked t (i + 1) marks → Unmarked t (i + 1) (set marks p i)
   unmarked-set marks p b U = record {
-    long = length-set marks p i ∙ U .long;
+    long = rw (length-set marks p i) (U .long);
     before = λ g h. go g h (ℕ-discrete g p);
   }
     where
-      go : (g : ℕ) → g < 4096 → Dec (g ≡ p) → (getD (set marks p i) g 0 < i + 1) ⊎ (getD (set marks p i) g 0 ≡ 65535)
+      go : (g : ℕ) → g < 64 * variables t → Dec (g ≡ p) → (getD (set marks p i) g 0 < i + 1) ⊎ (getD (set marks p i) g 0 ≡ 65535)
       go g h (yes e) = inl (rw (e, getD-set-same marks p i 0 (omega (arith, U .long))) (omega arith))
       go g h (no e) = rw (getD-set-other marks p g i 0 e) (U .before g h)
 
-  pub unmarked-all : (fs : List Fact) (marks : List ℕ) → Small fs → Unmarked (i + 1) marks → Unmarked (i + 1) (markAll i f fs marks)
+  fact-placed : (g : Fact) → g .var < variables t → g .val < 64 → place f (64 * g .var + g .val) < 64 * variables t
+  fact-placed g a b = place-inside (variables t) f (64 * g .var + g .val) (omega arith)
+
+  pub unmarked-all : (fs : List Fact) (marks : List ℕ) → Small (variables t) fs → Unmarked t (i + 1) marks → Unmarked t (i + 1) (markAll i f fs marks)
   unfolding markAll
   unmarked-all [] marks S U = U
   unmarked-all (g ∷ gs) marks S U = unmarked-all gs (set marks (place f (64 * g .var + g .val)) i) (S .2)
-      (unmarked-set marks (place f (64 * g .var + g .val)) (place-small f (64 * g .var + g .val) (omega (arith, S .0, S .1))) U)
+      (unmarked-set marks (place f (64 * g .var + g .val)) (fact-placed g (S .0) (S .1)) U)
 
-  marks-at : (fs : List Fact) (marks : List ℕ) → Small fs → length marks ≡ 4096 → (p : ℕ) → eqb (getD (markAll i f fs marks) p 0) i ≡ (placed f fs p || eqb (getD marks p 0) i)
+  marks-at : (fs : List Fact) (marks : List ℕ) → Small (variables t) fs → Spans t marks → (p : ℕ) → eqb (getD (markAll i f fs marks) p 0) i ≡ (placed f fs p || eqb (getD marks p 0) i)
   unfolding markAll placed
   marks-at [] marks S n p = refl
   marks-at (g ∷ gs) marks S n p =
-      marks-at gs (set marks q i) (S .2) (length-set marks q i ∙ n) p ∙ go (ℕ-discrete p q)
+      marks-at gs (set marks q i) (S .2) (rw (length-set marks q i) n) p ∙ go (ℕ-discrete p q)
     where
       q : ℕ
       q = place f (64 * g .var + g .val)
@@ -102,7 +116,7 @@ module _ (i f : ℕ) where
 
       go : Dec (p ≡ q) → (placed f gs p || eqb (getD (set marks q i) p 0) i) ≡ ((eqb p q || placed f gs p) || eqb (getD marks p 0) i)
       go (yes e) =
-          let b : q < length marks = omega (arith, n, place-small f (64 * g .var + g .val) (omega (arith, S .0, S .1))) in
+          let b : q < length marks = omega (arith, n, fact-placed g (S .0) (S .1)) in
           rw (e, getD-set-same marks q i 0 b, eq-eqb q q refl) (hit (eqb i i) (placed f gs q) (eqb (getD marks q 0) i) (eq-eqb i i refl))
       go (no e) = rw (ne-eqb p q e, getD-set-other marks q p i 0 e) refl
 
@@ -130,32 +144,32 @@ module _ (f : ℕ) where
           rw (e .0, e .1) (or-l (eqb q q) (placed f gs q) (eqb-refl q))
       go (inr e) k = or-r (eqb (place f (64 * u + x)) (place f (64 * g .var + g .val))) (placed f gs (place f (64 * u + x))) (k e)
 
-small-has : (fs : List Fact) → Small fs → (u x : ℕ) → T (has fs u x) → (u < 64) × (x < 64)
-small-has [] S u x h = absurd (has-nil u x h)
-small-has (g ∷ gs) S u x h = elim (has-cases g gs u x h) [ inl e ↦ (omega (arith, S .0, e .0), omega (arith, S .1, e .1)) | inr k ↦ small-has gs (S .2) u x k ]
+small-has : (n : ℕ) (fs : List Fact) → Small n fs → (u x : ℕ) → T (has fs u x) → (u < n) × (x < 64)
+small-has n [] S u x h = absurd (has-nil u x h)
+small-has n (g ∷ gs) S u x h = elim (has-cases g gs u x h) [ inl e ↦ (omega (arith, S .0, e .0), omega (arith, S .1, e .1)) | inr k ↦ small-has n gs (S .2) u x k ]
 
--- the facts that a return may need: m is the set of marked facts, fs are the facts of the action, v = e is its move
-pub record Allows (v e : ℕ) (fs : List Fact) (m : State) : Type 0 where
+-- the facts of n variables that a return may need: m is the set of marked facts, fs are the facts of the action, v = e is its move
+pub record Allows (n v e : ℕ) (fs : List Fact) (m : State) : Type 0 where
   pub own : T (m v e)
   pub only : (x : ℕ) → x < 64 → T (m v x) → x ≡ e
   pub other : (u x : ℕ) → u ≢ v → T (has fs u x) → T (m u x)
-  pub others : (u x : ℕ) → u < 64 → x < 64 → u ≢ v → T (m u x) → T (has fs u x)
+  pub others : (u x : ℕ) → u < n → x < 64 → u ≢ v → T (m u x) → T (has fs u x)
 
-module _ (i f : ℕ) (fs : List Fact) (marks : List ℕ) (S : Small fs) (b : i < 65535) (U : Unmarked i marks) where
+module _ (t : Task) (i f : ℕ) (fs : List Fact) (marks : List ℕ) (S : Small (variables t) fs) (b : i < 65535) (U : Unmarked t i marks) where
   -- nothing was marked i before
-  fresh : (p : ℕ) → p < 4096 → T (eqb (getD marks p 0) i) → ⊥
+  fresh : (p : ℕ) → p < 64 * variables t → T (eqb (getD marks p 0) i) → ⊥
   fresh p c t = let q = eqb→eq (getD marks p 0) i t in elim (U .before p c) [ inl k ↦ omega arith | inr k ↦ omega arith ]
 
-  find : (u x : ℕ) → u < 64 → x < 64 → T (marked i (markAll i f fs marks) u x) → T (placed f fs (64 * u + x))
+  find : (u x : ℕ) → u < variables t → x < 64 → T (marked i (markAll i f fs marks) u x) → T (placed f fs (64 * u + x))
   unfolding marked
-  find u x ub xb t = elim (or-cases (placed f fs (64 * u + x)) (eqb (getD marks (64 * u + x) 0) i) (subst T (marks-at i f fs marks S (U .long) (64 * u + x)) t)) [
+  find u x ub xb m = elim (or-cases (placed f fs (64 * u + x)) (eqb (getD marks (64 * u + x) 0) i) (subst T (marks-at t i f fs marks S (U .long) (64 * u + x)) m)) [
     | inl k ↦ k
     | inr k ↦ absurd (fresh (64 * u + x) (omega arith) k)
   ]
 
   -- on variables other than that of f the facts themselves are marked
-  pub marks-others : (u x : ℕ) → u < 64 → x < 64 → u ≢ f / 64 → T (marked i (markAll i f fs marks) u x) → T (has fs u x)
-  marks-others u x ub c n t = found (placed-elim f fs (64 * u + x) (find u x ub c t))
+  pub marks-others : (u x : ℕ) → u < variables t → x < 64 → u ≢ f / 64 → T (marked i (markAll i f fs marks) u x) → T (has fs u x)
+  marks-others u x ub c n m = found (placed-elim f fs (64 * u + x) (find u x ub c m))
     where
       found : (w : ℕ) × (y : ℕ) × T (has fs w y) × (64 * u + x ≡ place f (64 * w + y)) → T (has fs u x)
       found r = pick (ℕ-discrete ((64 * r .0 + r .1) / 64) (f / 64))
@@ -163,17 +177,17 @@ module _ (i f : ℕ) (fs : List Fact) (marks : List ℕ) (S : Small fs) (b : i <
           pick : Dec ((64 * r .0 + r .1) / 64 ≡ f / 64) → T (has fs u x)
           pick (yes e) = absurd (n (omega (arith, r .3, place-own f (64 * r .0 + r .1) e)))
           pick (no e) =
-              let b = small-has fs S (r .0) (r .1) (r .2) in
+              let b = small-has (variables t) fs S (r .0) (r .1) (r .2) in
               let p : r .0 ≡ u = omega (arith, b .1, r .3, place-other f (64 * r .0 + r .1) e) in
               let q : r .1 ≡ x = omega (arith, b .1, r .3, place-other f (64 * r .0 + r .1) e) in
               subst (λ (z : ℕ). T (has fs u z)) q (subst (λ (z : ℕ). T (has fs z (r .1))) p (r .2))
 
-  pub marks-allow : f < 4096 → T (has fs (f / 64) (f % 64)) → Allows (f / 64) (f % 64) fs (marked i (markAll i f fs marks))
+  pub marks-allow : T (has fs (f / 64) (f % 64)) → Allows (variables t) (f / 64) (f % 64) fs (marked i (markAll i f fs marks))
   unfolding marked
-  marks-allow l h = record {
+  marks-allow h = record {
     own = mark-of (f / 64) (f % 64) (subst (λ (p : ℕ). T (placed f fs p)) own-place (placed-intro f fs (f / 64) (f % 64) h));
-    only = λ x c t. only-own x c (find (f / 64) x (omega arith) c t);
-    other = λ u x n g. mark-of u x (subst (λ (p : ℕ). T (placed f fs p)) (place-other f (64 * u + x) (λ e. n (away u x (small-has fs S u x g .1) e))) (placed-intro f fs u x g));
+    only = λ x c m. only-own x c (find (f / 64) x (small-has (variables t) fs S (f / 64) (f % 64) h .0) c m);
+    other = λ u x n g. mark-of u x (subst (λ (p : ℕ). T (placed f fs p)) (place-other f (64 * u + x) (λ e. n (away u x (small-has (variables t) fs S u x g .1) e))) (placed-intro f fs u x g));
     others = marks-others;
   }
     where
@@ -184,10 +198,10 @@ module _ (i f : ℕ) (fs : List Fact) (marks : List ℕ) (S : Small fs) (b : i <
       away u x c e = omega arith
 
       mark-of : (u x : ℕ) → T (placed f fs (64 * u + x)) → T (eqb (getD (markAll i f fs marks) (64 * u + x) 0) i)
-      mark-of u x t = subst T (sym (marks-at i f fs marks S (U .long) (64 * u + x))) (or-l (placed f fs (64 * u + x)) (eqb (getD marks (64 * u + x) 0) i) t)
+      mark-of u x m = subst T (sym (marks-at t i f fs marks S (U .long) (64 * u + x))) (or-l (placed f fs (64 * u + x)) (eqb (getD marks (64 * u + x) 0) i) m)
 
       only-own : (x : ℕ) → x < 64 → T (placed f fs (64 * (f / 64) + x)) → x ≡ f % 64
-      only-own x c t = go (placed-elim f fs (64 * (f / 64) + x) t)
+      only-own x c m = go (placed-elim f fs (64 * (f / 64) + x) m)
         where
           go : (u : ℕ) × (y : ℕ) × T (has fs u y) × (64 * (f / 64) + x ≡ place f (64 * u + y)) → x ≡ f % 64
           go r = pick (ℕ-discrete ((64 * r .0 + r .1) / 64) (f / 64))
@@ -197,11 +211,11 @@ module _ (i f : ℕ) (fs : List Fact) (marks : List ℕ) (S : Small fs) (b : i <
               pick (no e) = absurd (e (omega (arith, r .3, place-other f (64 * r .0 + r .1) e)))
 
 -- at the start nothing is marked
-pub unmarked-start : Unmarked 0 (replicate 4096 65535)
-unmarked-start = record {
-  long = length-replicate {A = ℕ} 4096 65535;
-  before = λ g h. inr (getD-replicate {A = ℕ} 4096 g 65535 0 h);
+pub unmarked-start : (t : Task) (n : ℕ) → 64 * variables t ≤ n → Unmarked t 0 (replicate n 65535)
+unmarked-start t n b = record {
+  long = rw (length-replicate {A = ℕ} n 65535) b;
+  before = λ g h. inr (getD-replicate {A = ℕ} n g 65535 0 (omega arith));
 }
 
-pub unmarked-more : (i k : ℕ) (marks : List ℕ) → Unmarked i marks → i ≤ k → Unmarked k marks
-unmarked-more i k marks U l = record { long = U .long; before = λ g h. elim (U .before g h) [ inl q ↦ inl (omega arith) | inr q ↦ inr q ] }
+pub unmarked-more : (t : Task) (i k : ℕ) (marks : List ℕ) → Unmarked t i marks → i ≤ k → Unmarked t k marks
+unmarked-more t i k marks U l = record { long = U .long; before = λ g h. elim (U .before g h) [ inl q ↦ inl (omega arith) | inr q ↦ inr q ] }

@@ -56,13 +56,13 @@ outside-not v (f ∷ fs) u x h = go (eqb (f .var) v) refl h (outside-not v fs u 
     ]
 
 -- facts of a formed task are small
-pub sorted-small : (n : ℕ) (count : ℕ → ℕ) → n ≤ 64 → ((v : ℕ) → count v ≤ 64) → (low : ℕ) (fs : List Fact) → Sorted n count low fs → Small fs
-sorted-small n count b c low [] S = tt
-sorted-small n count b c low (f ∷ fs) S = (omega (arith, S .1), omega (arith, S .2, c (f .var)), sorted-small n count b c (f .var + 1) fs (S .3))
+pub sorted-small : (n : ℕ) (count : ℕ → ℕ) → ((v : ℕ) → count v ≤ 64) → (low : ℕ) (fs : List Fact) → Sorted n count low fs → Small n fs
+sorted-small n count c low [] S = tt
+sorted-small n count c low (f ∷ fs) S = (S .1, omega (arith, S .2, c (f .var)), sorted-small n count c (f .var + 1) fs (S .3))
 
-pub small-++ : (fs gs : List Fact) → Small fs → Small gs → Small (fs ++ gs)
-small-++ [] gs S R = R
-small-++ (f ∷ fs) gs S R = (S .0, S .1, small-++ fs gs (S .2) R)
+pub small-++ : (n : ℕ) (fs gs : List Fact) → Small n fs → Small n gs → Small n (fs ++ gs)
+small-++ n [] gs S R = R
+small-++ n (f ∷ fs) gs S R = (S .0, S .1, small-++ n fs gs (S .2) R)
 
 -- for some value from a on, of n, there is no return
 module _ (t : Task) (m : State) (v e : ℕ) where
@@ -80,18 +80,18 @@ module _ (t : Task) (m : State) (v e : ℕ) where
       (k, r .1, λ z. T-not (eqb (a + k) e) (search and-l) (rw z (eqb-refl e)), search and-r)
 
 module _ (t : Task) (F : Formed t) where
-  pre-small : (i u x : ℕ) → T (has (act t i .pre) u x) → (u < 64) × (x < 64)
+  pre-small : (i u x : ℕ) → T (has (act t i .pre) u x) → (u < variables t) × (x < 64)
   pre-small i u x h =
       let I = sorted-has (variables t) (count t) 0 (act t i .pre) (F .pre-sorted i) u x h in
-      (omega (arith, I .var-below, F .variables-max), omega (arith, I .val-below, F .count-max u))
+      (I .var-below, omega (arith, I .val-below, F .count-max u))
 
-  pub needs-small : (i : ℕ) → Small (act t i .pre)
-  needs-small i = sorted-small (variables t) (count t) (F .variables-max) (F .count-max) 0 (act t i .pre) (F .pre-sorted i)
+  pub needs-small : (i : ℕ) → Small (variables t) (act t i .pre)
+  needs-small i = sorted-small (variables t) (count t) (F .count-max) 0 (act t i .pre) (F .pre-sorted i)
 
-  pub facts-small : (i : ℕ) → Small (act t i .pre ++ act t i .eff)
-  facts-small i = small-++ (act t i .pre) (act t i .eff) (needs-small i) (sorted-small (variables t) (count t) (F .variables-max) (F .count-max) 0 (act t i .eff) (F .eff-sorted i))
+  pub facts-small : (i : ℕ) → Small (variables t) (act t i .pre ++ act t i .eff)
+  facts-small i = small-++ (variables t) (act t i .pre) (act t i .eff) (needs-small i) (sorted-small (variables t) (count t) (F .count-max) 0 (act t i .eff) (F .eff-sorted i))
 
-  module _ (i v e : ℕ) (m : State) (moves : T (has (reducedEffects (act t i)) v e)) (A : Allows v e (act t i .pre ++ act t i .eff) m) where
+  module _ (i v e : ℕ) (m : State) (moves : T (has (reducedEffects (act t i)) v e)) (A : Allows (variables t) v e (act t i .pre ++ act t i .eff) m) where
     aim : target (act t) v i ≡ e
     unfolding target orZero
     aim = rw (look-is (reducedEffects (act t i)) v e (reduced-func (act t i) (eff-func t F i)) moves (look (reducedEffects (act t i)) v) refl) refl
@@ -230,7 +230,7 @@ module _ (t : Task) (F : Formed t) where
               look-here (look (act t i .pre) v) refl (y .0) (subst (λ (z : ℕ). y .0 < count t z) q (y .1)) (subst (λ (z : ℕ). T (lacksReturn t i z (y .0))) q (y .2))
 
   -- the more is allowed, the more is returned
-  returned-more : (m m′ : State) → ((u x : ℕ) → u < 64 → x < 64 → T (m u x) → T (m′ u x)) → (v d : ℕ) → T (returned t m v d) → T (returned t m′ v d)
+  returned-more : (m m′ : State) → ((u x : ℕ) → u < variables t → x < 64 → T (m u x) → T (m′ u x)) → (v d : ℕ) → T (returned t m v d) → T (returned t m′ v d)
   unfolding returned
   returned-more m m′ more v d h =
       let r = some-elim (actions t) (returnsBy t m v d) h in
@@ -241,7 +241,7 @@ module _ (t : Task) (F : Formed t) where
       some-intro (actions t) (returnsBy t m′ v d) j (r .1) (and-i (has (reducedEffects (act t j)) v d) (holds m′ (act t j .pre)) c q)
 
   -- an action whose marks allow a return to every value is complete
-  pub complete-of : (m : State) (v e j n : ℕ) → j < actions t → ((u x : ℕ) → u < 64 → x < 64 → T (m u x) → T (has (act t j .pre) u x))
+  pub complete-of : (m : State) (v e j n : ℕ) → j < actions t → ((u x : ℕ) → u < variables t → x < 64 → T (m u x) → T (has (act t j .pre) u x))
       → returned t m v e ≡ true → n ≡ count t v → unreturnedFrom t m v e 0 (n - 0) ≡ false → Complete t v j
   complete-of m v e j n b less own q rest = record { below = b; each = λ d h. returned-more m (has (act t j .pre)) less v d (go d h (ℕ-discrete d e) (T-cases (returned t m v d))) }
     where

@@ -5,19 +5,22 @@ use mathlib.Core.Bool.{Bool, true, false, not, _&&_}
 use mathlib.Core.List.{List, [], _∷_, _++_}
 use Prim.Native.Nat.{ℕ, zero, suc, _+_, _-_, _*_, _/_, _%_, _<_, _≤_}
 use native.Mathlib.Omega.{arith}
+use native.Mathlib.Decide.{decLt}
 use borrow.Author.Tests.{eq-eqb, ne-eqb}
 use lib.Dec.{eqb}
-use lib.ListN.{getD}
+use lib.ListN.{length, getD}
 use Rattle.planning.specs.Record.{Fact, Action}
-use Rattle.planning.specs.Runs.{State, has, holds, act}
+use Rattle.planning.specs.Runs.{State, has, holds, variables, actions, act, count}
 use Rattle.planning.specs.Painting.{without}
-use Rattle.task.specs.Task.{factOf, factsIn, preAt, effAt, endAt, actionIn, taskIn}
+use Rattle.planning.proofs.Formed.{Sorted}
+use Rattle.task.specs.Task.{factOf, factsIn, preAt, effAt, endAt, actionIn, taskIn, Loaded}
 use Rattle.state.specs.Sets.{inSet, modeOf, Facts}
 use Rattle.state.proofs.Listed.{Listed}
+use Rattle.state.proofs.Listing.{between-inside, loaded-listed}
 use Rattle.state.proofs.Effects.{factsIn-cons, factsIn-none}
 use Rattle.graph.proofs.Rows.{factsIn-split}
 use Rattle.painting.specs.Chains.{moveOf}
-use Rattle.painting.specs.Returns.{marked}
+use Rattle.painting.specs.Returns.{marked, Spans}
 
 -- the facts of action i, by where they stand
 module _ (task : List ℕ) (i : ℕ) (L : Listed task i) (a b : ℕ) where
@@ -33,6 +36,25 @@ pub all-facts : (task : List ℕ) (i : ℕ) → Listed task i → (a b : ℕ) �
 all-facts task i L a b ea eb =
     factsIn-split task (effAt task i - a) a (effAt task i) b (omega (arith, L .pre-below)) (omega (arith, L .eff-below)) (omega (arith, L .end-below))
     ∙ rw (pre-facts task i L a (effAt task i) ea refl, eff-facts task i L (effAt task i) b refl eb) refl
+
+-- each is a fact of one of the task's variables
+pub fact-inside : (task : List ℕ) → Loaded task → (i : ℕ) → i < actions (taskIn task) → (k : ℕ) → preAt task i ≤ k → k < endAt task i → getD task k 0 / 64 < variables (taskIn task)
+fact-inside task L i h k l m = go (decLt k (effAt task i))
+  where
+    A : Listed task i
+    A = loaded-listed task L i h
+
+    between : (a b : ℕ) → b ≤ length task → a ≤ k → k < b → Sorted (variables (taskIn task)) (count (taskIn task)) 0 (factsIn task a b) → getD task k 0 / 64 < variables (taskIn task)
+    between a b e = between-inside (variables (taskIn task)) (count (taskIn task)) task b e a k
+
+    go : Dec (k < effAt task i) → getD task k 0 / 64 < variables (taskIn task)
+    go (yes d) = between (preAt task i) (effAt task i) (omega (arith, A .eff-below, A .end-below)) l d (rw (pre-facts task i A (preAt task i) (effAt task i) refl refl) (L .formed .pre-sorted i))
+    go (no d) = between (effAt task i) (endAt task i) (A .end-below) (omega arith) m (rw (eff-facts task i A (effAt task i) (endAt task i) refl refl) (L .formed .eff-sorted i))
+
+-- for those that it needs there is a place
+pub need-inside : (task marks : List ℕ) → Loaded task → (i : ℕ) → i < actions (taskIn task) → Spans (taskIn task) marks → (a b : ℕ) → a ≡ preAt task i → b ≡ effAt task i
+    → (k : ℕ) → a ≤ k → k < b → getD task k 0 < length marks
+need-inside task marks L i h S a b ea eb k l m = omega (arith, S, fact-inside task L i h k (omega arith) (omega (arith, L .rows i h .eff-below)))
 
 -- what is left of a part that states facts
 pub facts-rest : (task : List ℕ) (k b : ℕ) → Facts task k b → k < b → Facts task (k + 1) b

@@ -14,6 +14,7 @@ use Rattle.planning.specs.Runs.{State, has, look, holds, variables, actions, ac
 use Rattle.planning.specs.Painting.{reducedEffects, lacksReturn}
 use Rattle.task.specs.Task.{taskIn, Loaded, preAt, effAt}
 use Rattle.task.specs.Links.{Changes, Chained}
+use Rattle.state.specs.Sets.{Facts}
 
 abbrev pub pickPlace : Bool → ℕ → ℕ → ℕ
 pickPlace true g f = f
@@ -32,10 +33,19 @@ markAll i f (g ∷ gs) marks = markAll i f gs (set marks (place f (64 * g .var +
 unfoldable pub marked : ℕ → List ℕ → State
 marked i marks u x = eqb (getD marks (64 * u + x) 0) i
 
+-- there is a place for each fact of the task
+abbrev pub Spans : Task → List ℕ → Type 0
+Spans t marks = 64 * variables t ≤ length marks
+
+-- there is one for what the places from a up to b of the task state
+pub record Markable (task : List ℕ) (a b f : ℕ) (marks : List ℕ) : Type 0 where
+  pub facts : Facts task a b
+  pub inside : (k : ℕ) → a ≤ k → k < b → place f (getD task k 0) < length marks
+
 -- no fact has a mark from i on; 65,535 is none
-pub record Unmarked (i : ℕ) (marks : List ℕ) : Type 0 where
-  pub long : length marks ≡ 4096
-  pub before : (g : ℕ) → g < 4096 → (getD marks g 0 < i) ⊎ (getD marks g 0 ≡ 65535)
+pub record Unmarked (t : Task) (i : ℕ) (marks : List ℕ) : Type 0 where
+  pub long : Spans t marks
+  pub before : (g : ℕ) → g < 64 * variables t → (getD marks g 0 < i) ⊎ (getD marks g 0 ≡ 65535)
 
 -- r is where the first precondition of action j stands that is not in m, or where they end
 abbrev pub FirstUnmarked : List ℕ → ℕ → State → ℕ → Type 0
@@ -96,5 +106,5 @@ pub record Kept (t : Task) (kept : List ℕ) : Type 0 where
 
 -- what one action leaves for the next: no fact is marked from `own` on, and what is kept is complete
 pub record Ready (t : Task) (own : ℕ) (marks kept : List ℕ) : Type 0 where
-  pub unmarked : Unmarked own marks
+  pub unmarked : Unmarked t own marks
   pub complete : Kept t kept

@@ -16,10 +16,10 @@ ghost use Rattle.planning.specs.Painting.{reducedEffects, blackArc, unreturned}
 ghost use Rattle.answers.specs.Answers.{checkOf};
 ghost use Rattle.task.specs.Task.{factsIn, taskIn, Loaded};
 ghost use Rattle.task.specs.Links.{Next, Chained};
-ghost use Rattle.state.specs.Sets.{modeOf, setsOf, Facts};
+ghost use Rattle.state.specs.Sets.{modeOf, setsOf};
 ghost use Rattle.graph.specs.Graph.{foundOf};
 ghost use Rattle.painting.specs.Chains.{moveOf, linkedMove, Acyclic, Linked};
-ghost use Rattle.painting.specs.Returns.{FirstUnmarked, place, markAll, marked, Unmarked, Complete, Kept, Ready, OnChain, InChain, Serves};
+ghost use Rattle.painting.specs.Returns.{FirstUnmarked, place, markAll, marked, Spans, Markable, Unmarked, Complete, Kept, Ready, OnChain, InChain, Serves};
 ghost use Rattle.painting.specs.Returns.{returnsBy, returned, unreturnedFrom, lacksBy, lacksAny, lacks};
 ghost use Rattle.painting.specs.Answers.{Readied};
 
@@ -83,8 +83,8 @@ fn place_of(f: usize, g: usize) -> usize
 }
 
 // The marks `own` of the facts from place `from` up to `to`, for an action with the move f.
-fn mark(task: &[u16], from: usize, to: usize, f: usize, own: u16, marks: &mut [u16; 4096])
-    requires { ⌜ Facts (now task) from to ⌝ }
+fn mark(task: &[u16], from: usize, to: usize, f: usize, own: u16, marks: &mut [u16])
+    requires { ⌜ Markable (now task) from to f (now marks) ⌝ }
     ensures { λ _. ⌜ now (marks .exit) ≡ markAll own f (factsIn (now (task .entry)) from to) (now (marks .entry)) ⌝ }
 {
     let mut k = from;
@@ -95,8 +95,8 @@ fn mark(task: &[u16], from: usize, to: usize, f: usize, own: u16, marks: &mut [u
 }
 
 // Where the first precondition of action j stands that is not marked i; where they end if each is.
-fn first_unmarked(task: &[u16], j: usize, marks: &[u16; 4096], i: u16) -> usize
-    requires { ⌜ Loaded (now task) × (j < actions (taskIn (now task))) ⌝ }
+fn first_unmarked(task: &[u16], j: usize, marks: &[u16], i: u16) -> usize
+    requires { ⌜ Loaded (now task) × (j < actions (taskIn (now task))) × Spans (taskIn (now task)) (now marks) ⌝ }
     ensures { λ r. ⌜ FirstUnmarked (now (task .entry)) j (marked i (now (marks .entry))) r ⌝ }
 {
     let end = task::eff_start(task, j);
@@ -112,8 +112,8 @@ fn first_unmarked(task: &[u16], j: usize, marks: &[u16; 4096], i: u16) -> usize
 
 // Each precondition of action j is marked i. The one that was not the last time, at the place among them that `last` has behind its
 // actions, is looked at first.
-fn all_marked(task: &[u16], j: usize, marks: &[u16; 4096], i: u16, last: &mut [u16; LAST]) -> bool
-    requires { ⌜ Loaded (now task) × (j < actions (taskIn (now task))) ⌝ }
+fn all_marked(task: &[u16], j: usize, marks: &[u16], i: u16, last: &mut [u16; LAST]) -> bool
+    requires { ⌜ Loaded (now task) × (j < actions (taskIn (now task))) × Spans (taskIn (now task)) (now marks) ⌝ }
     ensures { λ r. ⌜ r ≡ holds (marked i (now (marks .entry))) (act (taskIn (now (task .entry))) j .pre) ⌝ }
 {
     let start = task::pre_start(task, j);
@@ -136,13 +136,13 @@ fn all_marked(task: &[u16], j: usize, marks: &[u16; 4096], i: u16, last: &mut [u
 // along the chain of f, in which j stands.
 fn first_return(
     task: &[u16],
-    marks: &[u16; 4096],
+    marks: &[u16],
     i: u16,
     f: usize,
     j: usize,
     last: &mut [u16; LAST],
 ) -> usize
-    requires { ⌜ OnChain (now task) f × InChain (taskIn (now task)) (f / 64) (f % 64) j ⌝ }
+    requires { ⌜ OnChain (now task) f × InChain (taskIn (now task)) (f / 64) (f % 64) j × Spans (taskIn (now task)) (now marks) ⌝ }
     ensures { λ r. ⌜ Next (actions (taskIn (now (task .entry)))) (λ k. T (returnsBy (taskIn (now (task .entry))) (marked i (now (marks .entry))) (f / 64) (f % 64) k)) j r ⌝ }
 {
     let mut k = j;
@@ -158,13 +158,13 @@ fn first_return(
 // The same from h on, which may be any number; 65,535 also if f is not the move of h.
 fn later_return(
     task: &[u16],
-    marks: &[u16; 4096],
+    marks: &[u16],
     i: u16,
     f: usize,
     h: usize,
     last: &mut [u16; LAST],
 ) -> usize
-    requires { ⌜ OnChain (now task) f ⌝ }
+    requires { ⌜ OnChain (now task) f × Spans (taskIn (now task)) (now marks) ⌝ }
     ensures { λ r. ⌜ Serves (taskIn (now (task .entry))) (marked i (now (marks .entry))) (f / 64) (f % 64) r ⌝ }
 {
     if task::actions(task) <= h {
@@ -181,8 +181,8 @@ fn later_return(
 
 // Some action with the move f needs facts that are marked i alone. The walk starts at the one that was found last, for f or for
 // a fact that shares its place, and then at the first.
-fn is_returned(task: &[u16], marks: &[u16; 4096], i: u16, f: usize, last: &mut [u16; LAST]) -> bool
-    requires { ⌜ OnChain (now task) f ⌝ }
+fn is_returned(task: &[u16], marks: &[u16], i: u16, f: usize, last: &mut [u16; LAST]) -> bool
+    requires { ⌜ OnChain (now task) f × Spans (taskIn (now task)) (now marks) ⌝ }
     ensures { λ r. ⌜ r ≡ returned (taskIn (now (task .entry))) (marked i (now (marks .entry))) (f / 64) (f % 64) ⌝ }
 {
     let h = lists::wide(last[f % 1024]);
@@ -197,13 +197,13 @@ fn is_returned(task: &[u16], marks: &[u16; 4096], i: u16, f: usize, last: &mut [
 // The arc from d of an action with the move f, if it is one, has its return.
 fn arc_returned(
     task: &[u16],
-    marks: &[u16; 4096],
+    marks: &[u16],
     i: u16,
     f: usize,
     d: usize,
     last: &mut [u16; LAST],
 ) -> bool
-    requires { ⌜ OnChain (now task) f × (d < 64) ⌝ }
+    requires { ⌜ OnChain (now task) f × (d < 64) × Spans (taskIn (now task)) (now marks) ⌝ }
     ensures { λ r. ⌜ r ≡ (eqb d (f % 64) || returned (taskIn (now (task .entry))) (marked i (now (marks .entry))) (f / 64) d) ⌝ }
 {
     if d == f % 64 {
@@ -215,14 +215,14 @@ fn arc_returned(
 // For some d from `from` up to `to` it has none.
 fn lacks_between(
     task: &[u16],
-    marks: &[u16; 4096],
+    marks: &[u16],
     i: u16,
     f: usize,
     from: usize,
     to: usize,
     last: &mut [u16; LAST],
 ) -> bool
-    requires { ⌜ OnChain (now task) f × (from ≤ to) × (to ≤ 64) ⌝ }
+    requires { ⌜ OnChain (now task) f × (from ≤ to) × (to ≤ 64) × Spans (taskIn (now task)) (now marks) ⌝ }
     ensures { λ r. ⌜ r ≡ unreturnedFrom (taskIn (now (task .entry))) (marked i (now (marks .entry))) (f / 64) (f % 64) from (to - from) ⌝ }
 {
     let mut d = from;
@@ -239,14 +239,14 @@ fn lacks_between(
 // each fact of j is marked where it stands.
 fn is_complete(
     task: &[u16],
-    marks: &mut [u16; 4096],
+    marks: &mut [u16],
     own: u16,
     f: usize,
     j: usize,
     last: &mut [u16; LAST],
 ) -> bool
-    requires { ⌜ OnChain (now task) f × (j < actions (taskIn (now task))) × Unmarked own (now marks) × (own < 65535) ⌝ }
-    ensures { λ r. ⌜ (r ≡ true → Complete (taskIn (now (task .entry))) (f / 64) j) × Unmarked (own + 1) (now (marks .exit)) ⌝ }
+    requires { ⌜ OnChain (now task) f × (j < actions (taskIn (now task))) × Unmarked (taskIn (now task)) own (now marks) × (own < 65535) ⌝ }
+    ensures { λ r. ⌜ (r ≡ true → Complete (taskIn (now (task .entry))) (f / 64) j) × Unmarked (taskIn (now (task .entry))) (own + 1) (now (marks .exit)) ⌝ }
 {
     mark(
         task,
@@ -266,7 +266,7 @@ fn is_complete(
 // action may be tried.
 fn keep(
     task: &[u16],
-    marks: &mut [u16; 4096],
+    marks: &mut [u16],
     own: u16,
     f: usize,
     kept: &mut [usize; KEPT],
@@ -293,13 +293,13 @@ fn keep(
 // Each precondition of some action that was kept for the variable of f is marked `own`.
 fn is_covered(
     task: &[u16],
-    marks: &[u16; 4096],
+    marks: &[u16],
     own: u16,
     f: usize,
     kept: &[usize; KEPT],
     last: &mut [u16; LAST],
 ) -> bool
-    requires { ⌜ OnChain (now task) f × Kept (taskIn (now task)) (now kept) ⌝ }
+    requires { ⌜ OnChain (now task) f × Kept (taskIn (now task)) (now kept) × Spans (taskIn (now task)) (now marks) ⌝ }
     ensures { λ r. ⌜ (r ≡ true → lacksAny (taskIn (now (task .entry))) (marked own (now (marks .entry))) f ≡ false) ⌝ }
 {
     let mut s: usize = 0;
@@ -319,7 +319,7 @@ fn is_covered(
 // for all of them, and where none does one is looked for.
 fn lacks_anywhere(
     task: &[u16],
-    marks: &mut [u16; 4096],
+    marks: &mut [u16],
     own: u16,
     f: usize,
     kept: &mut [usize; KEPT],
@@ -346,7 +346,7 @@ fn lacks_anywhere(
 // Some arc of action i, whose move is f, lacks its return: the arc from the value that it needs, or from every value.
 fn lacks_marked(
     task: &[u16],
-    marks: &mut [u16; 4096],
+    marks: &mut [u16],
     i: usize,
     f: usize,
     kept: &mut [usize; KEPT],
@@ -369,7 +369,7 @@ fn is_lacking(
     task: &[u16],
     paint: u64,
     i: usize,
-    marks: &mut [u16; 4096],
+    marks: &mut [u16],
     kept: &mut [usize; KEPT],
     last: &mut [u16; LAST],
 ) -> bool
@@ -392,24 +392,36 @@ fn is_lacking(
     lacks_marked(task, marks, i, f, kept, last)
 }
 
-// Check 8: the lowest action with an arc that lacks its return.
-fn lowest_lacking(task: &[u16], paint: u64) -> Found
-    requires { ⌜ Acyclic (now task) paint × Chained (taskIn (now task)) (now task) ⌝ }
+// The lowest action with an arc that lacks its return; no fact is marked yet.
+fn lowest_by(task: &[u16], paint: u64, marks: &mut [u16]) -> Found
+    requires { ⌜ Acyclic (now task) paint × Chained (taskIn (now task)) (now task) × Unmarked (taskIn (now task)) 0 (now marks) ⌝ }
     ensures { λ r. ⌜ foundOf r ≡ unreturned (taskIn (now (task .entry))) ⌝ }
 {
     let n = task::actions(task);
-    let mut marks = [65535u16; 4096];
     let mut kept = [65536usize; KEPT];
     let mut last = [65535u16; LAST];
     last[TRIES] = 32;
     let mut i: usize = 0;
     while i < n {
-        if is_lacking(task, paint, i, &mut marks, &mut kept, &mut last) {
+        if is_lacking(task, paint, i, marks, &mut kept, &mut last) {
             return Found::At(i);
         }
         i += 1;
     }
     Found::Nothing
+}
+
+// Check 8. A task of few variables needs few marks, so that little has to be cleared.
+fn lowest_lacking(task: &[u16], paint: u64) -> Found
+    requires { ⌜ Acyclic (now task) paint × Chained (taskIn (now task)) (now task) ⌝ }
+    ensures { λ r. ⌜ foundOf r ≡ unreturned (taskIn (now (task .entry))) ⌝ }
+{
+    if task::variables(task) <= 16 {
+        let mut few = [65535u16; 1024];
+        return lowest_by(task, paint, &mut few);
+    }
+    let mut many = [65535u16; 4096];
+    lowest_by(task, paint, &mut many)
 }
 
 // What was found is refused with its place.

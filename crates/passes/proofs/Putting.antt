@@ -1,21 +1,25 @@
 -- Lists written into a list, one behind the other; the value that is asked; the memo with no row.
 use mathlib.Core.Path.{_≡_, refl, sym, ap, _∙_, subst}
+use mathlib.Core.Bool.{Bool, true, false, _||_}
 use mathlib.Core.List.{List, [], _∷_, _++_, append-assoc, append-nil}
 use mathlib.Core.Option.{Option, none, some}
 use Prim.Native.Nat.{ℕ, _+_, _<_, _≤_}
 use native.Mathlib.Numerals.{add-one}
 use native.Mathlib.Omega.{arith}
-use native.Mathlib.Decide.{ℕ-discrete}
-use borrow.Author.Tests.{lt-ltb, le-ltb}
+use native.Mathlib.Decide.{ℕ-discrete, decLt}
+use borrow.Author.Tests.{lt-ltb, le-ltb, le-leb, lt-leb, eqb-true}
+use lib.Dec.{T, eqb, leb}
 use lib.ListN.{length, getD, set, take, length-set, length-append}
 use lib.Seq.{take-suc-set, getD-set-same, getD-set-other}
 use Rattle.planning.specs.Record.{Fact, Task}
 use Rattle.planning.specs.Runs.{State, look, count, act}
 use Rattle.planning.specs.Repair.{toward, after, askedFor}
+use Rattle.planning.proofs.Tests.{true→T, or-l}
 use Rattle.planning.proofs.Facts.{look-some}
 use Rattle.planning.proofs.Formed.{Formed, sorted-has}
 use Rattle.state.specs.Sets.{Asked}
-use Rattle.paths.specs.Paths.{Memo, Put}
+use Rattle.paths.specs.Paths.{pathsOf, memoFor, Memo, Put}
+use Rattle.paths.proofs.Walking.{put-none}
 use Rattle.paths.specs.declared.Written.{Written}
 use Rattle.paths.specs.declared.Written.the-variants.{Upto, Long}
 use Rattle.passes.specs.Passes.{askedBy, Fitting, Blank, writtenIn, insertedBy, Searched, Behind}
@@ -73,6 +77,24 @@ pub lead-some : (path : ℕ → ℕ → List ℕ) (c d : ℕ) (l l′ : List ℕ
 unfolding toward
 lead-some path c d l l′ at r h p = subst (λ (o : Option ℕ). Put l l′ at (toward path c o) r) (sym (asked-some d h)) p
 
+-- nothing is to be moved, or something is
+module _ (c d : ℕ) (r : Bool) (e : r ≡ (leb 64 d || eqb c d)) where
+  pub not-there : r ≡ false → d < 64
+  not-there q = go (decLt d 64)
+    where
+      go : Dec (d < 64) → d < 64
+      go (yes h) = h
+      go (no h) = absurd (subst T (sym e ∙ q) (or-l (leb 64 d) (eqb c d) (true→T (leb 64 d) (le-leb 64 d (omega arith)))))
+
+  pub lead-there : (t : Task) (K : State) (v : ℕ) (l : List ℕ) (at : ℕ) → r ≡ true → at ≤ length l → Put l l at (toward (pathsOf t K v) c (askedBy d)) (Upto at)
+  lead-there t K v l at q b = go (decLt d 64)
+    where
+      go : Dec (d < 64) → Put l l at (toward (pathsOf t K v) c (askedBy d)) (Upto at)
+      go (yes h) =
+          let same : c ≡ d = eqb-true c d (sym (rw (lt-leb 64 d h) at e) ∙ q) in
+          lead-some (pathsOf t K v) c d l l at (Upto at) h (put-none t K v c d at l same b)
+      go (no h) = lead-none (pathsOf t K v) c d l at (omega arith) b
+
 -- the answer, with what it was taken apart to
 pub put-as : (d₀ d : List ℕ) (a : ℕ) (l : List ℕ) (r x : Written) → r ≡ x → Put d₀ d a l r → Put d₀ d a l x
 put-as d₀ d a l r x q p = subst (λ (z : Written). Put d₀ d a l z) q p
@@ -124,20 +146,16 @@ inserted-counts n (Upto e) k r q h = rw q h
 inserted-counts n Long k r q h = rw q tt
 
 -- forgetting
-pub record Forgetting (memo : List ℕ) (k : ℕ) : Type 0 where
-  pub long : length memo ≡ 4160
-  pub from : 4096 ≤ k
-  pub done : (x : ℕ) → 4096 ≤ x → x < k → getD memo x 0 ≡ 0
+pub record Forgetting (n : ℕ) (memo : List ℕ) (k : ℕ) : Type 0 where
+  pub long : length memo ≡ n
+  pub done : (x : ℕ) → x < k → getD memo x 0 ≡ 0
 
-pub forgetting-turn : (memo : List ℕ) (k : ℕ) → Forgetting memo k → k < 4160 → Forgetting (set memo k 0) (k + 1)
-forgetting-turn memo k f h = record { long = length-set memo k 0 ∙ f .long; from = omega (arith, f .from); done = λ x a b. go x a b (ℕ-discrete x k) }
+pub forgetting-turn : (n : ℕ) (memo : List ℕ) (k : ℕ) → Forgetting n memo k → k < n → Forgetting n (set memo k 0) (k + 1)
+forgetting-turn n memo k f h = record { long = length-set memo k 0 ∙ f .long; done = λ x b. go x b (ℕ-discrete x k) }
   where
-    go : (x : ℕ) → 4096 ≤ x → x < k + 1 → Dec (x ≡ k) → getD (set memo k 0) x 0 ≡ 0
-    go x a b (yes e) = rw e (getD-set-same memo k 0 0 (omega (arith, f .long)))
-    go x a b (no e) = getD-set-other memo k x 0 0 e ∙ f .done x a (omega arith)
+    go : (x : ℕ) → x < k + 1 → Dec (x ≡ k) → getD (set memo k 0) x 0 ≡ 0
+    go x b (yes e) = rw e (getD-set-same memo k 0 0 (omega (arith, f .long)))
+    go x b (no e) = getD-set-other memo k x 0 0 e ∙ f .done x (omega arith)
 
-pub forgetting-end : (memo : List ℕ) (k : ℕ) → Forgetting memo k → 4160 ≤ k → Blank memo
-forgetting-end memo k f h = record { long = f .long; none-marked = λ d b. f .done (4096 + d) (omega arith) (omega arith) }
-
-pub blank-memo : (t : Task) (K : State) (memo : List ℕ) → Blank memo → Memo t K memo
-blank-memo t K memo B = record { long = B .long; rows = λ v d c _ b _ e. absurd (omega (arith, e, B .none-marked d b)) }
+pub blank-memo : (t : Task) (K : State) (memo : List ℕ) → length memo ≡ memoFor t → Blank memo → Memo t K memo
+blank-memo t K memo e B = record { long = e; rows = λ v d c _ b _ q. absurd (omega (arith, q, B d b)) }

@@ -11,7 +11,7 @@ use Rattle.planning.specs.Runs.{State, look, actions, count, act}
 use Rattle.planning.specs.Repair.{pass, passSearches}
 use Rattle.task.specs.Task.{factsIn, taskIn}
 use Rattle.state.specs.Sets.{setsOf}
-use Rattle.paths.specs.Paths.{pathsOf, marksFrom, memoLength, Put}
+use Rattle.paths.specs.Paths.{pathsOf, Put}
 use Rattle.paths.specs.declared.Written.{Written}
 use Rattle.paths.specs.declared.Written.the-variants.{Upto, Long}
 use Rattle.passes.specs.declared.Inserted.{Inserted}
@@ -54,9 +54,8 @@ abbrev pub Entries : Task → List ℕ → Type 0
 Entries t l = (k : ℕ) → k < length l → getD l k 0 < actions t
 
 -- no row stands in the memo
-pub record Blank (memo : List ℕ) : Type 0 where
-  pub long : length memo ≡ memoLength
-  pub none-marked : (d : ℕ) → d < 64 → getD memo (marksFrom + d) 0 ≡ 0
+abbrev pub Blank : List ℕ → Type 0
+Blank memo = (d : ℕ) → d < 64 → getD memo d 0 ≡ 0
 
 -- what was written, without the searches; with them; where it fits, they are n
 abbrev pub writtenIn : Inserted → Written

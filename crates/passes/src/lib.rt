@@ -2,16 +2,16 @@
 // the variable, and at the end if a value is wanted.
 use paths::Written;
 ghost use mathlib.Core.Path.{_≡_};
-ghost use mathlib.Core.Bool.{not, _&&_};
+ghost use mathlib.Core.Bool.{not, _&&_, _||_};
 ghost use Prim.Native.Nat.{_/_, _%_, _<_, _≤_};
-ghost use lib.Dec.{T};
+ghost use lib.Dec.{T, eqb, leb};
 ghost use lib.ListN.{length, take, drop};
 ghost use Rattle.planning.specs.Runs.{relaxed, step, actions, count, act, black};
 ghost use Rattle.planning.specs.Repair.{toward, after, blackMet, askedFor};
 ghost use Rattle.task.specs.Task.{taskIn, Loaded};
 ghost use Rattle.task.specs.Links.{Prepared};
 ghost use Rattle.state.specs.Sets.{setsOf, modeOf};
-ghost use Rattle.paths.specs.Paths.{pathsOf, Memo, memoLength, Covers, Put};
+ghost use Rattle.paths.specs.Paths.{pathsOf, Memo, Covers, Put};
 ghost use Rattle.passes.specs.Passes.{askedBy, servedIn, servedSearchesIn, unasked, factsOf, Fitting, Entries, Blank, writtenIn, Searched, insertedBy, Behind};
 
 // A list of moves was written up to a place, and so many paths were asked for; or it does not fit.
@@ -22,11 +22,11 @@ pub enum Inserted {
 
 // The memo with no row in it.
 pub fn forget(memo: &mut [u16])
-    requires { ⌜ length (now memo) ≡ memoLength ⌝ }
+    requires { ⌜ 64 ≤ length (now memo) ⌝ }
     ensures { λ _. ⌜ Blank (now (memo .exit)) ⌝ }
 {
-    let mut k: usize = paths::MARKS;
-    while k < paths::MEMO {
+    let mut k: usize = 0;
+    while k < 64 {
         memo[k] = 0;
         k += 1;
     }
@@ -79,6 +79,13 @@ fn next_value(c: usize, d: usize) -> usize
     if d < 64 { d } else { c }
 }
 
+// The value c is what d asks, or d asks none.
+fn is_there(c: usize, d: usize) -> bool
+    ensures { λ r. ⌜ r ≡ (leb 64 d || eqb c d) ⌝ }
+{
+    d >= 64 || c == d
+}
+
 // The path from c to the value that d asks, if it asks one.
 fn lead_to(
     task: &[u16],
@@ -95,7 +102,7 @@ fn lead_to(
     ensures { λ r. ⌜ Put (now (list .entry)) (now (list .exit)) at (toward (pathsOf (taskIn (now (task .entry))) (setsOf (now (ever .entry))) v) c (askedBy d)) r ⌝ }
     ensures { λ _. ⌜ Memo (taskIn (now (task .entry))) (setsOf (now (ever .entry))) (now (memo .exit)) ⌝ }
 {
-    if d >= 64 {
+    if is_there(c, d) {
         return Written::Upto(at);
     }
     paths::path(task, ever, memo, v, c, d, list, at)
@@ -192,7 +199,8 @@ fn idle(task: &[u16], v: usize, list: &[u16], e: usize) -> bool
 }
 
 // The pass for the variable of fact f, its present one, over the list in front of place e. Where no entry needs the variable, the path
-// is written behind the list; else the list is moved to the end of the plan, and the pass goes over it there.
+// is written behind the list, asked for here as well so that `lead_to` stays small; else the list is moved to the end of the plan, and
+// the pass goes over it there.
 pub fn serve(
     task: &[u16],
     ever: &[u64; 64],
@@ -212,7 +220,10 @@ pub fn serve(
     let v = f / 64;
     if idle(task, v, plan, e) {
         let d = state::asked(want, 0, want.len(), v);
-        let w = lead_to(task, ever, memo, v, f % 64, d, plan, e);
+        if is_there(f % 64, d) {
+            return with_searches(Written::Upto(e), asked_for(d));
+        }
+        let w = paths::path(task, ever, memo, v, f % 64, d, plan, e);
         return with_searches(w, asked_for(d));
     }
     let at = lists::to_end(plan, e);

@@ -12,7 +12,7 @@ use lib.Bits.{bitOr}
 use lib.Dec.{T}
 use lib.ListN.{length, getD}
 use Rattle.planning.specs.Record.{Task}
-use Rattle.planning.specs.Runs.{State, actions, act, black}
+use Rattle.planning.specs.Runs.{variables, State, actions, act, black}
 use Rattle.planning.specs.Painting.{target}
 use Rattle.planning.specs.Repair.{usableArc}
 use Rattle.planning.proofs.Tests.{or-l, or-r, or-cases, and-l, and-r, and-i}
@@ -113,6 +113,10 @@ module _ (task : List ℕ) (v x rest : ℕ) (H : Chain task v x rest) where
 
   pub chain-place : 64 * v + x < 4096
   chain-place = omega (arith, H .near, black-inside t v (H .painted), F .variables-max)
+
+  -- a head is there for it
+  pub chain-inside : 64 * v + x < 64 * variables t
+  chain-inside = omega (arith, H .near, black-inside t v (H .painted))
 
   chain-head : Next (actions t) (Changes t v x) 0 (headAt task (64 * v + x))
   chain-head = H .prepared .chained .heads v x (omega (arith, black-inside t v (H .painted), F .variables-max)) (H .near) (H .painted)

@@ -1,12 +1,13 @@
 -- Rows of leads: the first action of the best path to one value and where it leads, from each value.
 use mathlib.Core.Path.{_≡_}
-use mathlib.Core.Bool.{Bool, false, _&&_, _||_}
+use mathlib.Core.Bool.{Bool, true, false, not, _&&_, _||_}
 use mathlib.Core.List.{List, [], _∷_, _++_}
 use Prim.Native.Nat.{ℕ, _+_, _*_, _<_, _≤_}
-use lib.Dec.{T}
+use lib.Dec.{T, ltb}
 use lib.ListN.{length, getD, take}
+use Rattle.planning.specs.Basics.{someBelow}
 use Rattle.planning.specs.Record.{Fact, Action, Task}
-use Rattle.planning.specs.Runs.{State, touches, look, holds, actions, count, act, black}
+use Rattle.planning.specs.Runs.{State, touches, look, holds, variables, actions, count, act, black}
 use Rattle.planning.specs.Painting.{target, fits}
 use Rattle.planning.specs.Repair.{bestPath}
 use Rattle.state.specs.Sets.{inSet}
@@ -41,17 +42,21 @@ leadTo t K v d c = leadOf (act t) v c (pathsOf t K v c d)
 abbrev pub Leads : Task → State → ℕ → ℕ → List ℕ → Type 0
 Leads t K v d row = (c : ℕ) → c < count t v → getD row c 0 ≡ leadTo t K v d c
 
--- the memo: 64 rows of 64 leads, and behind them 64 marks; its length
-abbrev pub marksFrom : ℕ
-marksFrom = 4096
+-- no variable has more than 15 values
+unfoldable pub fewValues : Task → Bool
+fewValues t = not (someBelow (variables t) (λ v. ltb 15 (count t v)))
 
-abbrev pub memoLength : ℕ
-memoLength = 4160
+-- the memo: 64 marks, and behind them a row of 64 leads for each value that a variable may have; its length
+unfoldable pub memoFor : Task → ℕ
+memoFor t = elim (fewValues t) [ true ↦ 1024 | false ↦ 4160 ]
 
--- a row of leads for each value d: to d, of the black variable v where v + 1 is the mark of d
+abbrev pub rowAt : ℕ → ℕ
+rowAt d = 64 * (d + 1)
+
+-- the row of d has the leads to d of the black variable v where v + 1 is the mark of d
 pub record Memo (t : Task) (K : State) (memo : List ℕ) : Type 0 where
-  pub long : length memo ≡ memoLength
-  pub rows : (v d c : ℕ) → T (black t v) → d < 64 → c < count t v → getD memo (marksFrom + d) 0 ≡ v + 1 → getD memo (64 * d + c) 0 ≡ leadTo t K v d c
+  pub long : length memo ≡ memoFor t
+  pub rows : (v d c : ℕ) → T (black t v) → d < 64 → c < count t v → getD memo d 0 ≡ v + 1 → getD memo (rowAt d + c) 0 ≡ leadTo t K v d c
 
 -- the facts set a black variable
 unfoldable pub anyBlack : Task → List Fact → Bool

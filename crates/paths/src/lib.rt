@@ -10,13 +10,29 @@ ghost use Rattle.planning.specs.Runs.{touches, holds, actions, count, act, blac
 ghost use Rattle.task.specs.Task.{factsIn, taskIn, Loaded};
 ghost use Rattle.task.specs.Links.{Prepared};
 ghost use Rattle.state.specs.Sets.{inSet, setsOf, Facts};
-ghost use Rattle.paths.specs.Paths.{Member, sourceOf, pathsOf, Leads, Memo, marksFrom, anyBlack, Covers, Put};
+ghost use Rattle.paths.specs.Paths.{Member, sourceOf, pathsOf, Leads, fewValues, Memo, anyBlack, Covers, Put};
 ghost use Rattle.paths.specs.Labels.{lower, through, highest, leadBy, Nearest, Into, Lowered, Settled};
 
-// The memo has 64 rows of 64 leads, and behind them 64 marks.
-pub const MARKS: usize = 4096;
+// The memo has 64 marks, and behind them a row of 64 leads for each value: 15 where no variable has more, else 64.
+pub const SMALL: usize = 1024;
 
-pub const MEMO: usize = 4160;
+pub const LARGE: usize = 4160;
+
+// No variable has more than 15 values.
+pub fn has_few_values(task: &[u16]) -> bool
+    requires { ⌜ Loaded (now task) ⌝ }
+    ensures { λ r. ⌜ r ≡ fewValues (taskIn (now (task .entry))) ⌝ }
+{
+    let n = task::variables(task);
+    let mut v: usize = 0;
+    while v < n {
+        if 15 < task::count(task, v) {
+            return false;
+        }
+        v += 1;
+    }
+    true
+}
 
 // The label of a value that no path was found from.
 const UNREACHED: u64 = 18446744073709551615;
@@ -207,15 +223,15 @@ fn towards(task: &[u16], ever: &[u64; 64], row: &mut [u16], v: usize, d: usize)
 fn prepare(task: &[u16], ever: &[u64; 64], memo: &mut [u16], v: usize, d: usize)
     requires { ⌜ Prepared (now task) × T (black (taskIn (now task)) v) × (d < count (taskIn (now task)) v) ⌝ }
     requires { ⌜ Memo (taskIn (now task)) (setsOf (now ever)) (now memo) ⌝ }
-    ensures { λ _. ⌜ Memo (taskIn (now (task .entry))) (setsOf (now (ever .entry))) (now (memo .exit)) × (getD (now (memo .exit)) (marksFrom + d) 0 ≡ v + 1) ⌝ }
+    ensures { λ _. ⌜ Memo (taskIn (now (task .entry))) (setsOf (now (ever .entry))) (now (memo .exit)) × (getD (now (memo .exit)) d 0 ≡ v + 1) ⌝ }
 {
-    if lists::wide(memo[MARKS + d]) == v + 1 {
+    if lists::wide(memo[d]) == v + 1 {
         return;
     }
-    let from = 64 * d;
+    let from = 64 * (d + 1);
     let to = from + 64;
     towards(task, ever, &mut memo[from..to], v, d);
-    memo[MARKS + d] = (v + 1) as u16;
+    memo[d] = (v + 1) as u16;
 }
 
 // The path of v from c to d (6.7), written into the list from place `at` on.
@@ -234,14 +250,12 @@ pub fn path(
     ensures { λ r. ⌜ Put (now (list .entry)) (now (list .exit)) at (pathsOf (taskIn (now (task .entry))) (setsOf (now (ever .entry))) v c d) r ⌝ }
     ensures { λ _. ⌜ Memo (taskIn (now (task .entry))) (setsOf (now (ever .entry))) (now (memo .exit)) ⌝ }
 {
-    if c == d {
-        return Written::Upto(at);
-    }
     prepare(task, ever, memo, v, d);
-    let from = 64 * d;
+    let from = 64 * (d + 1);
+    let row = &memo[from..];
     let mut x = c;
     let mut e = at;
-    let mut l = lists::wide(memo[from + x]);
+    let mut l = lists::wide(row[x]);
     while l % 64 != x {
         if e >= list.len() {
             return Written::Long;
@@ -249,7 +263,7 @@ pub fn path(
         list[e] = (l / 64) as u16;
         e += 1;
         x = l % 64;
-        l = lists::wide(memo[from + x]);
+        l = lists::wide(row[x]);
     }
     Written::Upto(e)
 }

@@ -7,14 +7,16 @@ use answers::Planned;
 ghost use mathlib.Core.Path.{_≡_};
 ghost use mathlib.Core.Bool.{true};
 ghost use mathlib.Core.List.{[]};
+ghost use mathlib.Core.Option.{none};
+ghost use Prim.Native.Nat.{_≤_};
 ghost use lib.ListN.{length};
-ghost use Rattle.planning.specs.Record.{taskOf};
+ghost use Rattle.planning.specs.Record.{taskOf, recordCheck};
 ghost use Rattle.planning.specs.Runs.{relaxed, isPlan};
 ghost use Rattle.planning.specs.Relaxed.{relaxedPlan};
 ghost use Rattle.planning.specs.Calls.{planCall, planList, planMarks, repairCall, repairList, repairMarks, workList, planIn, marksIn, runnable, lent, lentBytes};
 ghost use Rattle.planning.specs.Existence.{Demand3, Bounded, Ceiling, Recovers};
 ghost use Rattle.task.specs.Task.{taskIn, Loaded};
-ghost use Rattle.task.specs.Size.{RoomIn};
+ghost use Rattle.task.specs.Size.{taskSize, RoomIn};
 ghost use Rattle.task.specs.Links.{Prepared};
 ghost use Rattle.answers.specs.Plans.{answerOf, stepsOf};
 ghost use Rattle.repair.specs.Answers.{roomIn};
@@ -95,6 +97,31 @@ fn plan_in(
     Planned::Refused(f)
 }
 
+// The same, where a list of `size` numbers is enough for the task.
+fn plan_sized(
+    bytes: &[u8],
+    size: usize,
+    given: bool,
+    list: &[u16],
+    plan: &mut [u16],
+    work: &[u16],
+    marks: &mut [u8],
+) -> Planned
+    requires { ⌜ (recordCheck (now bytes) ≡ none → taskSize (now bytes) ≤ size) ⌝ }
+    ensures { λ r. ⌜ Called given (now (bytes .entry)) (now (list .entry)) (roomIn (now (plan .entry)) (now (work .entry)) (now (marks .entry))) (now (plan .exit)) (now (marks .exit)) r ⌝ }
+{
+    if size <= task::TINY {
+        let mut tiny = [0u16; task::TINY];
+        return plan_in(bytes, &mut tiny, given, list, plan, work, marks);
+    }
+    if size <= task::SHORT {
+        let mut small = [0u16; task::SHORT];
+        return plan_in(bytes, &mut small, given, list, plan, work, marks);
+    }
+    let mut large = [0u16; task::LONG];
+    plan_in(bytes, &mut large, given, list, plan, work, marks)
+}
+
 // The task of a small record is small, so that little has to be cleared.
 fn plan_checked(
     bytes: &[u8],
@@ -106,12 +133,7 @@ fn plan_checked(
 ) -> Planned
     ensures { λ r. ⌜ Called given (now (bytes .entry)) (now (list .entry)) (roomIn (now (plan .entry)) (now (work .entry)) (now (marks .entry))) (now (plan .exit)) (now (marks .exit)) r ⌝ }
 {
-    if task::is_short(bytes) {
-        let mut small = [0u16; task::SHORT];
-        return plan_in(bytes, &mut small, given, list, plan, work, marks);
-    }
-    let mut large = [0u16; task::LONG];
-    plan_in(bytes, &mut large, given, list, plan, work, marks)
+    plan_sized(bytes, task::room_for(bytes), given, list, plan, work, marks)
 }
 
 // The steps of an answer, 0 after a refusal.

@@ -1,12 +1,11 @@
 -- The relaxed plan's answer and its list, at each end.
-use mathlib.Core.Path.{_≡_, refl, sym, ap, _∙_, fun-ext}
+use mathlib.Core.Path.{_≡_, sym, _∙_, fun-ext}
 use mathlib.Core.Bool.{or-false}
-use mathlib.Core.List.{List, [], _∷_, _++_}
+use mathlib.Core.List.{List}
 use mathlib.Core.Option.{none}
 use Prim.Native.Nat.{ℕ, _-_, _≤_}
 use native.Mathlib.Omega.{arith}
-use lib.ListN.{length, drop, replicate, length-drop, length-append}
-use lib.Seq.{take-at}
+use lib.ListN.{length, take, drop, replicate, length-drop}
 use Rattle.planning.specs.Basics.{refuse, refused, done}
 use Rattle.planning.specs.Record.{Task, taskOf, recordCheck}
 use Rattle.planning.specs.Runs.{State}
@@ -57,14 +56,9 @@ pub joined-alone : (f : State) (before after : List ℕ) → before ≡ replicat
 unfolding setsOf
 joined-alone f before after e J = fun-ext (λ v. fun-ext (λ d. J .are v d ∙ rw (e, zeros 64 v, inSet-empty d) (or-false (f v d))))
 
--- the kept actions copied to the front
-pub front-of : (t : Task) (kept old new : List ℕ) (m n : ℕ) → m ≤ 1024 → length kept ≡ 1024 → drop m kept ≡ relaxedPlan t → length old ≡ 1024 → n ≡ 1024 - m → (l : List ℕ) → l ≡ drop m kept
-    → new ≡ l ++ drop (length l) old → Front t new n
-front-of t kept old new m n b k e o en l el q =
-    let x : length l ≡ n = rw (el, length-drop m kept) (omega arith) in
-    record {
-      list = rw q (take-at l (drop (length l) old) n x) ∙ el ∙ e;
-      steps = sym x ∙ rw (el, e) refl;
-      few = omega arith;
-      long = rw (q, length-append l (drop (length l) old), length-drop (length l) old) (omega arith);
-    }
+-- the kept actions, moved to the front
+pub front-of : (t : Task) (kept new : List ℕ) (m n : ℕ) → m ≤ 1024 → length kept ≡ 1024 → drop m kept ≡ relaxedPlan t → n ≡ 1024 - m → length new ≡ 1024 → take (1024 - m) new ≡ drop m kept
+    → Front t new n
+front-of t kept new m n b k e en l q =
+    let x : length (relaxedPlan t) ≡ n = rw (← e, length-drop m kept) (omega arith) in
+    record { list = rw en (q ∙ e); steps = sym x; few = omega arith; long = l }

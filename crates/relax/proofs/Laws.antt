@@ -2,7 +2,7 @@
 use mathlib.Core.Path.{_≡_, refl, sym, ap, _∙_, subst, fun-ext}
 use mathlib.Core.Logic.{_≢_}
 use mathlib.Core.Bool.{Bool, true, false, not, _&&_, _||_, or-comm, or-true, and-false}
-use mathlib.Core.List.{List, [], _∷_}
+use mathlib.Core.List.{List, [], _∷_, _++_, append-assoc, append-nil}
 use mathlib.Core.Option.{Option, none, some}
 use Prim.Native.Nat.{ℕ, zero, suc, _+_, _-_, _*_, _/_, _%_, _^_, _<_, _≤_}
 use native.Mathlib.Numerals.{add-one}
@@ -11,8 +11,8 @@ use native.Mathlib.Decide.{ℕ-discrete, decLt}
 use borrow.Author.Tests.{eq-eqb, ne-eqb}
 use lib.Bits.{bitOr}
 use lib.Dec.{T, eqb, eqb-refl, eqb→eq, ltb, lt→ltb, ltb→lt}
-use lib.ListN.{length, getD, set, drop, replicate, length-set, getD-replicate}
-use lib.Seq.{getD-set-same, getD-set-other, getD-take, drop-cons, drop-length, drop-set-lt, length-take-le}
+use lib.ListN.{length, getD, set, take, drop, replicate, length-set, getD-replicate}
+use lib.Seq.{getD-set-same, getD-set-other, getD-take, drop-cons, drop-length, drop-set-lt, length-take-le, take-set-le, take-suc-set, take-take}
 use Rattle.planning.specs.Record.{Fact, Action, Task}
 use Rattle.planning.specs.Runs.{State, has, touches, step, relaxed, actions, act, variables, variable, count, initial, goals}
 use Rattle.planning.specs.Relaxed.{forwardRun, firstAchiever, is, reachedNeeded, keep, relaxedPlan}
@@ -299,12 +299,12 @@ module _ {task run : List ℕ} {n : ℕ} (R : Replay task run n) where
       let z : drop n (forwardRun t) ≡ [] = rw (← run-long) (drop-length (forwardRun t)) in
       rw (z, e) (getD-replicate {A = ℕ} 4096 f 65535 0 b)
 
-  pub keeping-start : (needed kept : List ℕ) → length needed ≡ 64 → length kept ≡ 1024 → setsOf needed ≡ has (goals t) → Keeping t n needed kept n 1024
+  pub keeping-start : (needed : List ℕ) → length needed ≡ 64 → setsOf needed ≡ has (goals t) → Keeping t run n needed run n 1024
   unfolding keep
-  keeping-start needed kept p q e =
+  keeping-start needed p e =
       let z : drop n (forwardRun t) ≡ [] = rw (← run-long) (drop-length (forwardRun t)) in
-      let y : drop 1024 kept ≡ [] = rw (← q) (drop-length kept) in
-      record { within = omega arith; room = omega arith; end = omega arith; long = q; needed-long = p; kept-are = rw (z, y) refl; needed-are = rw z (sym e) }
+      let y : drop 1024 run ≡ [] = rw (← R .long) (drop-length run) in
+      record { within = omega arith; room = omega arith; end = omega arith; long = R .long; unread = refl; needed-long = p; kept-are = rw (z, y) refl; needed-are = rw z (sym e) }
 
   module _ (k : ℕ) (b : k < n) where
     abbrev i : ℕ
@@ -325,9 +325,16 @@ module _ {task run : List ℕ} {n : ℕ} (R : Replay task run n) where
     pub setters-turn : (fst fst′ : List ℕ) → Setters t later fst → Noted (has (act t i .eff)) i fst fst′ → Setters t (drop k (forwardRun t)) fst′
     setters-turn fst fst′ S N = rw from-k (setters-more t later i fst fst′ S N)
 
-    module _ {needed kept : List ℕ} {m : ℕ} (K : Keeping t n needed kept (k + 1) m) where
+    module _ {needed kept : List ℕ} {m : ℕ} (K : Keeping t run n needed kept (k + 1) m) where
       pub keeping-room : 0 < m
       keeping-room = omega (arith, K .room, R .few)
+
+      pub keeping-entry : getD kept k 0 ≡ i
+      keeping-entry = sym (getD-take (k + 1) kept k 0 (omega arith)) ∙ ap (λ (l : List ℕ). getD l k 0) (K .unread) ∙ getD-take (k + 1) run k 0 (omega arith)
+
+      -- what is not read is not written, as place m lies behind it
+      unread-less : take k kept ≡ take k run
+      unread-less = sym (take-take k (k + 1) kept (omega arith)) ∙ ap (take k) (K .unread) ∙ take-take k (k + 1) run (omega arith)
 
       module _ (fst : List ℕ) (S : Achieved t (forwardRun t) fst) where
         -- the list of first achievers answers as the definition does
@@ -345,7 +352,7 @@ module _ {task run : List ℕ} {n : ℕ} (R : Replay task run n) where
         tested : (r : Bool) → r ≡ reachedNeeded (byOf fst) (setsOf needed) i (act t i .eff) → reachedNeeded by (keep (act t) by (goals t) later .needed) i (act t i .eff) ≡ r
         tested r e = rw (K .needed-are) (sym (e ∙ reachedNeeded-same (byOf fst) by (setsOf needed) i (act t i .eff) same-by))
 
-        pub keeping-no : false ≡ reachedNeeded (byOf fst) (setsOf needed) i (act t i .eff) → Keeping t n needed kept k m
+        pub keeping-no : false ≡ reachedNeeded (byOf fst) (setsOf needed) i (act t i .eff) → Keeping t run n needed kept k m
         keeping-no e =
             let z = keep-no (act t) by (goals t) i later (tested false e) in
             record {
@@ -353,33 +360,68 @@ module _ {task run : List ℕ} {n : ℕ} (R : Replay task run n) where
               room = omega (arith, K .room);
               end = K .end;
               long = K .long;
+              unread = unread-less;
               needed-long = K .needed-long;
               kept-are = rw (from-k, z) (K .kept-are);
               needed-are = rw (from-k, z) (K .needed-are);
             }
 
         pub keeping-yes : true ≡ reachedNeeded (byOf fst) (setsOf needed) i (act t i .eff) → (needed′ : List ℕ) → Joined (has (act t i .pre)) needed needed′
-            → Keeping t n needed′ (set kept (m - 1) i) k (m - 1)
-        keeping-yes e needed′ J =
+            → (j : ℕ) → j ≡ i → Keeping t run n needed′ (set kept (m - 1) j) k (m - 1)
+        keeping-yes e needed′ J j ej =
             let z = keep-yes (act t) by (goals t) i later (tested true e) in
             let c : m - 1 < length kept = omega (arith, K .long, K .end, keeping-room) in
             let s : suc (m - 1) ≡ m = omega (arith, keeping-room) in
-            let d : drop (m - 1) (set kept (m - 1) i) ≡ i ∷ drop m kept = rw (
-              drop-cons (set kept (m - 1) i) (m - 1) 0 (rw length-set c),
-              getD-set-same kept (m - 1) i 0 c,
+            let d : drop (m - 1) (set kept (m - 1) j) ≡ i ∷ drop m kept = rw (
+              drop-cons (set kept (m - 1) j) (m - 1) 0 (rw length-set c),
+              getD-set-same kept (m - 1) j 0 c,
               s,
-              drop-set-lt m kept (m - 1) i (omega (arith, keeping-room)),
+              drop-set-lt m kept (m - 1) j (omega (arith, keeping-room)),
+              ej,
             ) refl in
             record {
               within = omega arith;
               room = omega (arith, K .room, keeping-room);
               end = omega (arith, K .end);
               long = simp length-set (K .long);
+              unread = take-set-le k kept (m - 1) j (omega (arith, K .room, R .few)) ∙ unread-less;
               needed-long = J .long;
               kept-are = rw (from-k, z .0, d, K .kept-are) refl;
               needed-are = rw (from-k, z .1) (fun-ext (λ v. fun-ext (λ x. rw (K .needed-are) (sym (J .are v x)))));
             }
 
-  pub keeping-end : (needed kept : List ℕ) (m : ℕ) → Keeping t n needed kept 0 m → drop m kept ≡ relaxedPlan t
+  pub keeping-end : (needed kept : List ℕ) (m : ℕ) → Keeping t run n needed kept 0 m → drop m kept ≡ relaxedPlan t
   unfolding relaxedPlan
   keeping-end needed kept m K = sym (K .kept-are)
+
+-- entries on their way to the front: those that have come there, and those that stand at their old places
+pub record Fronting (plan₀ : List ℕ) (from : ℕ) (plan : List ℕ) (k : ℕ) : Type 0 where
+  pub at : from ≤ k
+  pub to : k ≤ 1024
+  pub long : length plan ≡ 1024
+  pub are : take (k - from) plan ++ drop k plan ≡ drop from plan₀
+
+pub fronting-start : (plan : List ℕ) (from : ℕ) → from ≤ 1024 → length plan ≡ 1024 → Fronting plan from plan from
+fronting-start plan from b n =
+    let z : from - from ≡ 0 = omega arith in
+    record { at = omega arith; to = b; long = n; are = rw z refl }
+
+module _ {plan₀ : List ℕ} {from : ℕ} {plan : List ℕ} {k : ℕ} (F : Fronting plan₀ from plan k) where
+  pub fronting-turn : k < 1024 → Fronting plan₀ from (set plan (k - from) (getD plan k 0)) (k + 1)
+  fronting-turn b =
+      let x : ℕ = getD plan k 0 in
+      let e : k + 1 - from ≡ suc (k - from) = omega (arith, F .at) in
+      let front : take (k + 1 - from) (set plan (k - from) x) ≡ take (k - from) plan ++ (x ∷ []) = rw e (take-suc-set plan (k - from) x (omega (arith, F .long))) in
+      let back : drop (k + 1) (set plan (k - from) x) ≡ drop (k + 1) plan = drop-set-lt (k + 1) plan (k - from) x (omega arith) in
+      let next : drop k plan ≡ x ∷ drop (k + 1) plan = rw (drop-cons plan k 0 (omega (arith, F .long)), add-one) refl in
+      record {
+        at = omega (arith, F .at);
+        to = omega arith;
+        long = simp length-set (F .long);
+        are = rw (front, back, append-assoc (take (k - from) plan) (x ∷ []) (drop (k + 1) plan), ← next) (F .are);
+      }
+
+  pub fronting-end : k ≡ 1024 → take (1024 - from) plan ≡ drop from plan₀
+  fronting-end e =
+      let z : drop k plan ≡ [] = rw (e, ← F .long) (drop-length plan) in
+      sym (append-nil (take (1024 - from) plan)) ∙ ap (λ (l : List ℕ). take (1024 - from) plan ++ l) (sym z) ∙ ap (λ (x : ℕ). take (x - from) plan ++ drop k plan) (sym e) ∙ F .are

@@ -52,12 +52,14 @@ pub record Replay (task run : List ℕ) (n : ℕ) : Type 0 where
   pub long : length run ≡ 1024
   pub few : n ≤ 1024
 
--- of the run from place k on, the kept actions stand in the list from place m on, and the needed facts in the sets
-pub record Keeping (t : Task) (n : ℕ) (needed kept : List ℕ) (k m : ℕ) : Type 0 where
+-- of the run from place k on, the kept actions stand in the list from place m on, and the needed facts in the sets; before place k the
+-- list is the run
+pub record Keeping (t : Task) (run : List ℕ) (n : ℕ) (needed kept : List ℕ) (k m : ℕ) : Type 0 where
   pub within : k ≤ n
   pub room : 1024 + k ≤ n + m
   pub end : m ≤ 1024
   pub long : length kept ≡ 1024
+  pub unread : take k kept ≡ take k run
   pub needed-long : length needed ≡ 64
   pub kept-are : keep (act t) (firstAchiever (act t) (forwardRun t) (initial t)) (goals t) (drop k (forwardRun t)) .actions′ ≡ drop m kept
   pub needed-are : keep (act t) (firstAchiever (act t) (forwardRun t) (initial t)) (goals t) (drop k (forwardRun t)) .needed ≡ setsOf needed

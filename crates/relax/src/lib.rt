@@ -6,8 +6,8 @@ use answers::Refusal;
 use state::Goals;
 ghost use mathlib.Core.Path.{_≡_};
 ghost use mathlib.Core.Bool.{_&&_};
-ghost use Prim.Native.Nat.{ℕ, _/_, _%_, _<_, _≤_};
-ghost use lib.ListN.{length, getD, drop, replicate};
+ghost use Prim.Native.Nat.{ℕ, _-_, _/_, _%_, _<_, _≤_};
+ghost use lib.ListN.{length, getD, take, drop, replicate};
 ghost use Rattle.planning.specs.Runs.{has, initial, goals, actions, act};
 ghost use Rattle.planning.specs.Relaxed.{forwardRun, is, reachedNeeded, relaxedPlan};
 ghost use Rattle.planning.specs.Calls.{relaxCall, relaxList};
@@ -107,53 +107,58 @@ fn reached_needed(needed: &[u64; 64], first: &[u16; 4096], task: &[u16], i: usiz
     false
 }
 
-// The kept actions of the run, in their old order, in the list from the answer on.
+// The kept actions of the run, which stands in the front of `plan`, in their old order, in the same list from the answer on: they come
+// from its end, and no place is written before it is read.
 fn keep_back(
     task: &[u16],
     first: &[u16; 4096],
-    run: &[u16; 1024],
     n: usize,
     needed: &mut [u64; 64],
-    kept: &mut [u16; 1024],
+    plan: &mut [u16; 1024],
 ) -> usize
-    requires { ⌜ Replay (now task) (now run) n × Achieved (taskIn (now task)) (forwardRun (taskIn (now task))) (now first) ⌝ }
-    requires { ⌜ (length (now needed) ≡ 64) × (length (now kept) ≡ 1024) × (setsOf (now needed) ≡ has (goals (taskIn (now task)))) ⌝ }
-    ensures { λ m. ⌜ (m ≤ 1024) × (length (now (kept .exit)) ≡ 1024) × (drop m (now (kept .exit)) ≡ relaxedPlan (taskIn (now (task .entry)))) ⌝ }
+    requires { ⌜ Replay (now task) (now plan) n × Achieved (taskIn (now task)) (forwardRun (taskIn (now task))) (now first) ⌝ }
+    requires { ⌜ (length (now needed) ≡ 64) × (setsOf (now needed) ≡ has (goals (taskIn (now task)))) ⌝ }
+    ensures { λ m. ⌜ (m ≤ 1024) × (length (now (plan .exit)) ≡ 1024) × (drop m (now (plan .exit)) ≡ relaxedPlan (taskIn (now (task .entry)))) ⌝ }
 {
     let mut k = n;
     let mut m: usize = 1024;
     while 0 < k {
         k -= 1;
-        let i = run[k];
+        let i = plan[k];
         if reached_needed(needed, first, task, lists::wide(i)) {
             m -= 1;
-            kept[m] = i;
+            plan[m] = i;
             add_preconditions(needed, task, lists::wide(i));
         }
     }
     m
 }
 
-// The relaxed plan from the forward run, in the front of `plan`, where `first` holds 65,535 before.
-fn keep_run(
-    task: &[u16],
-    first: &mut [u16; 4096],
-    run: &[u16; 1024],
-    n: usize,
-    plan: &mut [u16; 1024],
-) -> u32
-    requires { ⌜ Replay (now task) (now run) n × (now first ≡ replicate 4096 65535) × (length (now plan) ≡ 1024) ⌝ }
+// The entries from place `from` on, in the front.
+fn to_front(plan: &mut [u16; 1024], from: usize)
+    requires { ⌜ (from ≤ 1024) × (length (now plan) ≡ 1024) ⌝ }
+    ensures { λ _. ⌜ (length (now (plan .exit)) ≡ 1024) × (take (1024 - from) (now (plan .exit)) ≡ drop from (now (plan .entry))) ⌝ }
+{
+    let mut k = from;
+    while k < 1024 {
+        plan[k - from] = plan[k];
+        k += 1;
+    }
+}
+
+// The relaxed plan in the front of `plan`, where the forward run stands before; `first` holds 65,535 before.
+fn keep_run(task: &[u16], first: &mut [u16; 4096], n: usize, plan: &mut [u16; 1024]) -> u32
+    requires { ⌜ Replay (now task) (now plan) n × (now first ≡ replicate 4096 65535) ⌝ }
     ensures { λ r. ⌜ Front (taskIn (now (task .entry))) (now (plan .exit)) r ⌝ }
 {
-    note_run(task, run, n, first);
+    note_run(task, plan, n, first);
     unset_initial(task, first);
     let goals = Goals::load(task);
     let count = goals.count;
     let mut needed = [0u64; 64];
     add_facts(&mut needed, &goals.facts, 0, count);
-    let mut kept = [65535u16; 1024];
-    let m = keep_back(task, first, run, n, &mut needed, &mut kept);
-    lists::copy(&kept[m..], plan);
+    let m = keep_back(task, first, n, &mut needed, plan);
+    to_front(plan, m);
     (1024 - m) as u32
 }
 
@@ -163,8 +168,7 @@ pub fn relaxed_plan(task: &[u16], plan: &mut [u16; 1024]) -> Number
     ensures { λ r. ⌜ KeptOf (taskIn (now (task .entry))) (now (plan .exit)) r ⌝ }
 {
     let mut first = [65535u16; 4096];
-    let mut run = [65535u16; 1024];
-    let ran = forward::run_forward(task, &mut run);
+    let ran = forward::run_forward(task, plan);
     let steps = ran.steps;
     let state = ran.state;
     if !ran.solved {
@@ -174,7 +178,7 @@ pub fn relaxed_plan(task: &[u16], plan: &mut [u16; 1024]) -> Number
             place: reached,
         });
     }
-    Number::Value(keep_run(task, &mut first, &run, steps, plan))
+    Number::Value(keep_run(task, &mut first, steps, plan))
 }
 
 fn relax_loaded(task: &[u16], plan: &mut [u16]) -> Number
@@ -211,7 +215,12 @@ fn relax_in(bytes: &[u8], task: &mut [u16], plan: &mut [u16]) -> Number
 pub fn relax(bytes: &[u8], plan: &mut [u16]) -> Number
     ensures { λ r. ⌜ (valueOf r ≡ relaxCall (now (bytes .entry)) (length (now (plan .entry)))) × (now (plan .exit) ≡ relaxList (now (bytes .entry)) (length (now (plan .entry)))) ⌝ }
 {
-    if task::is_short(bytes) {
+    let size = task::room_for(bytes);
+    if size <= task::TINY {
+        let mut task = [0u16; task::TINY];
+        return relax_in(bytes, &mut task, plan);
+    }
+    if size <= task::SHORT {
         let mut task = [0u16; task::SHORT];
         return relax_in(bytes, &mut task, plan);
     }

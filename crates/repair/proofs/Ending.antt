@@ -1,5 +1,6 @@
 -- The goals as a front part of a list of facts, and the answer from the front part of the plan list.
 use mathlib.Core.Path.{_≡_, refl, sym, ap, _∙_, subst}
+use mathlib.Core.Bool.{true, false}
 use mathlib.Core.List.{List, _++_, map}
 use Prim.Native.Nat.{ℕ, _+_, _<_, _≤_, min}
 use native.Mathlib.Omega.{arith}
@@ -18,9 +19,11 @@ use Rattle.task.specs.Task.{factOf, factsIn}
 use Rattle.state.specs.Sets.{GoalsOf}
 use Rattle.state.specs.declared.Goals.{Goals}
 use Rattle.state.proofs.Listing.{between-inside}
-use Rattle.paths.specs.Paths.{Put, memoLength, marksFrom}
+use Rattle.paths.specs.Paths.{Put, fewValues, memoFor, Memo}
+use Rattle.paths.proofs.Memos.{memo-marks}
+use Rattle.passes.proofs.Putting.{blank-memo}
 use Rattle.paths.specs.declared.Written.{Written}
-use Rattle.passes.specs.Passes.{Fitting, factsOf, Searched, Blank}
+use Rattle.passes.specs.Passes.{Fitting, factsOf, Searched}
 use Rattle.passes.specs.declared.Inserted.{Inserted}
 use Rattle.answers.specs.declared.Planned.{Planned}
 use Rattle.answers.specs.Plans.{answerOf}
@@ -57,12 +60,18 @@ module _ (t : Task) (F : Formed t) (g : Goals) (G : GoalsOf t g) (few : g .count
   pub goals-searches : (K s : State) (r : Inserted) → Searched (movedSearches t K s (factsOf front)) r → Searched (movedSearches t K s (goals t)) r
   goals-searches K s r p = subst (λ (w : List Fact). Searched (movedSearches t K s w) r) goals-are p
 
--- an array of zeros is a memo without a row
-pub blank-start : Blank (replicate memoLength 0)
-blank-start = record {
-  long = length-replicate {A = ℕ} memoLength 0;
-  none-marked = λ d h. getD-replicate memoLength (marksFrom + d) 0 0 (omega arith);
-}
+-- an array of zeros is a memo without a row, whatever is held
+module _ (t : Task) (K : State) where
+  zeros : (n : ℕ) → n ≡ memoFor t → Memo t K (replicate n 0)
+  zeros n e = blank-memo t K (replicate n 0) (length-replicate {A = ℕ} n 0 ∙ e) (λ d h. getD-replicate n d 0 0 (omega (arith, memo-marks t)))
+
+  pub few-memo : fewValues t ≡ true → Memo t K (replicate 1024 0)
+  unfolding memoFor
+  few-memo e = zeros 1024 (rw (memoFor, e) refl)
+
+  pub whole-memo : fewValues t ≡ false → Memo t K (replicate 4160 0)
+  unfolding memoFor
+  whole-memo e = zeros 4160 (rw (memoFor, e) refl)
 
 -- the room that the two lists and the mark area lend
 module _ (plan work area : List ℕ) (less all room : ℕ) (ea : less ≡ min (length plan) (length work)) (eb : all ≡ min less (length area)) (ec : room ≡ capacity all) where

@@ -4,5 +4,7 @@ pub mod Filling
 pub mod Arranging
 pub mod Counting
 pub mod Marking
+pub mod Plainly
 pub mod Repairing
+pub mod Gliding
 pub mod Ending

@@ -11,16 +11,17 @@ use native.Mathlib.Numerals.{add-one}
 use native.Mathlib.Omega.{arith}
 use native.Mathlib.Decide.{decLt}
 use borrow.Author.Tests.{lt-ltb, le-ltb}
-use lib.Dec.{ltb}
+use lib.Dec.{T, ltb}
 use lib.ListN.{length, getD, take, drop, replicate, length-append, length-drop}
-use lib.Seq.{slice, slice-cons, slice-empty, drop-cons, drop-length, drop-at, take-at, take-take, take-suc, take-all, getD-take, getD-drop, length-take-le}
-use Rattle.planning.specs.Record.{Fact, Task}
-use Rattle.planning.specs.Runs.{State, step, relaxed, run, runBy, initial, goals, actions, count, act, black}
+use lib.Seq.{slice, slice-cons, slice-empty, drop-cons, drop-length, drop-at, take-at, take-take, take-suc, take-all, split-at, getD-take, getD-drop, length-take-le}
+use Rattle.planning.specs.Record.{Fact, Action, Task}
+use Rattle.planning.specs.Runs.{State, Mode, holds, step, relaxed, run, runs, runBy, runsBy, initial, goals, actions, count, act, black}
 use Rattle.planning.specs.Newest.{Values, initialValues, newer}
 use Rattle.planning.specs.Repair.{known, everAfter, moves, order, Stage, stagesFrom, stages, repaired, moveSearches, allSteps, allSearches, stageSteps, searches, stageMarks, allMarks, marks}
 use Rattle.planning.proofs.Facts.{_⊆_}
 use Rattle.planning.proofs.Known.{_≈_, known-start, known-run, everAfter-now}
-use Rattle.planning.proofs.Tests.{bool-same}
+use Rattle.planning.proofs.Tests.{bool-same, and-l, and-r}
+use Rattle.planning.proofs.Prefixes.{runBy-behind}
 use Rattle.planning.proofs.Formed.{Formed, eff-func}
 use Rattle.state.specs.Sets.{setsOf, redBlackOf}
 use Rattle.state.proofs.RedBlack.{redBlack-step, redBlack-initial}
@@ -28,8 +29,8 @@ use Rattle.paths.specs.Paths.{Memo, Put}
 use Rattle.paths.specs.declared.Written.the-variants as written
 use Rattle.passes.specs.declared.Inserted.{Inserted}
 use Rattle.passes.specs.declared.Inserted.the-variants.{Upto, Long}
-use Rattle.passes.specs.Passes.{Entries, Blank, writtenIn, Searched}
-use Rattle.passes.proofs.Putting.{told-as, counts-as, blank-memo}
+use Rattle.passes.specs.Passes.{Entries, writtenIn, Searched}
+use Rattle.passes.proofs.Putting.{told-as, counts-as}
 use Rattle.repair.specs.declared.Counts.{Counts}
 use Rattle.repair.specs.Counting.{noCounts, Onward, Small, Few}
 use Rattle.repair.specs.Repairs.{filled, moved, stageOf, marksFor, filledSearches, movedSearches, stageSearches}
@@ -133,6 +134,12 @@ module _ (t : Task) (l : List ℕ) (j : ℕ) (s ever : State) where
 abbrev shown : Task → List ℕ → Values → State
 shown t sets f = redBlackOf (black t) (setsOf sets) f
 
+-- an entry of a list that runs applies behind those before it
+applies-at : (act : ℕ → Action) (m : Mode) (l : List ℕ) (i : ℕ) (k : List ℕ) (s : State) → T (runs act m (l ++ (i ∷ k)) s) → T (holds (run act m l s) (act i .pre))
+unfolding runsBy runBy
+applies-at act m [] i k s r = and-l (holds s (act i .pre)) (runs act m k (step m (act i) s)) r
+applies-at act m (x ∷ l) i k s r = applies-at act m l i k (step m (act x) s) (and-r (holds s (act x .pre)) (runs act m (l ++ (i ∷ k)) (step m (act x) s)) r)
+
 pub record Repairing (t : Task) (l₀ plan₀ plan area memo sets : List ℕ) (f : Values) (c : Counts) (n a j : ℕ) : Type 0 where
   pub held : State
   pub within : a ≤ length plan₀
@@ -142,6 +149,7 @@ pub record Repairing (t : Task) (l₀ plan₀ plan area memo sets : List ℕ) (f
   pub place : j ≤ length l₀ + 1
   pub taken : c .steps ≤ a
   pub entries : Entries t (take a plan)
+  pub now : shown t sets f ≡ run (act t) (black t) (take (c .steps) plan) (initial t)
   pub below : shown t sets f ⊆ held
   pub knows : known (black t) (shown t sets f) held ≡ setsOf sets
   pub counts : Counted t (take (c .steps) plan) f c
@@ -150,20 +158,21 @@ pub record Repairing (t : Task) (l₀ plan₀ plan area memo sets : List ℕ) (f
   pub modest : n ≤ 64 * (a + (j - length l₀))
   pub marked : marks t l₀ ≡ take a area ++ allMarks (leftAfter t l₀ j (slice (c .steps) a plan) (shown t sets f) held)
 
-pub repairing-start : (t : Task) (l₀ plan area memo sets : List ℕ) (f : Values) → Blank memo → setsOf sets ≡ initial t → f ≡ initialValues t → length area ≡ length plan
+pub repairing-start : (t : Task) (l₀ plan area memo sets : List ℕ) (f : Values) → Memo t (setsOf sets) memo → setsOf sets ≡ initial t → f ≡ initialValues t → length area ≡ length plan
     → Repairing t l₀ plan plan area memo sets f noCounts 0 0 0
 unfolding repaired searches marks stages leftOf runBy everAfter
-repairing-start t l₀ plan area memo sets f B es ef ea =
+repairing-start t l₀ plan area memo sets f M es ef ea =
     let e : shown t sets f ≡ initial t = rw (es, ef) (redBlack-initial t) in
     record {
       held = initial t;
       within = omega arith;
       long = refl;
       even = ea;
-      rows = blank-memo t (setsOf sets) memo B;
+      rows = M;
       place = omega arith;
       taken = omega arith;
       entries = λ k h. absurd (omega arith);
+      now = e;
       below = rw e (λ v d h. h);
       knows = rw (e, es) (sym (same-facts (initial t) (known (black t) (initial t) (initial t)) (known-start (black t) (initial t))));
       counts = counted-none t f ef;
@@ -223,6 +232,19 @@ module _ {t : Task} {l₀ plan₀ plan area memo sets : List ℕ} {f : Values} {
     pub repairing-small : Formed t → length plan₀ ≤ 32768 → Small c
     repairing-small F h = record { few = repairing-few F h; more = omega (arith, k, G .within) }
 
+    -- where the whole list runs red-black, it applies
+    pub repairing-applies : T (runs (act t) (black t) (repaired t l₀) (initial t)) → T (holds (shown t sets f) (act t i .pre))
+    repairing-applies r =
+        let front = take a plan in
+        let s = c .steps in
+        let long : length front ≡ a = length-take-le a plan repairing-within in
+        let own : getD front s 0 ≡ i = getD-take a plan s 0 k ∙ sym ei in
+        let cut : front ≡ take s plan ++ (i ∷ drop (suc s) front) = split-at front s 0 (omega (arith, long)) ∙ rw (take-take s a plan (G .taken), own) refl in
+        let rest = allSteps (leftAfter t l₀ j (slice s a plan) (shown t sets f) (G .held)) in
+        let whole : repaired t l₀ ≡ take s plan ++ (i ∷ (drop (suc s) front ++ rest)) =
+        G .so-far ∙ ap (λ (l : List ℕ). l ++ rest) cut ∙ append-assoc (take s plan) (i ∷ drop (suc s) front) rest in
+        rw (G .now) (applies-at (act t) (black t) (take s plan) i (drop (suc s) front ++ rest) (initial t) (subst (λ (l : List ℕ). T (runs (act t) (black t) l (initial t))) whole r))
+
     pub repairing-step : Formed t → (memo′ sets′ : List ℕ) (f′ : Values) (c′ : Counts) → Memo t (setsOf sets′) memo′
         → setsOf sets′ ≡ step relaxed (act t i) (setsOf sets) → Onward (act t i) f c c′ → f′ ≡ newer (act t i) f → Repairing t l₀ plan₀ plan area memo′ sets′ f′ c′ n a j
     unfolding runBy everAfter
@@ -243,6 +265,9 @@ module _ {t : Task} {l₀ plan₀ plan area memo sets : List ℕ} {f : Values} {
           place = G .place;
           taken = omega (arith, O .steps, k);
           entries = G .entries;
+          now =
+              now ∙ ap (step (black t) (act t i)) (G .now) ∙ sym (runBy-behind (λ (i : ℕ). step (black t) (act t i)) (take (c .steps) plan) i (initial t))
+              ∙ ap (λ (l : List ℕ). run (act t) (black t) l (initial t)) (sym (ap (λ (n : ℕ). take n plan) (O .steps) ∙ more));
           below = rw now (everAfter-now (act t) (black t) (i ∷ []) (shown t sets f) (G .held) (G .below));
           knows = rw now (sym same ∙ rw (G .knows) (sym es));
           counts = subst (λ (l : List ℕ). Counted t l f′ c′) (sym (ap (λ (n : ℕ). take n plan) (O .steps) ∙ more)) (counted-behind F (G .counts) i c′ f′ O ef);
@@ -350,6 +375,7 @@ module _ {t : Task} {l₀ plan₀ plan area memo sets : List ℕ} {f : Values} {
       place = omega (arith, R .here);
       taken = omega (arith, R .taken, bounds);
       entries = rw (told .2) (append-entries t (take a plan) steps (G .entries) (stage-entries t (setsOf sets) (shown t sets f) rest en));
+      now = G .now ∙ ap (λ (l : List ℕ). run (act t) (black t) l (initial t)) front-same;
       below = G .below;
       knows = G .knows;
       counts = subst (λ (l : List ℕ). Counted t l f c) front-same (G .counts);
@@ -377,8 +403,8 @@ stages-fewer n j p x k d h b =
     let e : n + 1 - j ≡ suc (n + 1 - (j + 1)) = omega arith in
     rw e (omega arith)
 
-pub steps-fewer : (q a k k′ : ℕ) → k < a → k′ ≡ k + 1 → q + (a - k′) < q + (a - k)
-steps-fewer q a k k′ h e = omega arith
+pub steps-fewer : (q a k k′ : ℕ) → k < a → k < k′ → q + (a - k′) < q + (a - k)
+steps-fewer q a k k′ h b = omega arith
 
 -- the part of the relaxed plan that is left
 module _ (l : List ℕ) (j : ℕ) (h : j ≤ length l) where

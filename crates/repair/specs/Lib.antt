@@ -1,3 +1,4 @@
 pub mod Answers
 pub mod Counting
+pub mod Plain
 pub mod Repairs

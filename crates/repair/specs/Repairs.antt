@@ -5,12 +5,23 @@ use mathlib.Core.List.{List, [], _∷_, _++_}
 use Prim.Native.Nat.{ℕ, _-_, _/_, _%_, _<_}
 use lib.ListN.{length, getD, replicate}
 use Rattle.planning.specs.Record.{Fact, Task}
-use Rattle.planning.specs.Runs.{State, variables, count, act, black, goals}
+use Rattle.planning.specs.Runs.{State, relaxed, isPlan, variables, count, act, black, goals}
 use Rattle.planning.specs.Repair.{order, fill, value, blackMet, fillSearches}
 use Rattle.task.specs.Task.{taskIn}
+use Rattle.task.specs.Links.{Prepared}
 use Rattle.state.specs.Sets.{setsOf, valuesOf, redBlackOf}
-use Rattle.paths.specs.Paths.{pathsOf}
-use Rattle.passes.specs.Passes.{factsOf, Fitting}
+use Rattle.paths.specs.Paths.{pathsOf, Memo}
+use Rattle.passes.specs.Passes.{factsOf, Fitting, Entries}
+
+-- a task that passed the painting, and a relaxed plan of it
+pub record Repairable (task list : List ℕ) : Type 0 where
+  pub prepared : Prepared task
+  pub entries : Entries (taskIn task) list
+  pub is-plan : isPlan (taskIn task) relaxed list ≡ true
+
+-- a memo that is right whatever is held, as no row is in it
+abbrev pub EmptyMemo : Task → List ℕ → Type 0
+EmptyMemo t memo = (K : State) → Memo t K memo
 
 -- r is the fact, 64 × variable + value, that v has in the state s
 pub record Present (t : Task) (s : State) (v r : ℕ) : Type 0 where

@@ -4,6 +4,7 @@ use answers::Planned;
 use answers::Refusal;
 use passes::Inserted;
 use state::Goals;
+use state::Newest;
 use state::State;
 ghost use mathlib.Core.Path.{_≡_};
 ghost use mathlib.Core.Bool.{true, not, _&&_};
@@ -11,7 +12,7 @@ ghost use mathlib.Core.List.{_++_};
 ghost use Prim.Native.Nat.{_-_, _*_, _/_, _%_, _<_, _≤_};
 ghost use lib.ListN.{length, take};
 ghost use Rattle.planning.specs.Basics.{oneIf, done, refused};
-ghost use Rattle.planning.specs.Runs.{holds, variables, actions, act, black, goals};
+ghost use Rattle.planning.specs.Runs.{holds, step, relaxed, variables, actions, act, black, goals};
 ghost use Rattle.planning.specs.Newest.{alone};
 ghost use Rattle.planning.specs.Repair.{blackMet};
 ghost use Rattle.task.specs.Task.{taskIn, Loaded};
@@ -22,7 +23,8 @@ ghost use Rattle.passes.specs.Passes.{factsOf, Entries, writtenIn, Searched};
 ghost use Rattle.answers.specs.Plans.{answerOf};
 ghost use Rattle.repair.specs.Answers.{roomIn, Held};
 ghost use Rattle.repair.specs.Counting.{Small, Few, noCounts, Onward, judgedBy};
-ghost use Rattle.repair.specs.Repairs.{Present, Wanted, filledIn, movedIn, stepsIn, lastIn, stageIn, marksFor};
+ghost use Rattle.repair.specs.Plain.{allBlack, Plain, passedBy, Glides};
+ghost use Rattle.repair.specs.Repairs.{Repairable, EmptyMemo, Present, Wanted, filledIn, movedIn, stepsIn, lastIn, stageIn, marksFor};
 ghost use Rattle.repair.specs.Repairs.{filledSearchesIn, movedSearchesIn, stepsSearchesIn, lastSearchesIn, stageSearchesIn};
 
 // A byte as an index.
@@ -258,6 +260,91 @@ fn counted(task: &[u16], newest: &[u8; 64], i: usize, c: Counts) -> Counts
     }
 }
 
+// The same where it is known that the action applies for real.
+fn passed(task: &[u16], i: usize, c: Counts) -> Counts
+    requires { ⌜ Loaded (now task) × (i < actions (taskIn (now task))) × Small c ⌝ }
+    ensures { λ r. ⌜ r ≡ passedBy (act (taskIn (now (task .entry))) i) c ⌝ }
+{
+    let mut runs = c.runs;
+    if runs == c.steps {
+        runs += 1;
+    }
+    Counts {
+        steps: c.steps + 1,
+        runs,
+        cost: c.cost + task::cost(task, i),
+    }
+}
+
+// Newest values and counts behind some steps.
+struct Glided {
+    newest: Newest,
+    counts: Counts,
+}
+
+// The next step, and those behind it, up to place `to`, as far as their actions are of the set `plain`. For these the values are not
+// looked at, so that they can stay in registers from step to step.
+fn glide(
+    task: &[u16],
+    newest: Newest,
+    plan: &[u16],
+    c: Counts,
+    to: usize,
+    plain: &[u64; 16],
+) -> Glided
+    requires { ⌜ Loaded (now task) × Few c × (c .steps < to) × (to ≤ 32768) × (to ≤ length (now plan)) × Entries (taskIn (now task)) (take to (now plan)) ⌝ }
+    ensures { λ r. ⌜ Glides (taskIn (now (task .entry))) (now (plain .entry)) (now (plan .entry)) to (valuesOf (newest .values)) c r ⌝ }
+{
+    let k = c.steps;
+    let mut i = lists::wide(plan[k]);
+    let mut r = counted(task, &newest.values, i, c);
+    let mut now = newest.step(task, i);
+    while r.steps < to {
+        let k = r.steps;
+        i = lists::wide(plan[k]);
+        if !state::is_listed(plain, i) {
+            break;
+        }
+        r = passed(task, i, r);
+        now = now.step(task, i);
+    }
+    Glided {
+        newest: now,
+        counts: r,
+    }
+}
+
+// Each precondition of action i is of a black variable.
+fn needs_black(task: &[u16], i: usize) -> bool
+    requires { ⌜ Loaded (now task) × (i < actions (taskIn (now task))) ⌝ }
+    ensures { λ r. ⌜ r ≡ allBlack (black (taskIn (now (task .entry)))) (act (taskIn (now (task .entry))) i .pre) ⌝ }
+{
+    let end = task::eff_start(task, i);
+    let mut k = task::pre_start(task, i);
+    while k < end {
+        if !task::is_black(task, lists::wide(task[k]) / 64) {
+            return false;
+        }
+        k += 1;
+    }
+    true
+}
+
+// Each effect of action i is held. Where its preconditions are black it joins the plain actions, for the state behind it.
+fn effects_held(task: &[u16], ever: &[u64; 64], i: usize, plain: &mut [u64; 16]) -> bool
+    requires { ⌜ Loaded (now task) × (i < actions (taskIn (now task))) × Plain (taskIn (now task)) (setsOf (now ever)) (now plain) ⌝ }
+    ensures { λ r. ⌜ r ≡ holds (setsOf (now (ever .entry))) (act (taskIn (now (task .entry))) i .eff) ⌝ }
+    ensures { λ _. ⌜ Plain (taskIn (now (task .entry))) (step relaxed (act (taskIn (now (task .entry))) i) (setsOf (now (ever .entry)))) (now (plain .exit)) ⌝ }
+{
+    if state::is_listed(plain, i) {
+        return true;
+    }
+    if needs_black(task, i) {
+        return state::knows_effects(ever, task, i, plain);
+    }
+    state::has_effects(ever, task, i)
+}
+
 // Each goal is the newest value of its variable.
 fn at_goals(task: &[u16], newest: &[u8; 64]) -> bool
     requires { ⌜ Loaded (now task) ⌝ }
@@ -296,27 +383,23 @@ fn too_long(room: usize) -> Planned
     })
 }
 
-// The repair from the initial state in one pass: where every step placed is taken the next stage is placed behind them, else one
-// step is taken. Where the effects of its action are held the next state has the same sets.
-fn repair_from(task: &[u16], list: &[u16], plan: &mut [u16], marks: &mut [u8]) -> Planned
-    requires { ⌜ Prepared (now task) × Entries (taskIn (now task)) (now list) × (length (now plan) ≤ 32768) × (length (now marks) ≡ length (now plan)) ⌝ }
+// The repair from the initial state in one pass: where every step placed is taken the next stage is placed behind them, else the next
+// step is taken. Where the effects of its action are held the next states have the same sets, and plain steps behind it are taken too.
+fn walk(task: &[u16], list: &[u16], plan: &mut [u16], marks: &mut [u8], memo: &mut [u16]) -> Planned
+    requires { ⌜ Repairable (now task) (now list) × (length (now plan) ≤ 32768) × (length (now marks) ≡ length (now plan)) × EmptyMemo (taskIn (now task)) (now memo) ⌝ }
     ensures { λ r. ⌜ Held (taskIn (now (task .entry))) (now (list .entry)) (now (plan .exit)) (now (marks .exit)) (length (now (plan .entry))) r ⌝ }
 {
     let needs = paths::needs(task);
-    let mut memo = [0u16; paths::MEMO];
     let mut s = State::initial(task);
+    let mut plain = [0u64; 16];
     let mut c = uncounted();
     let mut searched: usize = 0;
     let mut at: usize = 0;
     let mut j: usize = 0;
-    loop {
-        let k = c.steps;
-        if k == at {
-            if j > list.len() {
-                return verdict(task, &s.newest.values, c, searched);
-            }
+    while c.steps < at || j <= list.len() {
+        if c.steps == at {
             let left = &list[j..];
-            let w = stage(task, &s.newest.values, &s.sets, &mut memo, left, plan, at);
+            let w = stage(task, &s.newest.values, &s.sets, memo, left, plan, at);
             let Inserted::Upto { end, searches } = w else {
                 return too_long(plan.len());
             };
@@ -326,18 +409,35 @@ fn repair_from(task: &[u16], list: &[u16], plan: &mut [u16], marks: &mut [u8]) -
             j += 1;
             continue;
         }
+        let k = c.steps;
         let i = lists::wide(plan[k]);
-        c = counted(task, &s.newest.values, i, c);
-        if state::has_effects(&s.sets, task, i) {
+        if effects_held(task, &s.sets, i, &mut plain) {
             let old = s.newest;
-            let newest = old.step(task, i);
+            let g = glide(task, old, plan, c, at, &plain);
+            let newest = g.newest;
+            c = g.counts;
             let sets = s.sets;
             s = State { sets, newest };
             continue;
         }
-        passes::refresh(task, &s.sets, &mut memo, i, needs);
+        c = counted(task, &s.newest.values, i, c);
+        passes::refresh(task, &s.sets, memo, i, needs);
         s = s.step(task, i);
     }
+    verdict(task, &s.newest.values, c, searched)
+}
+
+// The same with a memo of its own, which is small where no variable has many values.
+fn repair_in(task: &[u16], list: &[u16], plan: &mut [u16], marks: &mut [u8]) -> Planned
+    requires { ⌜ Repairable (now task) (now list) × (length (now plan) ≤ 32768) × (length (now marks) ≡ length (now plan)) ⌝ }
+    ensures { λ r. ⌜ Held (taskIn (now (task .entry))) (now (list .entry)) (now (plan .exit)) (now (marks .exit)) (length (now (plan .entry))) r ⌝ }
+{
+    if paths::has_few_values(task) {
+        let mut small = [0u16; paths::SMALL];
+        return walk(task, list, plan, marks, &mut small);
+    }
+    let mut large = [0u16; paths::LARGE];
+    walk(task, list, plan, marks, &mut large)
 }
 
 // The repair of a relaxed plan, in the front of the plan list: its steps, its cost, those that run for real, and whether it is a plan in a
@@ -349,10 +449,10 @@ pub fn repair(
     work: &[u16],
     marks: &mut [u8],
 ) -> Planned
-    requires { ⌜ Prepared (now task) × Entries (taskIn (now task)) (now relaxed) ⌝ }
+    requires { ⌜ Repairable (now task) (now relaxed) ⌝ }
     ensures { λ r. ⌜ Held (taskIn (now (task .entry))) (now (relaxed .entry)) (now (plan .exit)) (now (marks .exit)) (roomIn (now (plan .entry)) (now (work .entry)) (now (marks .entry))) r ⌝ }
 {
     let lists = lists::lesser(plan.len(), work.len());
     let room = lists::capacity(lists::lesser(lists, marks.len()));
-    repair_from(task, relaxed, &mut plan[..room], &mut marks[..room])
+    repair_in(task, relaxed, &mut plan[..room], &mut marks[..room])
 }

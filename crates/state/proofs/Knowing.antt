@@ -1,4 +1,4 @@
--- Actions whose effects are held: facts held stay held, and an action's effects are held behind it.
+-- Sets of actions, and actions whose effects are held: facts held stay held, and an action's effects are held behind it.
 use mathlib.Core.Path.{_≡_, sym, subst}
 use mathlib.Core.Logic.{_⊎_, inl, inr}
 use mathlib.Core.Bool.{true, _||_}
@@ -8,22 +8,45 @@ use native.Mathlib.Omega.{arith}
 use native.Mathlib.Decide.{ℕ-discrete}
 use lib.Bits.{bitOr}
 use lib.Dec.{T, eqb, eqb→eq}
-use lib.ListN.{getD, set, replicate, length-set, length-replicate, getD-replicate}
+use lib.ListN.{length, getD, set, replicate, length-set, length-replicate, getD-replicate}
 use lib.Seq.{getD-set-same, getD-set-other}
 use Rattle.planning.specs.Record.{Action, Task}
 use Rattle.planning.specs.Runs.{State, holds, step, relaxed, act}
 use Rattle.planning.proofs.Tests.{or-cases}
 use Rattle.planning.proofs.Facts.{holds→sub, sub→holds}
 use Rattle.planning.proofs.Steps.{step-eff, step-keep}
-use Rattle.state.specs.Sets.{inSet, Known}
+use Rattle.state.specs.Sets.{inSet, listed, Known, WithOnly}
 use Rattle.state.proofs.Members.{inSet-empty, inSet-or, inSet-single}
 use Rattle.state.proofs.RedBlack.{step-held}
+
+-- action i joins the set
+module _ (set₀ : List ℕ) (long : length set₀ ≡ 16) (i w : ℕ) (near : i < 1024) (e : w ≡ bitOr (getD set₀ (i / 64) 0) (2 ^ (i % 64))) where
+  pub listed-more : WithOnly i set₀ (set set₀ (i / 64) w)
+  unfolding listed
+  listed-more j b h = go (ℕ-discrete (j / 64) (i / 64))
+    where
+      old : ℕ
+      old = getD set₀ (i / 64) 0
+
+      either : j / 64 ≡ i / 64 → T (inSet old (j % 64)) ⊎ T (eqb (j % 64) (i % 64)) → (j ≡ i) ⊎ T (inSet (getD set₀ (j / 64) 0) (j % 64))
+      either q (inl x) = inr (rw q x)
+      either q (inr x) = inl (omega (arith, eqb→eq (j % 64) (i % 64) x))
+
+      go : Dec (j / 64 ≡ i / 64) → (j ≡ i) ⊎ T (inSet (getD set₀ (j / 64) 0) (j % 64))
+      go (yes q) =
+          either q (or-cases (inSet old (j % 64)) (eqb (j % 64) (i % 64))
+          (rw (q, getD-set-same set₀ (i / 64) w 0 (omega (arith, long)), e, inSet-or old (2 ^ (i % 64)) (j % 64), inSet-single (i % 64) (j % 64)) at h))
+      go (no q) = inr (rw (getD-set-other set₀ (i / 64) (j / 64) w 0 q) at h)
+
+pub listed-none : (set : List ℕ) → set ≡ replicate 16 0 → (i : ℕ) → i < 1024 → T (listed set i) → ⊥
+unfolding listed
+listed-none set e i b h = subst T (inSet-empty (i % 64)) (rw (e, getD-replicate {A = ℕ} 16 (i / 64) 0 0 (omega arith)) at h)
 
 module _ (t : Task) (s : State) where
   pub known-none : (known : List ℕ) → known ≡ replicate 16 0 → Known t s known
   known-none known e = record {
     long = rw e (length-replicate {A = ℕ} 16 0);
-    held = λ i b h. absurd (subst T (inSet-empty (i % 64)) (rw (e, getD-replicate {A = ℕ} 16 (i / 64) 0 0 (omega arith)) at h));
+    held = λ i b h. absurd (listed-none known e i b h);
   }
 
   module _ {known : List ℕ} (K : Known t s known) (i : ℕ) where
@@ -34,23 +57,14 @@ module _ (t : Task) (s : State) where
     known-step = record { long = K .long; held = λ j b h. later j (K .held j b h) }
 
     pub known-more : (w : ℕ) → i < 1024 → w ≡ bitOr (getD known (i / 64) 0) (2 ^ (i % 64)) → Known t (step relaxed (act t i) s) (set known (i / 64) w)
-    known-more w near e = record { long = simp length-set (K .long); held = λ j b h. go j b h (ℕ-discrete (j / 64) (i / 64)) }
+    known-more w near e = record { long = simp length-set (K .long); held = λ j b h. go j b (listed-more known (K .long) i w near e j b h) }
       where
         own : T (holds (step relaxed (act t i) s) (act t i .eff))
         own = sub→holds (step relaxed (act t i) s) (act t i .eff) (step-eff relaxed (act t i) s)
 
-        old : ℕ
-        old = getD known (i / 64) 0
-
-        either : (j : ℕ) → j < 1024 → j / 64 ≡ i / 64 → T (inSet old (j % 64)) ⊎ T (eqb (j % 64) (i % 64)) → T (holds (step relaxed (act t i) s) (act t j .eff))
-        either j b q (inl h) = later j (K .held j b (rw q h))
-        either j b q (inr h) = let same : j ≡ i = omega (arith, eqb→eq (j % 64) (i % 64) h) in rw same own
-
-        go : (j : ℕ) → j < 1024 → T (inSet (getD (set known (i / 64) w) (j / 64) 0) (j % 64)) → Dec (j / 64 ≡ i / 64) → T (holds (step relaxed (act t i) s) (act t j .eff))
-        go j b h (yes q) =
-            either j b q (or-cases (inSet old (j % 64)) (eqb (j % 64) (i % 64))
-            (rw (q, getD-set-same known (i / 64) w 0 (omega (arith, K .long)), e, inSet-or old (2 ^ (i % 64)) (j % 64), inSet-single (i % 64) (j % 64)) at h))
-        go j b h (no q) = later j (K .held j b (rw (getD-set-other known (i / 64) (j / 64) w 0 q) at h))
+        go : (j : ℕ) → j < 1024 → (j ≡ i) ⊎ T (listed known j) → T (holds (step relaxed (act t i) s) (act t j .eff))
+        go j b (inl q) = rw q own
+        go j b (inr h) = later j (K .held j b h)
 
 -- where the effects are held already, the state behind the action is the same
 pub known-held : (t : Task) (s : State) (a : Action) (known : List ℕ) → holds s (a .eff) ≡ true → Known t (step relaxed a s) known → Known t s known

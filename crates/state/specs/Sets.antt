@@ -1,5 +1,6 @@
 -- Sets of values as numbers, and the states that 64 of them, with 64 newest values, stand for.
 use mathlib.Core.Path.{_≡_}
+use mathlib.Core.Logic.{_⊎_}
 use mathlib.Core.Bool.{Bool, true, false, _&&_}
 use mathlib.Core.List.{List}
 use mathlib.Core.Option.{Option, none, some}
@@ -50,10 +51,18 @@ pub record Facts (facts : List ℕ) (a b : ℕ) : Type 0 where
   pub within : b ≤ length facts
   pub small : (k : ℕ) → a ≤ k → k < b → getD facts k 0 < 4096
 
--- a set of actions, as 16 sets of 64, each with its effects held in the state s
+-- action i is in a set of actions, 16 sets of 64
+unfoldable pub listed : List ℕ → ℕ → Bool
+listed set i = inSet (getD set (i / 64) 0) (i % 64)
+
+-- a set of actions, each with its effects held in the state s
 pub record Known (t : Task) (s : State) (known : List ℕ) : Type 0 where
   pub long : length known ≡ 16
-  pub held : (i : ℕ) → i < 1024 → T (inSet (getD known (i / 64) 0) (i % 64)) → T (holds s (act t i .eff))
+  pub held : (i : ℕ) → i < 1024 → T (listed known i) → T (holds s (act t i .eff))
+
+-- none but action i came to the set
+abbrev pub WithOnly : ℕ → List ℕ → List ℕ → Type 0
+WithOnly i before after = (j : ℕ) → j < 1024 → T (listed after j) → (j ≡ i) ⊎ T (listed before j)
 
 -- the goals of the task, in the front of a list
 pub record GoalsOf (t : Task) (g : Goals) : Type 0 where

@@ -8,7 +8,7 @@ ghost use lib.ListN.{length, getD, set};
 ghost use Rattle.planning.specs.Runs.{actions, act, has, holds, look, step, initial, relaxed, black, size};
 ghost use Rattle.planning.specs.Newest.{initialValues, newer, alone};
 ghost use Rattle.task.specs.Task.{factsIn, taskIn, Loaded};
-ghost use Rattle.state.specs.Sets.{inSet, setsOf, valuesOf, modeOf, redBlackOf, choose, over, further, GoalsOf, Asked, Known};
+ghost use Rattle.state.specs.Sets.{inSet, setsOf, valuesOf, modeOf, redBlackOf, choose, over, further, GoalsOf, Asked, listed, Known, WithOnly};
 
 // The set of value x alone.
 pub fn single(x: usize) -> u64
@@ -75,13 +75,21 @@ pub fn knows_effects(sets: &[u64; 64], task: &[u16], i: usize, known: &mut [u64;
     requires { ⌜ Loaded (now task) × (i < actions (taskIn (now task))) × Known (taskIn (now task)) (setsOf (now sets)) (now known) ⌝ }
     ensures { λ r. ⌜ r ≡ holds (setsOf (now (sets .entry))) (act (taskIn (now (task .entry))) i .eff) ⌝ }
     ensures { λ _. ⌜ Known (taskIn (now (task .entry))) (step relaxed (act (taskIn (now (task .entry))) i) (setsOf (now (sets .entry)))) (now (known .exit)) ⌝ }
+    ensures { λ _. ⌜ WithOnly i (now (known .entry)) (now (known .exit)) ⌝ }
 {
-    let set = known[i / 64];
-    if member(set, i % 64) {
+    if is_listed(known, i) {
         return true;
     }
-    known[i / 64] = set | single(i % 64);
+    known[i / 64] = known[i / 64] | single(i % 64);
     has_effects(sets, task, i)
+}
+
+// Action i is in a set of actions, 16 sets of 64.
+pub fn is_listed(set: &[u64; 16], i: usize) -> bool
+    requires { ⌜ i < 1024 ⌝ }
+    ensures { λ r. ⌜ r ≡ listed (now (set .entry)) i ⌝ }
+{
+    member(set[i / 64], i % 64)
 }
 
 // Each fact from place `from` up to `to` is the newest value of its variable.

@@ -21,7 +21,7 @@ use Rattle.planning.proofs.Formed.{formed-of}
 use Rattle.bits.specs.Windows.{Leading}
 use Rattle.bits.proofs.Window.{bitsAt-add}
 use Rattle.record.proofs.Laws.{false-not, leading-fact, Run, run-start}
-use Rattle.task.specs.Task.{cell, factsIn, variableIn, actionIn, each, taskIn, Row, Loaded}
+use Rattle.task.specs.Task.{cell, headsAt, factsIn, variableIn, actionIn, each, taskIn, Row, Loaded}
 use Rattle.task.specs.Size.{factsOf, factsFrom, taskSize}
 use Rattle.task.specs.Loading.{RowWritten, FactsLoaded, Placed, ActionLoaded, ActionRead, VariablePlaced, VariableLoaded, Headed, RecordRead}
 use Rattle.task.proofs.Cut.{factOf-bits, factsOf-le, variable-cut}
@@ -172,13 +172,16 @@ pub record Heading (s before task : List ℕ) (v : ℕ) : Type 0 where
 pub heading-start : (s before task : List ℕ) (n m : ℕ) → RowWritten 0 n m 0 0 before task → n ≡ variablesIn s → m ≡ actionsIn s → Heading s task task 0
 heading-start s before task n m W en em = record { within = omega arith; long = refl; count = W .first ∙ en; actions′ = W .second ∙ em; so-far = λ w h. absurd (omega arith) }
 
-placed-kept : (s before after : List ℕ) (w n : ℕ) → ((k : ℕ) → k < n → getD after k 0 ≡ getD before k 0) → 4 * (1 + w) + 4 ≤ n → VariablePlaced s w before → VariablePlaced s w after
-placed-kept s before after w n kept h P = record {
-  count = kept (4 * (1 + w) + 0) (omega arith) ∙ P .count;
-  black = kept (4 * (1 + w) + 1) (omega arith) ∙ P .black;
-  init = kept (4 * (1 + w) + 2) (omega arith) ∙ P .init;
-  goal = kept (4 * (1 + w) + 3) (omega arith) ∙ P .goal;
+variable-as : (s before after : List ℕ) (w : ℕ) → ((d : ℕ) → d < 4 → cell after (1 + w) d ≡ cell before (1 + w) d) → VariablePlaced s w before → VariablePlaced s w after
+variable-as s before after w kept P = record {
+  count = kept 0 (omega arith) ∙ P .count;
+  black = kept 1 (omega arith) ∙ P .black;
+  init = kept 2 (omega arith) ∙ P .init;
+  goal = kept 3 (omega arith) ∙ P .goal;
 }
+
+placed-kept : (s before after : List ℕ) (w n : ℕ) → ((k : ℕ) → k < n → getD after k 0 ≡ getD before k 0) → 4 * (1 + w) + 4 ≤ n → VariablePlaced s w before → VariablePlaced s w after
+placed-kept s before after w n kept h P = variable-as s before after w (λ d l. kept (4 * (1 + w) + d) (omega arith)) P
 
 pub heading-turn : (s before task : List ℕ) (v : ℕ) → Heading s before task v → v < variablesIn s → (after : List ℕ) → VariableLoaded s v task after → Heading s before after (v + 1)
 heading-turn s before task v H h after A = record {
@@ -204,7 +207,7 @@ actions-as s n a en ea = rw (en, ea) refl
 
 -- the place of the first fact of action i
 unfoldable pub placeOf : List ℕ → ℕ → ℕ
-placeOf s i = 4 * (1361 + actionsIn s) + factsFrom s (22 + 20 * variablesIn s) i
+placeOf s i = 4 * (337 + actionsIn s) + factsFrom s (22 + 20 * variablesIn s) i
 
 -- the loop over actions: those before i are in the list
 pub record Loading (s before task : List ℕ) (at i to : ℕ) : Type 0 where
@@ -213,9 +216,9 @@ pub record Loading (s before task : List ℕ) (at i to : ℕ) : Type 0 where
   pub place : to ≡ placeOf s i
   pub long : length task ≡ length before
   pub head : Headed s task
-  pub rows : (j : ℕ) → j < i → Placed s (actionStart s j) (1361 + j) (placeOf s j) task
+  pub rows : (j : ℕ) → j < i → Placed s (actionStart s j) (337 + j) (placeOf s j) task
 
-pub loading-start : (s before task : List ℕ) (v n : ℕ) → v ≡ variablesIn s → n ≡ actionsIn s → Headed s task → length task ≡ length before → Loading s before task (22 + 20 * v) 0 (4 * (1361 + n))
+pub loading-start : (s before task : List ℕ) (v n : ℕ) → v ≡ variablesIn s → n ≡ actionsIn s → Headed s task → length task ≡ length before → Loading s before task (22 + 20 * v) 0 (4 * (337 + n))
 unfolding placeOf factsFrom actionsEnd
 loading-start s before task v n ev en H l = record {
   within = omega arith;
@@ -242,38 +245,42 @@ module _ (s : List ℕ) where
   placeOf-next : (i j : ℕ) → i < j → placeOf s i + factsOf s (actionStart s i) ≤ placeOf s j
   placeOf-next i j h = omega (arith, placeOf-more i, placeOf-mono (i + 1) j (omega arith))
 
-  placeOf-rows : (i : ℕ) → 4 * (1361 + actionsIn s) ≤ placeOf s i
+  placeOf-rows : (i : ℕ) → 4 * (337 + actionsIn s) ≤ placeOf s i
   unfolding placeOf
   placeOf-rows i = omega arith
 
-  placeOf-end : placeOf s (actionsIn s) + 4 ≡ taskSize s
+  placeOf-end : placeOf s (actionsIn s) + 64 * variablesIn s ≡ taskSize s
   unfolding placeOf taskSize
   placeOf-end = refl
 
+  pub loading-low : (before task : List ℕ) (at i to : ℕ) → Loading s before task at i to → actionsIn s ≤ 1024 → to ≤ 36164
+  unfolding placeOf
+  loading-low before task at i to L c = omega (arith, L .place, L .within, factsFrom-le s (22 + 20 * variablesIn s) i)
+
   module _ (before task : List ℕ) (at i to : ℕ) (L : Loading s before task at i to) (h : i < actionsIn s) where
-    pub loading-place : 1 ≤ variablesIn s → variablesIn s ≤ 64 → actionsIn s ≤ 1024 → (42 ≤ at) × (at ≤ 400000) × (4 * (1361 + i) + 4 ≤ to) × (to ≤ 65000)
+    pub loading-place : 1 ≤ variablesIn s → variablesIn s ≤ 64 → actionsIn s ≤ 1024 → (42 ≤ at) × (at ≤ 400000) × (4 * (337 + i) + 4 ≤ to) × (to ≤ 65000)
     unfolding placeOf
     loading-place a b c =
         let e = actionsEnd-is s (22 + 20 * variablesIn s) i in
         let l = factsFrom-le s (22 + 20 * variablesIn s) i in
         (omega (arith, L .bit), omega (arith, L .bit), omega (arith, L .place), omega (arith, L .place))
 
-    pub loading-room : taskSize s ≤ length before → to + factsOf s at + 4 ≤ length task
-    loading-room r = rw (L .bit, L .place) (omega (arith, placeOf-next i (actionsIn s) h, placeOf-end, L .long))
+    pub loading-room : 1 ≤ variablesIn s → taskSize s ≤ length before → to + factsOf s at + 4 ≤ length task
+    loading-room v r = rw (L .bit, L .place) (omega (arith, placeOf-next i (actionsIn s) h, placeOf-end, L .long))
 
     -- an action that is placed stays so
-    stays : (after : List ℕ) (n : ℕ) → ActionLoaded s at (1361 + i) to task after n → (j : ℕ) → j < i → Placed s (actionStart s j) (1361 + j) (placeOf s j) after
+    stays : (after : List ℕ) (n : ℕ) → ActionLoaded s at (337 + i) to task after n → (j : ℕ) → j < i → Placed s (actionStart s j) (337 + j) (placeOf s j) after
     stays after n A j l =
         let P = L .rows j l in
         record {
-          cost = A .kept-rows (4 * (1361 + j) + 0) (omega arith) ∙ P .cost;
-          pre = A .kept-rows (4 * (1361 + j) + 1) (omega arith) ∙ P .pre;
-          eff = A .kept-rows (4 * (1361 + j) + 2) (omega arith) ∙ P .eff;
-          end = A .kept-rows (4 * (1361 + j) + 3) (omega arith) ∙ P .end;
+          cost = A .kept-rows (4 * (337 + j) + 0) (omega arith) ∙ P .cost;
+          pre = A .kept-rows (4 * (337 + j) + 1) (omega arith) ∙ P .pre;
+          eff = A .kept-rows (4 * (337 + j) + 2) (omega arith) ∙ P .eff;
+          end = A .kept-rows (4 * (337 + j) + 3) (omega arith) ∙ P .end;
           facts = λ k b. A .kept-facts (placeOf s j + k) (omega (arith, placeOf-rows j)) (omega (arith, L .place, placeOf-next j i l)) ∙ P .facts k b;
         }
 
-    pub loading-turn : variablesIn s ≤ 64 → (after : List ℕ) (n : ℕ) → 0 < n → ActionLoaded s at (1361 + i) to task after (n - 1) → Loading s before after (at + (12 + 12 * n)) (i + 1) (to + (n - 1))
+    pub loading-turn : variablesIn s ≤ 64 → (after : List ℕ) (n : ℕ) → 0 < n → ActionLoaded s at (337 + i) to task after (n - 1) → Loading s before after (at + (12 + 12 * n)) (i + 1) (to + (n - 1))
     loading-turn few after n pos A =
         let c : n - 1 ≡ factsOf s (actionStart s i) = A .count ∙ ap (factsOf s) (L .bit) in
         record {
@@ -284,22 +291,22 @@ module _ (s : List ℕ) where
           head = record {
             variables = A .kept-rows 0 (omega arith) ∙ L .head .variables;
             actions = A .kept-rows 1 (omega arith) ∙ L .head .actions;
-            each = λ w b. placed-kept s task after w (4 * (1361 + i)) (A .kept-rows) (omega arith) (L .head .each w b);
+            each = λ w b. placed-kept s task after w (4 * (337 + i)) (A .kept-rows) (omega arith) (L .head .each w b);
           };
           rows = λ j b. go j b (ℕ-discrete j i);
         }
       where
-        here : Placed s (actionStart s i) (1361 + i) (placeOf s i) after
-        here = subst (λ x. Placed s x (1361 + i) (placeOf s i) after) (L .bit) (subst (λ x. Placed s at (1361 + i) x after) (L .place) (A .placed))
+        here : Placed s (actionStart s i) (337 + i) (placeOf s i) after
+        here = subst (λ x. Placed s x (337 + i) (placeOf s i) after) (L .bit) (subst (λ x. Placed s at (337 + i) x after) (L .place) (A .placed))
 
-        go : (j : ℕ) → j < i + 1 → Dec (j ≡ i) → Placed s (actionStart s j) (1361 + j) (placeOf s j) after
+        go : (j : ℕ) → j < i + 1 → Dec (j ≡ i) → Placed s (actionStart s j) (337 + j) (placeOf s j) after
         go j b (yes q) = rw q here
         go j b (no q) = stays after (n - 1) A j (omega arith)
 
-    pub action-ends : (after : List ℕ) (n : ℕ) → 0 < n → ActionLoaded s at (1361 + i) to task after (n - 1) → actionEnd s at ≡ at + (12 + 12 * n)
+    pub action-ends : (after : List ℕ) (n : ℕ) → 0 < n → ActionLoaded s at (337 + i) to task after (n - 1) → actionEnd s at ≡ at + (12 + 12 * n)
     action-ends after n pos A = omega (arith, A .count, actionEnd-is s at)
 
-    pub few-facts : (after : List ℕ) (n : ℕ) → ActionLoaded s at (1361 + i) to task after (n - 1) → n ≤ 31
+    pub few-facts : (after : List ℕ) (n : ℕ) → ActionLoaded s at (337 + i) to task after (n - 1) → n ≤ 31
     few-facts after n A = omega (arith, A .count, factsOf-le s at)
 
 -- facts read back from their numbers
@@ -314,7 +321,7 @@ factsIn-read s task a p (suc n) h f =
     rw (slice-cons a (a + suc n) task 0 (omega arith) h, e, factOf-bits s p, m, r) refl
 
 -- a placed action is what its row states
-placed-action : (s task : List ℕ) (i to at : ℕ) → Placed s at (1361 + i) to task → to + factsOf s at ≤ length task → actionIn task i ≡ actionAt s at
+placed-action : (s task : List ℕ) (i to at : ℕ) → Placed s at (337 + i) to task → to + factsOf s at ≤ length task → actionIn task i ≡ actionAt s at
 unfolding actionIn actionAt effectsFrom factsOf
 placed-action s task i to at P room =
     let p = preconditionsIn s at in
@@ -322,17 +329,18 @@ placed-action s task i to at P room =
     let eff : factsIn task (to + p) (to + p + effectsIn s at) ≡ factsAt s (at + 24 + 12 * p) (effectsIn s at) =
     factsIn-read s task (to + p) (at + 24 + 12 * p) (effectsIn s at) (omega arith)
     (λ k b. subst (λ x. getD task x 0 ≡ bitsAt s (at + 24 + 12 * p + 12 * k) 12) (omega arith) (P .facts (p + k) (omega arith) ∙ ap (λ (x : ℕ). bitsAt s x 12) (omega arith))) in
-    let end : cell task (1361 + i) 3 ≡ to + p + effectsIn s at = P .end ∙ omega arith in
+    let end : cell task (337 + i) 3 ≡ to + p + effectsIn s at = P .end ∙ omega arith in
     rw (P .cost, P .pre, P .eff, end, pre, eff) refl
 
-placed-row : (s task : List ℕ) (r to at : ℕ) → Placed s at r to task → to + factsOf s at ≤ length task → 4 * r + 4 ≤ length task → 5444 ≤ to → Row task r
+placed-row : (s task : List ℕ) (r to at : ℕ) → Placed s at r to task → to + factsOf s at ≤ headsAt task → 4 * r + 4 ≤ to → 1348 ≤ to → headsAt task ≤ length task → Row task r
 unfolding factsOf
-placed-row s task r to at P room h b = record {
-  room = h;
+placed-row s task r to at P fits h b room = record {
+  room = omega arith;
   behind = omega (arith, P .pre);
   pre-below = omega (arith, P .pre, P .eff);
   eff-below = omega (arith, P .eff, P .end);
   end-below = omega (arith, P .end);
+  apart = (omega arith, omega (arith, P .end));
 }
 
 -- a placed variable is what its row states: seven bits are a goal
@@ -352,28 +360,66 @@ task-ext : (t u : Task) → variables t ≡ variables u → actions t ≡ action
 unfolding variable act
 task-ext t u ev ea hv ha = rw (ext-getD noVariable (t .vars) (u .vars) ev hv, ext-getD noAction (t .acts) (u .acts) ea ha) refl
 
-module _ (s before task : List ℕ) (at i to : ℕ) (e : recordCheck s ≡ none) (r : taskSize s ≤ length before) (h : actionsIn s ≤ i) (L : Loading s before task at i to) where
-  placed : (j : ℕ) → j < actionsIn s → Placed s (actionStart s j) (1361 + j) (placeOf s j) task
+-- the place of the heads is written last: it stands in row 0, and nothing that is loaded does
+module _ (s before task : List ℕ) (at i to : ℕ) (L : Loading s before task at i to) where
+  kept : (k : ℕ) → (k ≡ 3 → ⊥) → getD (set task 3 to) k 0 ≡ getD task k 0
+  kept k h = getD-set-other task 3 k to 0 h
+
+  pub loading-headed : Loading s before (set task 3 to) at i to
+  loading-headed = record {
+    within = L .within;
+    bit = L .bit;
+    place = L .place;
+    long = length-set task 3 to ∙ L .long;
+    head = record {
+      variables = kept 0 (λ q. omega arith) ∙ L .head .variables;
+      actions = kept 1 (λ q. omega arith) ∙ L .head .actions;
+      each = λ v b. variable-as s task (set task 3 to) v (λ d _. kept (4 * (1 + v) + d) (λ q. omega arith)) (L .head .each v b);
+    };
+    rows = λ j b. let P = L .rows j b in record {
+      cost = kept (4 * (337 + j) + 0) (λ q. omega arith) ∙ P .cost;
+      pre = kept (4 * (337 + j) + 1) (λ q. omega arith) ∙ P .pre;
+      eff = kept (4 * (337 + j) + 2) (λ q. omega arith) ∙ P .eff;
+      end = kept (4 * (337 + j) + 3) (λ q. omega arith) ∙ P .end;
+      facts = λ k l. kept (placeOf s j + k) (λ q. omega (arith, placeOf-rows s j)) ∙ P .facts k l;
+    };
+  }
+
+module _ (s before task : List ℕ) (at i to : ℕ) (h : actionsIn s ≤ i) (L : Loading s before task at i to) where
+  last : to ≡ placeOf s (actionsIn s)
+  last = L .place ∙ ap (placeOf s) (omega (arith, L .within))
+
+  pub loading-size : to + 64 * variablesIn s ≡ taskSize s
+  loading-size = omega (arith, last, placeOf-end s)
+
+  placed : (j : ℕ) → j < actionsIn s → Placed s (actionStart s j) (337 + j) (placeOf s j) task
   placed j b = L .rows j (omega arith)
 
-  fits : (j : ℕ) → j < actionsIn s → placeOf s j + factsOf s (actionStart s j) ≤ length task
-  fits j b = omega (arith, placeOf-next s j (actionsIn s) b, placeOf-end s, L .long)
+  fits : (j : ℕ) → j < actionsIn s → placeOf s j + factsOf s (actionStart s j) ≤ to
+  fits j b = omega (arith, placeOf-next s j (actionsIn s) b, last)
 
-  pub loading-task : taskIn task ≡ taskOf s
-  loading-task =
-      let vs : variables (taskIn task) ≡ variablesIn s = taskIn-variables task ∙ L .head .variables in
-      let acs : actions (taskIn task) ≡ actionsIn s = taskIn-actions task ∙ L .head .actions in
-      task-ext (taskIn task) (taskOf s) (vs ∙ sym (taskOf-variables s)) (acs ∙ sym (taskOf-actions s))
-      (λ v b. let b′ : v < variablesIn s = omega arith in taskIn-variable task v b ∙ placed-variable s task v (L .head .each v b′) ∙ sym (taskOf-variable s v b′))
-      (λ j b. let b′ : j < actionsIn s = omega arith in taskIn-act task j b ∙ placed-action s task j (placeOf s j) (actionStart s j) (placed j b′) (fits j b′) ∙ sym (taskOf-act s j b′))
+  module _ (e : recordCheck s ≡ none) (r : to + 64 * variablesIn s ≤ length before) where
+    pub loading-task : taskIn task ≡ taskOf s
+    loading-task =
+        let vs : variables (taskIn task) ≡ variablesIn s = taskIn-variables task ∙ L .head .variables in
+        let acs : actions (taskIn task) ≡ actionsIn s = taskIn-actions task ∙ L .head .actions in
+        task-ext (taskIn task) (taskOf s) (vs ∙ sym (taskOf-variables s)) (acs ∙ sym (taskOf-actions s))
+        (λ v b. let b′ : v < variablesIn s = omega arith in taskIn-variable task v b ∙ placed-variable s task v (L .head .each v b′) ∙ sym (taskOf-variable s v b′))
+        (λ j b. let b′ : j < actionsIn s = omega arith in taskIn-act task j b
+        ∙ placed-action s task j (placeOf s j) (actionStart s j) (placed j b′) (omega (arith, fits j b′, L .long))
+        ∙ sym (taskOf-act s j b′))
 
-  pub loading-done : Loaded task
-  loading-done =
-      let room : 4 * (1361 + actionsIn s) ≤ length task = omega (arith, placeOf-rows s (actionsIn s), placeOf-end s, L .long) in
-      record {
-        formed = rw loading-task (formed-of s e);
-        head = omega arith;
-        rows =
-            λ j b. let b′ : j < actionsIn s = omega (arith, taskIn-actions task, L .head .actions) in placed-row s task (1361 + j) (placeOf s j)
-            (actionStart s j) (placed j b′) (fits j b′) (omega arith) (omega (arith, placeOf-rows s j));
-      }
+    pub loading-done : headsAt task ≡ to → Loaded task
+    loading-done q =
+        let rows = placeOf-rows s (actionsIn s) in
+        let l = L .long in
+        let o = last in
+        record {
+          formed = rw loading-task (formed-of s e);
+          head = omega arith;
+          rows =
+              λ j b. let b′ : j < actionsIn s = omega (arith, taskIn-actions task, L .head .actions) in
+              placed-row s task (337 + j) (placeOf s j) (actionStart s j) (placed j b′) (omega (arith, fits j b′))
+              (omega (arith, placeOf-rows s j)) (omega (arith, placeOf-rows s j)) (omega arith);
+          heads = record { behind = omega arith; room = omega (arith, taskIn-variables task, L .head .variables) };
+        }

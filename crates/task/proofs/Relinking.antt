@@ -7,64 +7,96 @@ use native.Mathlib.Omega.{arith}
 use lib.ListN.{length, getD, set, length-set}
 use native.Mathlib.Decide.{ℕ-discrete}
 use lib.Seq.{slice, slice-cons, slice-empty, getD-set-same, getD-set-other}
-use Rattle.planning.specs.Runs.{actions}
-use Rattle.task.specs.Task.{cell, factsIn, variableIn, actionIn, each, taskIn, preAt, effAt, endAt, Row, Loaded}
+use Rattle.planning.specs.Runs.{variables, actions}
+use Rattle.task.specs.Task.{linksEnd, cell, headsAt, factsIn, variableIn, actionIn, each, taskIn, preAt, effAt, endAt, Row, Heads, Loaded}
 use Rattle.task.specs.Links.{headAt, nextAt, Link, Relinked, Unlinked, linked}
 use Rattle.task.proofs.Reading.{taskIn-variables, taskIn-actions}
+
+-- the place of the heads is kept
+pub relinked-heads : (before after : List ℕ) → Relinked before after → headsAt after ≡ headsAt before
+relinked-heads before after R = R .kept 3 apart
+  where
+    apart : Link before 3 → ⊥
+    apart (inl e) = omega arith
+    apart (inr e) = omega (arith, e .0)
+
+link-back : (before after : List ℕ) → Relinked before after → (k : ℕ) → Link after k → Link before k
+link-back before after R k l = subst (λ (h : ℕ). (k ≡ 2) ⊎ ((260 ≤ k) × ((k < 1348) ⊎ (h ≤ k)))) (relinked-heads before after R) l
+
+pub heads-fewer : (m n : ℕ) (task : List ℕ) → m ≤ n → Heads n task → Heads m task
+heads-fewer m n task l H = record { behind = H .behind; room = omega (arith, H .room) }
+
+pub heads-kept : (n : ℕ) (before after : List ℕ) → Relinked before after → Heads n before → Heads n after
+heads-kept n before after R H = let e = relinked-heads before after R in record { behind = omega (arith, H .behind); room = omega (arith, H .room, R .long) }
 
 pub relinked-none : (task : List ℕ) → Relinked task task
 relinked-none task = record { long = refl; kept = λ k h. refl }
 
-pub relinked-set : (before after : List ℕ) (k w : ℕ) → Link k → Relinked before after → Relinked before (set after k w)
+pub relinked-set : (before after : List ℕ) (k w : ℕ) → Link before k → Relinked before after → Relinked before (set after k w)
 relinked-set before after k w l R = record {
   long = length-set after k w ∙ R .long;
   kept = λ j h. getD-set-other after k j w 0 (λ q. h (rw q l)) ∙ R .kept j h;
 }
 
 pub relinked-trans : (a b c : List ℕ) → Relinked a b → Relinked b c → Relinked a c
-relinked-trans a b c R S = record { long = S .long ∙ R .long; kept = λ k h. S .kept k h ∙ R .kept k h }
+relinked-trans a b c R S = record { long = S .long ∙ R .long; kept = λ k h. S .kept k (λ l. h (link-back a b R k l)) ∙ R .kept k h }
 
-pub relinked-link : (before after : List ℕ) (f i : ℕ) → f < 4096 → i < 1024 → Relinked before after → Relinked before (linked f i after)
+pub relinked-link : (before after : List ℕ) (f i : ℕ) → linksEnd ≤ headsAt before → i < 1024 → Relinked before after → Relinked before (linked f i after)
 unfolding linked
 relinked-link before after f i b c R =
-    relinked-set before (set after (4420 + i) (headAt after f)) (324 + f) i (inr (omega arith, omega arith))
-    (relinked-set before after (4420 + i) (headAt after f) (inr (omega arith, omega arith)) R)
+    let e = relinked-heads before after R in
+    relinked-set before (set after (324 + i) (headAt after f)) (headsAt after + f) i (inr (omega arith, inr (omega arith)))
+    (relinked-set before after (324 + i) (headAt after f) (inr (omega arith, inl (omega arith))) R)
 
 -- what is linked behind a new head
-module _ (task : List ℕ) (f i : ℕ) (b : f < 4096) (c : i < 1024) (n : 5444 ≤ length task) where
+module _ (task : List ℕ) (f i : ℕ) (c : i < 1024) (H : Heads (f + 1) task) where
+  heads-same : headsAt (linked f i task) ≡ headsAt task
+  heads-same = relinked-heads task (linked f i task) (relinked-link task task f i (H .behind) c (relinked-none task))
+
   pub head-new : headAt (linked f i task) f ≡ i
   unfolding linked
-  head-new = getD-set-same (set task (4420 + i) (headAt task f)) (324 + f) i 0 (rw (length-set task (4420 + i) (headAt task f)) (omega arith))
+  head-new =
+      rw heads-same
+      (getD-set-same (set task (324 + i) (headAt task f)) (headsAt task + f) i 0 (rw (length-set task (324 + i) (headAt task f)) (omega (arith, H .room))))
 
-  pub head-old : (g : ℕ) → g < 4096 → (g ≡ f → ⊥) → headAt (linked f i task) g ≡ headAt task g
+  pub head-old : (g : ℕ) → (g ≡ f → ⊥) → headAt (linked f i task) g ≡ headAt task g
   unfolding linked
-  head-old g h d =
-      getD-set-other (set task (4420 + i) (headAt task f)) (324 + f) (324 + g) i 0 (λ q. d (omega arith))
-      ∙ getD-set-other task (4420 + i) (324 + g) (headAt task f) 0 (λ q. omega arith)
+  head-old g d =
+      rw heads-same
+      (getD-set-other (set task (324 + i) (headAt task f)) (headsAt task + f) (headsAt task + g) i 0 (λ q. d (omega arith))
+      ∙ getD-set-other task (324 + i) (headsAt task + g) (headAt task f) 0 (λ q. omega (arith, H .behind)))
 
-  next-kept : (j : ℕ) → nextAt (linked f i task) j ≡ nextAt (set task (4420 + i) (headAt task f)) j
+  next-kept : (j : ℕ) → j < 1024 → nextAt (linked f i task) j ≡ nextAt (set task (324 + i) (headAt task f)) j
   unfolding linked
-  next-kept j = getD-set-other (set task (4420 + i) (headAt task f)) (324 + f) (4420 + j) i 0 (λ q. omega arith)
+  next-kept j l = getD-set-other (set task (324 + i) (headAt task f)) (headsAt task + f) (324 + j) i 0 (λ q. omega (arith, H .behind))
 
   pub next-new : nextAt (linked f i task) i ≡ headAt task f
-  next-new = next-kept i ∙ getD-set-same task (4420 + i) (headAt task f) 0 (omega arith)
+  next-new = next-kept i c ∙ getD-set-same task (324 + i) (headAt task f) 0 (omega (arith, H .behind, H .room))
 
-  pub next-old : (j : ℕ) → (j ≡ i → ⊥) → nextAt (linked f i task) j ≡ nextAt task j
-  next-old j d = next-kept j ∙ getD-set-other task (4420 + i) (4420 + j) (headAt task f) 0 (λ q. d (omega arith))
+  pub next-old : (j : ℕ) → j < 1024 → (j ≡ i → ⊥) → nextAt (linked f i task) j ≡ nextAt task j
+  next-old j l d = next-kept j l ∙ getD-set-other task (324 + i) (324 + j) (headAt task f) 0 (λ q. d (omega arith))
 
 -- heads one after the other
 pub unlinked-none : (task : List ℕ) → Unlinked 0 task task
 unlinked-none task = record { relinked = relinked-none task; heads = λ f l. absurd (omega arith) }
 
-pub unlinked-more : (before after : List ℕ) (f : ℕ) → f < 4096 → 5444 ≤ length before → Unlinked f before after → Unlinked (f + 1) before (set after (324 + f) 65535)
-unlinked-more before after f b n U = record {
-  relinked = relinked-set before after (324 + f) 65535 (inr (omega arith, omega arith)) (U .relinked);
-  heads = λ g l. go g l (ℕ-discrete g f);
-}
+pub unlinked-more : (before after : List ℕ) (f h : ℕ) → h ≡ headsAt before → Heads (f + 1) before → Unlinked f before after → Unlinked (f + 1) before (set after (h + f) 65535)
+unlinked-more before after f h e H U = record { relinked = R; heads = λ g l. go g l (ℕ-discrete g f) }
   where
-    go : (g : ℕ) → g < f + 1 → Dec (g ≡ f) → headAt (set after (324 + f) 65535) g ≡ 65535
-    go g l (yes e) = rw (e, getD-set-same after (324 + f) 65535 0 (omega (arith, U .relinked .long))) refl
-    go g l (no e) = rw (getD-set-other after (324 + f) (324 + g) 65535 0 (λ q. e (omega arith))) (U .heads g (omega arith))
+    R : Relinked before (set after (h + f) 65535)
+    R = relinked-set before after (h + f) 65535 (inr (omega (arith, H .behind), inr (omega arith))) (U .relinked)
+
+    same : headsAt (set after (h + f) 65535) ≡ h
+    same = relinked-heads before (set after (h + f) 65535) R ∙ sym e
+
+    old : headsAt after ≡ h
+    old = relinked-heads before after (U .relinked) ∙ sym e
+
+    go : (g : ℕ) → g < f + 1 → Dec (g ≡ f) → headAt (set after (h + f) 65535) g ≡ 65535
+    go g l (yes q) = rw (same, q) (getD-set-same after (h + f) 65535 0 (omega (arith, H .room, U .relinked .long)))
+    go g l (no q) =
+        rw same
+        (getD-set-other after (h + f) (h + g) 65535 0 (λ p. q (omega arith)) ∙ ap (λ (x : ℕ). getD after (x + g) 0) (sym old) ∙ U .heads g (omega arith))
 
 pub unlinked-all : (before after : List ℕ) (f n : ℕ) → f ≡ n → Unlinked f before after → Unlinked n before after
 unlinked-all before after f n e U = subst (λ (x : ℕ). Unlinked x before after) e U
@@ -82,23 +114,24 @@ unfolding each
 each-same f g a zero h = refl
 each-same f g a (suc n) h = rw (h a (omega arith) (omega arith), each-same f g (suc a) n (λ k x y. h k (omega arith) (omega arith))) refl
 
-outside-head : (k : ℕ) → k < 260 → (k ≡ 2 → ⊥) → Link k → ⊥
-outside-head k h n (inl e) = n e
-outside-head k h n (inr e) = omega (arith, e .0)
+outside-head : (task : List ℕ) (k : ℕ) → k < 260 → (k ≡ 2 → ⊥) → Link task k → ⊥
+outside-head task k h n (inl e) = n e
+outside-head task k h n (inr e) = omega (arith, e .0)
 
-outside-rows : (k : ℕ) → 5444 ≤ k → Link k → ⊥
-outside-rows k h (inl e) = omega arith
-outside-rows k h (inr e) = omega (arith, e .1)
+outside-rows : (task : List ℕ) (k : ℕ) → 1348 ≤ k → k < headsAt task → Link task k → ⊥
+outside-rows task k h l (inl e) = omega arith
+outside-rows task k h l (inr (o, inl e)) = omega arith
+outside-rows task k h l (inr (o, inr e)) = omega arith
 
 module _ (before after : List ℕ) (L : Loaded before) (R : Relinked before after) where
   head-kept : (k : ℕ) → k < 260 → (k ≡ 2 → ⊥) → getD after k 0 ≡ getD before k 0
-  head-kept k h n = R .kept k (outside-head k h n)
+  head-kept k h n = R .kept k (outside-head before k h n)
 
-  rows-kept : (k : ℕ) → 5444 ≤ k → getD after k 0 ≡ getD before k 0
-  rows-kept k h = R .kept k (outside-rows k h)
+  rows-kept : (k : ℕ) → 1348 ≤ k → k < headsAt before → getD after k 0 ≡ getD before k 0
+  rows-kept k h l = R .kept k (outside-rows before k h l)
 
-  cell-kept : (i d : ℕ) → cell after (1361 + i) d ≡ cell before (1361 + i) d
-  cell-kept i d = rows-kept (4 * (1361 + i) + d) (omega arith)
+  cell-kept : (i d : ℕ) → i < actions (taskIn before) → d < 4 → cell after (337 + i) d ≡ cell before (337 + i) d
+  cell-kept i d h l = rows-kept (4 * (337 + i) + d) (omega arith) (omega (arith, L .rows i h .apart .0))
 
   variable-kept : (v : ℕ) → v < 64 → variableIn after v ≡ variableIn before v
   unfolding variableIn
@@ -106,22 +139,24 @@ module _ (before after : List ℕ) (L : Loaded before) (R : Relinked before afte
       let k : (d : ℕ) → d < 4 → cell after (1 + v) d ≡ cell before (1 + v) d = λ d l. head-kept (4 * (1 + v) + d) (omega arith) (λ q. omega arith) in
       rw (k 0 (omega arith), k 1 (omega arith), k 2 (omega arith), k 3 (omega arith)) refl
 
-  facts-kept : (a b : ℕ) → 5444 ≤ a → a ≤ b → b ≤ length before → factsIn after a b ≡ factsIn before a b
+  facts-kept : (a b : ℕ) → 1348 ≤ a → a ≤ b → b ≤ headsAt before → factsIn after a b ≡ factsIn before a b
   unfolding factsIn
-  facts-kept a b h l m = rw (slice-same (b - a) a b after before (omega arith) (omega (arith, R .long)) m (λ k x y. rows-kept k (omega arith))) refl
+  facts-kept a b h l m =
+      let r = L .heads .room in
+      rw (slice-same (b - a) a b after before (omega arith) (omega (arith, R .long)) (omega arith) (λ k x y. rows-kept k (omega arith) (omega arith))) refl
 
   action-kept : (i : ℕ) → i < actions (taskIn before) → actionIn after i ≡ actionIn before i
   unfolding actionIn
   action-kept i h =
       let r = L .rows i h in
       rw (
-        cell-kept i 0,
-        cell-kept i 1,
-        cell-kept i 2,
-        cell-kept i 3,
+        cell-kept i 0 h (omega arith),
+        cell-kept i 1 h (omega arith),
+        cell-kept i 2 h (omega arith),
+        cell-kept i 3 h (omega arith),
         facts-kept (preAt before i) (effAt before i) (r .behind) (r .pre-below)
-            (omega (arith, r .eff-below, r .end-below)),
-        facts-kept (effAt before i) (endAt before i) (omega (arith, r .behind, r .pre-below)) (r .eff-below) (r .end-below),
+            (omega (arith, r .eff-below, r .apart .1)),
+        facts-kept (effAt before i) (endAt before i) (omega (arith, r .behind, r .pre-below)) (r .eff-below) (r .apart .1),
       ) refl
 
   pub relinked-task : taskIn after ≡ taskIn before
@@ -142,11 +177,22 @@ module _ (before after : List ℕ) (L : Loaded before) (R : Relinked before afte
   relinked-loaded = record {
     formed = rw relinked-task (L .formed);
     head = omega (arith, L .head, R .long);
-    rows = λ i h. let r = L .rows i (omega (arith, ap actions relinked-task)) in record {
-      room = omega (arith, r .room, R .long);
-      behind = omega (arith, r .behind, cell-kept i 1);
-      pre-below = omega (arith, r .pre-below, cell-kept i 1, cell-kept i 2);
-      eff-below = omega (arith, r .eff-below, cell-kept i 2, cell-kept i 3);
-      end-below = omega (arith, r .end-below, cell-kept i 3, R .long);
-    };
+    rows = λ i h. row i (omega (arith, ap actions relinked-task));
+    heads = rw relinked-task (heads-kept (64 * variables (taskIn before)) before after R (L .heads));
   }
+    where
+      row : (i : ℕ) → i < actions (taskIn before) → Row after (337 + i)
+      row i h =
+          let r = L .rows i h in
+          let e = relinked-heads before after R in
+          let c₁ = cell-kept i 1 h (omega arith) in
+          let c₂ = cell-kept i 2 h (omega arith) in
+          let c₃ = cell-kept i 3 h (omega arith) in
+          record {
+            room = omega (arith, r .room, R .long);
+            behind = omega (arith, r .behind);
+            pre-below = omega (arith, r .pre-below);
+            eff-below = omega (arith, r .eff-below);
+            end-below = omega (arith, r .end-below, R .long);
+            apart = (omega (arith, r .apart .0), omega (arith, r .apart .1));
+          }

@@ -1,7 +1,7 @@
 -- Bits and places go together: n actions take 24 bits each and 12 for each fact, so their facts, the end of the record and the
 -- size of the loaded task are one count.
 use mathlib.Core.Path.{_≡_, refl}
-use mathlib.Core.Bool.{Bool, true, false, _&&_}
+use mathlib.Core.Bool.{_&&_}
 use mathlib.Core.List.{List}
 use mathlib.Core.Option.{none}
 use Prim.Native.Nat.{ℕ, zero, suc, _+_, _-_, _*_, _/_, _≤_}
@@ -13,7 +13,7 @@ use Rattle.planning.specs.Record.{variablesIn, actionsIn, effectsFrom, actionEn
 use Rattle.planning.proofs.Tests.{and-l}
 use Rattle.planning.proofs.Fields.{taskOf-variables, taskOf-actions}
 use Rattle.planning.proofs.Formed.{parts, formed-of}
-use Rattle.task.specs.Size.{factsOf, factsFrom, taskSize, roomFor, RoomIn}
+use Rattle.task.specs.Size.{factsOf, factsFrom, taskSize, RoomIn}
 use Rattle.task.proofs.Cut.{factsOf-le}
 
 pub actionEnd-is : (s : List ℕ) (p : ℕ) → actionEnd s p ≡ p + 24 + 12 * factsOf s p
@@ -60,27 +60,27 @@ module _ (s : List ℕ) (e : recordCheck s ≡ none) where
   unfolding recordEnd
   fields-le = omega (arith, recordEnd-le, actionsEnd-is s (22 + 20 * variablesIn s) (actionsIn s))
 
-  -- 40,264 numbers serve every record
-  taskSize-max : taskSize s ≤ 40264
+  -- 40,260 numbers serve every record
+  pub taskSize-max : taskSize s ≤ 40260
   unfolding taskSize
-  taskSize-max = omega (arith, formed-of s e .actions-max, taskOf-actions s, factsFrom-le s (22 + 20 * variablesIn s) (actionsIn s))
+  taskSize-max =
+      let F = formed-of s e in
+      omega (arith, F .actions-max, taskOf-actions s, F .variables-max, taskOf-variables s, factsFrom-le s (22 + 20 * variablesIn s) (actionsIn s))
 
-  -- and 5,441 and four to every three bytes serve a short one
-  taskSize-bytes : 3 * taskSize s ≤ 16323 + 4 * length s
+  -- what bits are left behind the variables and the first 24 of each action bounds the facts
+  pub taskSize-bits : taskSize s ≤ (16154 + 748 * variablesIn s + 24 * actionsIn s + 8 * length s) / 12
   unfolding taskSize
-  taskSize-bytes = omega (arith, fields-le, formed-of s e .variables-min, taskOf-variables s)
+  taskSize-bits = omega (arith, fields-le)
 
--- which of the two lengths a record needs
-pub short-room : (s : List ℕ) → recordCheck s ≡ none → (b : Bool) → (T b → length s ≤ 2877) → taskSize s ≤ roomFor b
-short-room s e true h = omega (arith, h tt, taskSize-bytes s e)
-short-room s e false h = taskSize-max s e
+-- a list of k numbers, where n are enough; one for each length
+room-in : (s : List ℕ) (n k : ℕ) → (recordCheck s ≡ none → taskSize s ≤ n) → n ≤ k → 1348 ≤ k → RoomIn s (replicate k 0)
+room-in s n k h l b = let e = length-replicate {A = ℕ} k 0 in record { head = omega arith; enough = λ a. omega (arith, h a) }
 
--- a list of that length has room for the task
-pub room-in : (s l : List ℕ) (b c : Bool) → (recordCheck s ≡ none → taskSize s ≤ roomFor b) → b ≡ c → l ≡ replicate (roomFor c) 0 → RoomIn s l
-room-in s l b c h e q =
-    let n : length l ≡ roomFor c = rw q (length-replicate {A = ℕ} (roomFor c) 0) in
-    record { head = omega (arith, long c); enough = λ a. rw (n, ← e) (h a) }
-  where
-    long : (c : Bool) → 5444 ≤ roomFor c
-    long true = omega arith
-    long false = omega arith
+pub room-tiny : (s : List ℕ) (n : ℕ) → (recordCheck s ≡ none → taskSize s ≤ n) → n ≤ 3072 → RoomIn s (replicate 3072 0)
+room-tiny s n h l = room-in s n 3072 h l (omega arith)
+
+pub room-short : (s : List ℕ) (n : ℕ) → (recordCheck s ≡ none → taskSize s ≤ n) → n ≤ 9280 → RoomIn s (replicate 9280 0)
+room-short s n h l = room-in s n 9280 h l (omega arith)
+
+pub room-long : (s : List ℕ) → RoomIn s (replicate 40260 0)
+room-long s = room-in s 40260 40260 (taskSize-max s) (omega arith) (omega arith)

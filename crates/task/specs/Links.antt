@@ -12,10 +12,10 @@ use Rattle.planning.specs.Record.{Task}
 use Rattle.planning.specs.Runs.{has, actions, act, black}
 use Rattle.planning.specs.Painting.{reducedEffects, cyclic, unreturned}
 use Rattle.planning.specs.Repair.{order}
-use Rattle.task.specs.Task.{orderFrom, headsFrom, nextsFrom, linksEnd, cell, taskIn, Loaded}
+use Rattle.task.specs.Task.{orderFrom, nextsFrom, linksEnd, cell, headsAt, taskIn, Loaded}
 
 abbrev pub headAt : List ℕ → ℕ → ℕ
-headAt task f = getD task (headsFrom + f) 0
+headAt task f = getD task (headsAt task + f) 0
 
 abbrev pub nextAt : List ℕ → ℕ → ℕ
 nextAt task i = getD task (nextsFrom + i) 0
@@ -46,14 +46,14 @@ pub record Prepared (task : List ℕ) : Type 0 where
   pub few : cell task 0 2 ≤ 64
   pub ordered : orderIn task ≡ order (taskIn task)
 
--- a place of the three parts, or of the number of black variables
-abbrev pub Link : ℕ → Type 0
-Link k = (k ≡ 2) ⊎ ((orderFrom ≤ k) × (k < linksEnd))
+-- a place of the three parts, or of the number of black variables; nothing stands behind the heads
+abbrev pub Link : List ℕ → ℕ → Type 0
+Link task k = (k ≡ 2) ⊎ ((orderFrom ≤ k) × ((k < linksEnd) ⊎ (headsAt task ≤ k)))
 
 -- the list differs from what it was before in such places alone
 pub record Relinked (before after : List ℕ) : Type 0 where
   pub long : length after ≡ length before
-  pub kept : (k : ℕ) → (Link k → ⊥) → getD after k 0 ≡ getD before k 0
+  pub kept : (k : ℕ) → (Link before k → ⊥) → getD after k 0 ≡ getD before k 0
 
 -- no action is linked for the first n facts
 pub record Unlinked (n : ℕ) (before after : List ℕ) : Type 0 where
@@ -62,4 +62,4 @@ pub record Unlinked (n : ℕ) (before after : List ℕ) : Type 0 where
 
 -- action i in front of the chain of fact f
 unfoldable pub linked : ℕ → ℕ → List ℕ → List ℕ
-linked f i task = set (set task (nextsFrom + i) (headAt task f)) (headsFrom + f) i
+linked f i task = set (set task (nextsFrom + i) (headAt task f)) (headsAt task + f) i

@@ -1,6 +1,5 @@
 -- How long the loaded task of a record is.
 use mathlib.Core.Path.{_≡_}
-use mathlib.Core.Bool.{Bool, true, false}
 use mathlib.Core.List.{List}
 use mathlib.Core.Option.{none}
 use Prim.Native.Nat.{ℕ, zero, suc, _+_, _*_, _≤_}
@@ -17,14 +16,9 @@ unfoldable pub factsFrom : List ℕ → ℕ → ℕ → ℕ
 factsFrom s p zero = 0
 factsFrom s p (suc n) = factsOf s p + factsFrom s (actionEnd s p) n
 
--- the rows before those of actions, a row for each action, one number for each fact, and four, as facts are put down by fours
+-- the rows before those of actions, a row for each action, one number for each fact, and 64 for the heads of each variable
 unfoldable pub taskSize : List ℕ → ℕ
-taskSize s = 4 * (actionRows + actionsIn s) + factsFrom s (variableBit (variablesIn s)) (actionsIn s) + 4
-
--- the length of a list for it: a record is short, or not
-abbrev pub roomFor : Bool → ℕ
-roomFor true = 9280
-roomFor false = 40264
+taskSize s = 4 * (actionRows + actionsIn s) + factsFrom s (variableBit (variablesIn s)) (actionsIn s) + 64 * variablesIn s
 
 -- a list for the task of a record that may be accepted
 pub record RoomIn (s task : List ℕ) : Type 0 where

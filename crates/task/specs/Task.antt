@@ -1,39 +1,40 @@
 -- The loaded task: one list of numbers, in rows of four.
---   row 0          the number of variables, the number of actions, the number of black variables in the order, 0
+--   row 0          the number of variables, the number of actions, the number of black variables in the order, where the heads start
 --   row 1 + v      variable v: its count of values, 1 if it is black, its initial value, its goal (64 + value, or 0 for none)
 --   from 260 on    the clients-first order of the black variables                              64 places
---   from 324 on    for each fact 64 × variable + value the first action that changes to it     4,096 places
---   from 4,420 on  for each action the next one that changes to the same black fact            1,024 places
---   row 1361 + i   action i: its cost, where its preconditions start, where its effects start, where they end
+--   from 324 on    for each action the next one that changes to the same black fact            1,024 places
+--   row 337 + i    action i: its cost, where its preconditions start, where its effects start, where they end
 --   behind         facts, each 64 × variable + value
--- The loader writes all but the three parts from 260 on, which are written once the painting is looked at (Links.antt).
+--   behind these   the heads: for each fact 64 × variable + value the first action that changes to it; 64 places a variable
+-- The loader writes all but the order, the next actions and the heads, which are written once the painting is looked at (Links.antt).
 use mathlib.Core.List.{List, [], _∷_, map}
 use Prim.Native.Nat.{ℕ, zero, suc, _+_, _*_, _/_, _%_, _<_, _≤_}
 use lib.Dec.{eqb}
 use lib.ListN.{length, getD}
 use lib.Seq.{slice}
 use Rattle.planning.specs.Record.{Fact, Action, Variable, Task, goalOf}
-use Rattle.planning.specs.Runs.{actions}
+use Rattle.planning.specs.Runs.{variables, actions}
 use Rattle.planning.proofs.Formed.{Formed}
 
--- where the parts start: the order, the first actions and the next ones by the fact to which they change; the row of action 0; the end of those three
+-- where the parts start: the order, the next actions by the fact to which they change; the end of both; the row of action 0
 abbrev pub orderFrom : ℕ
 orderFrom = 260
 
-abbrev pub headsFrom : ℕ
-headsFrom = 324
-
 abbrev pub nextsFrom : ℕ
-nextsFrom = 4420
+nextsFrom = 324
 
 abbrev pub linksEnd : ℕ
-linksEnd = 5444
+linksEnd = 1348
 
 abbrev pub actionRows : ℕ
-actionRows = 1361
+actionRows = 337
 
 abbrev pub cell : List ℕ → ℕ → ℕ → ℕ
 cell task r k = getD task (4 * r + k) 0
+
+-- where the heads start
+abbrev pub headsAt : List ℕ → ℕ
+headsAt task = cell task 0 3
 
 unfoldable pub factOf : ℕ → Fact
 factOf w = record { var = w / 64; val = w % 64 }
@@ -82,16 +83,23 @@ taskIn task = record {
   acts = each (actionIn task) 0 (cell task 0 1);
 }
 
--- row r says where facts stand, and they are there, behind the fixed parts
+-- row r says where facts stand, and they are there, between the fixed parts and the heads
 pub record Row (task : List ℕ) (r : ℕ) : Type 0 where
   pub room : 4 * r + 4 ≤ length task
   pub behind : linksEnd ≤ cell task r 1
   pub pre-below : cell task r 1 ≤ cell task r 2
   pub eff-below : cell task r 2 ≤ cell task r 3
   pub end-below : cell task r 3 ≤ length task
+  pub apart : (4 * r + 4 ≤ headsAt task) × (cell task r 3 ≤ headsAt task)
+
+-- heads for n facts are there, behind the fixed parts
+pub record Heads (n : ℕ) (task : List ℕ) : Type 0 where
+  pub behind : linksEnd ≤ headsAt task
+  pub room : headsAt task + n ≤ length task
 
 -- the list states a task of an accepted record
 pub record Loaded (task : List ℕ) : Type 0 where
   pub formed : Formed (taskIn task)
   pub head : linksEnd ≤ length task
   pub rows : (i : ℕ) → i < actions (taskIn task) → Row task (actionRows + i)
+  pub heads : Heads (64 * variables (taskIn task)) task

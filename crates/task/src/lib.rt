@@ -11,20 +11,19 @@ ghost use Rattle.planning.specs.Runs.{variables, actions, variable, count, blac
 ghost use Rattle.answers.specs.Answers.{checkOf};
 ghost use Rattle.lists.specs.Four.{Spread};
 ghost use Rattle.record.specs.Stages.{Counts};
-ghost use Rattle.task.specs.Task.{orderFrom, linksEnd, taskIn, Loaded, costAt, preAt, effAt, endAt};
+ghost use Rattle.task.specs.Task.{orderFrom, linksEnd, taskIn, Heads, Loaded, costAt, preAt, effAt, endAt};
 ghost use Rattle.task.specs.Links.{headAt, nextAt, orderIn, linked, Unlinked, Prepared};
-ghost use Rattle.task.specs.Size.{taskSize, roomFor, RoomIn};
+ghost use Rattle.task.specs.Size.{taskSize, RoomIn};
 ghost use Rattle.task.specs.Loading.{RowWritten, FactsFit, FactsRead, ActionRead, VariableRead, VariablesRead, Begun, RecordRead, TaskRead};
 ghost use Rattle.task.specs.Goals.{optionOf};
 
-// Where the parts of the list start: the order, the first actions and the next ones by the fact they set; and the row of action 0.
+// Where parts of the list start: the order, the next actions by the fact that they set; and the row of action 0. The place of the heads
+// stands in the list.
 const ORDER: usize = 260;
 
-const HEADS: usize = 324;
+const NEXTS: usize = 324;
 
-const NEXTS: usize = 4420;
-
-const ACTION_ROWS: usize = 1361;
+const ACTION_ROWS: usize = 337;
 
 // The number of variables.
 pub fn variables(task: &[u16]) -> usize
@@ -117,10 +116,11 @@ pub fn eff_end(task: &[u16], i: usize) -> usize
 
 // The first action that changes a black variable to fact f, as it was linked.
 pub fn first_mover(task: &[u16], f: usize) -> usize
-    requires { ⌜ Loaded (now task) × (f < 4096) ⌝ }
+    requires { ⌜ Loaded (now task) × (f < 64 * variables (taskIn (now task))) ⌝ }
     ensures { λ r. ⌜ r ≡ headAt (now (task .entry)) f ⌝ }
 {
-    lists::wide(task[HEADS + f])
+    let heads = lists::wide(task[3]);
+    lists::wide(task[heads + f])
 }
 
 // The next action that changes it to the same fact as action i, as it was linked.
@@ -149,23 +149,25 @@ pub fn order_at(task: &[u16], p: usize) -> usize
 
 // No action is linked for the first n facts.
 pub fn unlink(task: &mut [u16], n: usize)
-    requires { ⌜ (n ≤ 4096) × (linksEnd ≤ length (now task)) ⌝ }
+    requires { ⌜ Heads n (now task) ⌝ }
     ensures { λ _. ⌜ Unlinked n (now (task .entry)) (now (task .exit)) ⌝ }
 {
+    let heads = lists::wide(task[3]);
     let mut f = 0;
     while f < n {
-        task[HEADS + f] = 65535;
+        task[heads + f] = 65535;
         f += 1;
     }
 }
 
 // Action i in front of the chain of fact f.
 pub fn link(task: &mut [u16], f: usize, i: usize)
-    requires { ⌜ (f < 4096) × (i < 1024) × (linksEnd ≤ length (now task)) ⌝ }
+    requires { ⌜ Heads (f + 1) (now task) × (i < 1024) ⌝ }
     ensures { λ _. ⌜ now (task .exit) ≡ linked f i (now (task .entry)) ⌝ }
 {
-    task[NEXTS + i] = task[HEADS + f];
-    task[HEADS + f] = i as u16;
+    let heads = lists::wide(task[3]);
+    task[NEXTS + i] = task[heads + f];
+    task[heads + f] = i as u16;
 }
 
 // Variable v at place k of the order.
@@ -329,7 +331,7 @@ fn load_variables(
     true
 }
 
-// The actions and the end of a record whose header and variables are loaded.
+// The actions and the end of a record whose header and variables are loaded; heads have their room behind the facts.
 fn load_actions(
     bytes: &[u8],
     variables: usize,
@@ -356,6 +358,7 @@ fn load_actions(
     let Number::Value(_) = e else {
         return false;
     };
+    task[3] = to as u16;
     true
 }
 
@@ -380,16 +383,29 @@ fn load(bytes: &[u8], task: &mut [u16]) -> bool
     load_actions(bytes, variables, count, &counts, task)
 }
 
-// Lengths of a list for a loaded task: one for the short records, one for every record.
+// Lengths of a list for a loaded task; one of LONG numbers is enough for every record.
+pub const TINY: usize = 3072;
+
 pub const SHORT: usize = 9280;
 
-pub const LONG: usize = 40264;
+pub const LONG: usize = 40260;
 
-// A list of SHORT numbers is enough for an accepted record that is short; for any other one of LONG is.
-pub fn is_short(bytes: &[u8]) -> bool
-    ensures { λ r. ⌜ (recordCheck (now (bytes .entry)) ≡ none → taskSize (now (bytes .entry)) ≤ roomFor r) ⌝ }
+// A length that is enough for an accepted record, by its header and its number of bytes: an action takes 24 bits and 4 numbers, a fact
+// 12 bits and one, a variable 20 bits and 64. No record has more than 49,315 bytes.
+pub fn room_for(bytes: &[u8]) -> usize
+    ensures { λ r. ⌜ (recordCheck (now (bytes .entry)) ≡ none → taskSize (now (bytes .entry)) ≤ r) ⌝ }
 {
-    bytes.len() <= 2877
+    let n = bytes.len();
+    if n < 3 {
+        return 0;
+    }
+    if 49315 < n {
+        return LONG;
+    }
+    let head = bits::read_bits(bytes, 0, 22);
+    let variables = (head / 2048 % 128) as usize;
+    let count = (head % 2048) as usize;
+    (16154 + 748 * variables + 24 * count + 8 * n) / 12
 }
 
 // The record's check, and its task if it is accepted: one pass does both. Where it fails the check says why, and is never passed.

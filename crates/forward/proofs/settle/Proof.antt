@@ -2,7 +2,7 @@ use borrow.Author.Needs.{needs}
 use mathlib.Core.Path.{_≡_, refl, ap, _∙_}
 use Prim.Native.Nat.{_+_, _*_}
 use native.Mathlib.Omega.{arith}
-use lib.ListN.{getD}
+use lib.ListN.{getD, length-set}
 use Rattle.task.specs.Task.{effAt}
 use Rattle.state.specs.Sets.{setsOf}
 use Rattle.state.proofs.Listed.{Listed}
@@ -20,7 +20,7 @@ abbrev wide3-to-wide2 : tie.After-wide3 → tie.After-wide2
 wide3-to-wide2 c = c .before .before .before
 
 abbrev start₂ : tie.After-wide2 → tie.Start
-start₂ c = wide2-to-wide c .before .before
+start₂ c = wide2-to-wide c .before .before .before
 
 abbrev start : tie.After-unmet → tie.Start
 start c = start₂ (wide3-to-wide2 (c .before))
@@ -55,8 +55,8 @@ add-wide c = search needs
 mul-wide-2 : tie.Need-mul-wide-2
 mul-wide-2 c = search needs
 
-element-copy-out-wide-2 : tie.Need-element-copy-out-wide-2
-element-copy-out-wide-2 c = search needs
+slice-read-wide : tie.Need-slice-read-wide
+slice-read-wide c = search needs
 
 wide-requires-3 : tie.Need-wide-requires-3
 wide-requires-3 c κs = tt
@@ -93,9 +93,9 @@ looked c = passing-more _ _ _ _ _ _ (start c .pre .1 .1) (found c .passing)
 
 cast-work : tie.Need-cast-work
 cast-work c =
-    let at-known = wide2-to-wide (wide3-to-wide2 (c .before)) .before in
+    let at-known = wide2-to-wide (wide3-to-wide2 (c .before)) .before .before in
     let a = start c .args in
-    record { fits = omega (arith, found c .passing .to, at-known .shared-slice-known .given (4 * (1361 + getD (a .order .now) (a .j) 0) + 2)) }
+    record { fits = omega (arith, found c .passing .to, at-known .shared-slice-known .given (4 * (337 + getD (a .order .now) (a .j) 0) + 2)) }
 
 add-work : tie.Need-add-work
 add-work c = search needs
@@ -103,8 +103,8 @@ add-work c = search needs
 mul-work : tie.Need-mul-work
 mul-work c = search needs
 
-element-write-work : tie.Need-element-write-work
-element-write-work c = search needs
+slice-write-work : tie.Need-slice-write-work
+slice-write-work c = search needs
 
 mul-wide-3 : tie.Need-mul-wide-3
 mul-wide-3 c =
@@ -122,29 +122,39 @@ wide-requires-4 : tie.Need-wide-requires-4
 wide-requires-4 c κs = tt
 
 waiting : (c : tie.After-wide4) → let u = wide4-to-unmet c in let a = start u .args in
-    Waits (setsOf (a .sets .now)) (a .task .now) (getD (a .order .now) (a .j) 0) (u .unmet .result) (listed u) (looked u) (c .wide4 .result)
+    Waits (setsOf (a .sets .now)) (a .task .now) (getD (a .order .now) (a .j) 0) (u .unmet .result) (start u .pre .0 .0) (listed u) (looked u) (c .wide4 .result)
 waiting c =
     let u = wide4-to-unmet c in
-    unmet-waits _ _ _ _ (listed u) (looked u) (omega (arith, to-is (u .before))) _ (c .wide4 .ensures) (found u .open′ (omega (arith, to-is (u .before))))
+    unmet-waits _ _ _ _ (start u .pre .0 .0) (listed u) (looked u) (omega (arith, to-is (u .before))) _ (c .wide4 .ensures) (found u .open′ (omega (arith, to-is (u .before))))
 
 hang-requires : tie.Need-hang-requires
-hang-requires c κs = (waiting c .small, start (wide4-to-unmet c) .pre .0 .1)
+hang-requires c κs =
+    let p = start (wide4-to-unmet c) .pre in
+    let b = waiting c .small in
+    (omega (arith, b, p .0 .0 .formed .variables-max), rw length-set (omega (arith, b, p .1 .2)), p .0 .1)
 
 mark-requires : tie.Need-mark-requires
 mark-requires c κs = search needs
 
+same-length : tie.Need-same-length
+same-length c = (rw length-set at (c .before .work .given))
+
 returns : tie.Need-returns
 returns c =
-    let W = waiting (c .before) in
-    let u = wide4-to-unmet (c .before) in
+    let at-hang = c .before .before in
+    let W = waiting (at-hang .before) in
+    let u = wide4-to-unmet (at-hang .before) in
     let e = wide2-to-wide (wide3-to-wide2 (u .before)) .wide .ensures in
-    waits _ (looked u) _ (W .small) (W .needs) (W .open′) (rw e at (c .hang .ensures)) refl
+    waits _ (looked u) _ (W .small) (W .needs) (W .open′) (rw e at (at-hang .hang .ensures)) refl
+
+same-length-2 : tie.Need-same-length-2
+same-length-2 c = search needs
 
 returns-2 : tie.Need-returns-2
 returns-2 c =
     let u = c .before .before .before in
     let e = wide2-to-wide (wide3-to-wide2 (u .before)) .wide .ensures in
-    goes _ (looked u) (unmet-goes _ _ _ _ (listed u) (looked u) (omega (arith, to-is (u .before)))) (rw e at (c .mark .ensures)) (rw e refl)
+    goes _ (looked u) (unmet-goes _ _ _ _ (start u .pre .0 .0) (listed u) (looked u) (omega (arith, to-is (u .before)))) (rw e at (c .mark .ensures)) (rw e refl)
 
 pub settle-spec : {M : Type 1} → statement M
 settle-spec =
@@ -157,17 +167,19 @@ settle-spec =
     eff-start-requires
     add-wide
     mul-wide-2
-    element-copy-out-wide-2
+    slice-read-wide
     wide-requires-3
     unmet-requires
     cast-work
     add-work
     mul-work
-    element-write-work
+    slice-write-work
     mul-wide-3
     shared-slice-read-wide
     wide-requires-4
     hang-requires
     mark-requires
+    same-length
     returns
+    same-length-2
     returns-2)

@@ -1,9 +1,9 @@
 use borrow.Author.Needs.{needs}
-use mathlib.Core.Path.{_≡_, ap, _∙_}
+use mathlib.Core.Path.{_≡_, refl, ap, _∙_}
 use mathlib.Core.List.{[]}
 use Prim.Native.Nat.{ℕ, _+_, _*_, _-_, _<_, _≤_}
 use native.Mathlib.Omega.{arith}
-use lib.ListN.{getD}
+use lib.ListN.{length, getD, length-set}
 use Rattle.planning.specs.Runs.{has, actions}
 use Rattle.task.specs.Task.{preAt, taskIn}
 use Rattle.state.specs.Sets.{setsOf}
@@ -15,13 +15,13 @@ use Rattle.forward.proofs.settle_each.Tie as tie
 
 -- The actions of ranks below j are settled; the next one is on no chain, so it can be put in front of what is left to settle.
 abbrev Inv-loop : tie.InvT-loop
-Inv-loop sets task order work₀ ready₀ n j₀ work ready j = (n ≡ actions (taskIn task)) × (j ≤ n) × Entered task order (setsOf sets) (has []) work ready j
+Inv-loop sets task order work₀ ready₀ n j₀ work ready j = (n ≡ actions (taskIn task)) × (j ≤ n) × Entered task order (setsOf sets) (has []) work ready j × (length work ≡ length work₀)
 
 abbrev μ-loop : tie.MeasureT-loop
 μ-loop sets task order work₀ ready₀ n j₀ work ready j = n - j
 
 abbrev start : tie.At-loop Inv-loop μ-loop → tie.Start Inv-loop μ-loop
-start c = c .before .before .before
+start c = c .before .before .before .before
 
 abbrev order-at : tie.At-loop Inv-loop μ-loop → ℕ
 order-at c = getD (start c .args .order .now) (c .loop .j) 0
@@ -50,8 +50,8 @@ actions-requires c κs = search needs
 
 loop-holds : tie.Need-loop-holds Inv-loop μ-loop
 loop-holds c =
-    let p = c .before .before .pre in
-    (c .actions .ensures, omega arith, entered-start (p .2) (p .3))
+    let p = c .before .before .before .pre in
+    (c .actions .ensures, omega arith, entered-start (omega (arith, p .0 .formed .variables-max)) (p .2) (p .3), refl)
 
 mul-wide : tie.Need-mul-wide Inv-loop μ-loop
 mul-wide c = record { fits = omega (arith, near c) }
@@ -70,7 +70,7 @@ pre-start-requires c κs =
 cast-work : tie.Need-cast-work Inv-loop μ-loop
 cast-work c =
     let head = pre-start-to-in c .before in
-    record { fits = omega (arith, place c, head .before .before .shared-slice-known .given (4 * (1361 + order-at head) + 1)) }
+    record { fits = omega (arith, place c, head .before .before .before .shared-slice-known .given (4 * (337 + order-at head) + 1)) }
 
 add-work : tie.Need-add-work Inv-loop μ-loop
 add-work c = record { fits = omega (arith, near (pre-start-to-in c)) }
@@ -78,8 +78,10 @@ add-work c = record { fits = omega (arith, near (pre-start-to-in c)) }
 mul-work : tie.Need-mul-work Inv-loop μ-loop
 mul-work c = record { fits = omega (arith, near (pre-start-to-in c)) }
 
-element-write-work : tie.Need-element-write-work Inv-loop μ-loop
-element-write-work c = omega (arith, near (pre-start-to-in c))
+slice-write-work : tie.Need-slice-write-work Inv-loop μ-loop
+slice-write-work c =
+    let inside = pre-start-to-in c in
+    omega (arith, near inside, inside .before .loop .inv .2 .sites .long)
 
 cast-settle : tie.Need-cast-settle Inv-loop μ-loop
 cast-settle c = record { fits = omega (arith, near (pre-start-to-in (c .before .before))) }
@@ -90,7 +92,7 @@ settle-requires c κs =
     let L = listed inside in
     let E = inside .before .loop .inv .2 in (
       (start (inside .before) .pre .0, near inside, named inside),
-      (E .sites .ready-sound, entered-place E (near inside) (named inside) _ (place (c .before .before)) (L .pre-below)),
+      (E .sites .ready-sound, entered-place E (near inside) (named inside) _ (place (c .before .before)) (L .pre-below), rw length-set (E .sites .long)),
     )
 
 add-j : tie.Need-add-j Inv-loop μ-loop
@@ -101,9 +103,14 @@ loop-less c = search needs
 
 loop-again : tie.Need-loop-again Inv-loop μ-loop
 loop-again c =
-    let inside = pre-start-to-in (c .before .before .before) in
+    let at-settle = c .before .before in
+    let inside = pre-start-to-in (at-settle .before .before .before) in
     let I = inside .before .loop .inv in
-    (I .0, omega arith, entered-turn (I .2) (near inside) (named inside) _ (place (c .before .before .before)) (listed inside .pre-below) _ _ (c .settle .ensures))
+    let long = (rw length-set at (c .before .work .given)) ∙ I .3 in
+    (I .0, omega arith, entered-turn (I .2) (near inside) (named inside) _ (place (at-settle .before .before .before)) (listed inside .pre-below) _ _ (at-settle .settle .ensures), long)
+
+same-length : tie.Need-same-length Inv-loop μ-loop
+same-length c = search needs
 
 returns : tie.Need-returns Inv-loop μ-loop
 returns c =
@@ -127,10 +134,11 @@ settle-each-spec =
     cast-work
     add-work
     mul-work
-    element-write-work
+    slice-write-work
     cast-settle
     settle-requires
     add-j
     loop-less
     loop-again
+    same-length
     returns)

@@ -97,7 +97,7 @@ loop-again c =
     let t = turn-of (j .before) in
     let held = sym (k .knows-effects .ensures .0) ∙ c .before .before .before .if3 .taken in (
       following-held _ _ (start-of t .pre .loaded .formed) _ _ _ _ (t .before .loop .inv .0) (omega arith) _ refl _ _ (j .before .further .ensures) (goes j) held (c .before .step .ensures),
-      known-held _ _ _ _ held (k .knows-effects .ensures .1),
+      known-held _ _ _ _ held (k .knows-effects .ensures .1 .0),
     )
 
 step-requires-2 : tie.Need-step-requires-2 Inv-loop μ-loop
@@ -113,7 +113,7 @@ loop-again-2 c =
     let t = turn-of (j .before) in
     let E = c .step2 .ensures in (
       following-turn _ _ (start-of t .pre .loaded .formed) _ _ _ _ (t .before .loop .inv .0) (omega arith) _ refl _ _ _ (j .before .further .ensures) (goes j) (E .0) (E .1),
-      rw (c .step2 .ensures .0) (k .knows-effects .ensures .1),
+      rw (c .step2 .ensures .0) (k .knows-effects .ensures .1 .0),
     )
 
 returns : tie.Need-returns Inv-loop μ-loop

@@ -1,28 +1,32 @@
 -- One precondition that is not marked is enough; else the walk tells.
-use mathlib.Core.Path.{_≡_, refl, sym, ap, _∙_}
+use mathlib.Core.Path.{refl, sym, ap, _∙_}
 use Prim.Native.Nat.{_+_, _<_}
 use native.Mathlib.Omega.{arith}
+use lib.ListN.{length}
 use Rattle.planning.specs.Runs.{act, holds}
-use Rattle.task.specs.Task.{taskIn, factsIn}
 use Rattle.state.proofs.Listing.{loaded-listed}
 use Rattle.state.specs.Sets.{Facts}
 use Rattle.graph.proofs.Rows.{listed-preconditions}
 use Rattle.painting.specs.Returns.{marked}
-use Rattle.painting.proofs.Walks.{pre-facts, unmarked-at}
+use Rattle.painting.proofs.Walks.{need-inside, pre-facts, unmarked-at}
 use borrow.Author.Needs.{needs}
 use borrow.Author.Tests.{eq-eqb, ne-eqb}
 use Rattle.painting.proofs.all_marked.Statement.{statement}
 use Rattle.painting.proofs.all_marked.Tie as tie
 
-front : (e : tie.After-eff-start) → Facts (e .before .before .before .args .task .now) (e .before .pre-start .result) (e .eff-start .result)
+front : (e : tie.After-eff-start) → Facts (e .before .before .before .before .args .task .now) (e .before .pre-start .result) (e .eff-start .result)
 front e =
-    let p = e .before .before .before .pre in
+    let p = e .before .before .before .before .pre in
     listed-preconditions _ _ (loaded-listed _ (p .0) _ (p .1)) _ _ (e .before .pre-start .ensures) (e .eff-start .ensures)
 
-seen-small : (c : tie.After-wide2) → c .wide2 .result < 4096
-seen-small c =
+seen-inside : (c : tie.After-wide2) → c .wide2 .result < length (c .before .before .before .before .before .before .before .before .before .args .marks .now)
+seen-inside c =
     let e = c .before .before .before .before .before in
-    omega (arith, c .wide2 .ensures, front e .small (e .before .pre-start .result + c .before .before .before .wide .result) (omega arith) (omega arith))
+    let s = e .before in
+    let z = s .before .before .before in
+    let p = z .pre in
+    let k = s .pre-start .result + c .before .before .before .wide .result in
+    omega (arith, c .wide2 .ensures, need-inside _ (z .args .marks .now) (p .0) _ (p .1) (p .2) _ _ (s .pre-start .ensures) (e .eff-start .ensures) k (omega arith) (omega arith))
 
 pre-start-requires : tie.Need-pre-start-requires
 pre-start-requires c κs = search needs
@@ -55,17 +59,17 @@ wide-requires-2 : tie.Need-wide-requires-2
 wide-requires-2 c κs = search needs
 
 mul-if2 : tie.Need-mul-if2
-mul-if2 c = omega (arith, seen-small c)
+mul-if2 c = omega (arith, seen-inside c)
 
-element-copy-out-if2 : tie.Need-element-copy-out-if2
-element-copy-out-if2 c = omega (arith, seen-small c)
+shared-slice-read-if2 : tie.Need-shared-slice-read-if2
+shared-slice-read-if2 c = omega (arith, seen-inside (c .before))
 
 returns : tie.Need-returns
 returns c =
     let w = c .before .before in
     let e = w .before .before .before .before .before in
-    let p = e .before .before .before .pre in
-    let a = e .before .before .before .args in
+    let p = e .before .before .before .before .pre in
+    let a = e .before .before .before .before .args in
     let L = loaded-listed _ (p .0) _ (p .1) in
     let u = unmarked-at (a .task .now) (a .marks .now) (a .i) (w .before .before .before .wide .result)
     (e .before .pre-start .result) (e .eff-start .result) _
@@ -111,7 +115,7 @@ all-marked-spec =
     shared-slice-read-wide
     wide-requires-2
     mul-if2
-    element-copy-out-if2
+    shared-slice-read-if2
     returns
     first-unmarked-requires
     returns-2

@@ -17,13 +17,13 @@ add-is-returned c = search needs
 
 is-returned-requires : tie.Need-is-returned-requires
 is-returned-requires c κs =
-    let p = c .before .before .before .pre in
-    record { loaded = p .0 .loaded; chained = p .0 .chained; small = omega (arith, p .0 .small, p .1); on = rw (fact-var _ _ (p .1)) (p .0 .on) }
+    let p = c .before .before .before .before .pre in
+    (record { loaded = p .0 .loaded; chained = p .0 .chained; small = omega (arith, p .0 .small, p .1); on = rw (fact-var _ _ (p .1)) (p .0 .on) }, p .2)
 
 returns-2 : tie.Need-returns-2
 returns-2 c =
     let e = c .before .before in
-    let p = e .before .before .pre in
+    let p = e .before .before .before .pre in
     c .is-returned .ensures ∙ rw (fact-var _ _ (p .1), fact-val _ _ (p .1), ne-eqb _ _ (e .if1 .left)) refl
 
 pub arc-returned-spec : {M : Type 1} → statement M

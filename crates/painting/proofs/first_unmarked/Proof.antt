@@ -1,13 +1,14 @@
 use mathlib.Core.Bool.{Bool}
 use mathlib.Core.Path.{refl, _∙_}
-use Prim.Native.Nat.{_-_, _≤_}
+use Prim.Native.Nat.{_-_, _<_, _≤_}
 use native.Mathlib.Omega.{arith}
+use lib.ListN.{length}
 use Rattle.planning.specs.Runs.{act, holds}
 use Rattle.task.specs.Task.{taskIn}
 use Rattle.state.proofs.Listing.{loaded-listed}
 use Rattle.graph.proofs.Rows.{listed-preconditions}
 use Rattle.painting.specs.Returns.{marked}
-use Rattle.painting.proofs.Walks.{Walking, walking-start, walking-turn, walking-hit, walking-end, walking-small, pre-facts, marked-hit, marked-skip, marked-none, stops-before, stops-at}
+use Rattle.painting.proofs.Walks.{Walking, walking-start, walking-turn, walking-hit, walking-end, need-inside, pre-facts, marked-hit, marked-skip, marked-none, stops-before, stops-at}
 use borrow.Author.Needs.{needs}
 use Rattle.painting.proofs.first_unmarked.Statement.{statement}
 use Rattle.painting.proofs.first_unmarked.Tie as tie
@@ -28,7 +29,7 @@ pre-start-requires c κs = search needs
 loop-holds : tie.Need-loop-holds Inv-loop μ-loop
 loop-holds c =
     let e = c .before in
-    let p = e .before .before .pre in
+    let p = e .before .before .before .pre in
     let L = loaded-listed _ (p .0) _ (p .1) in
     (omega arith, walking-start _ _ _ _ _ _ (listed-preconditions _ _ L _ _ (c .pre-start .ensures) (e .eff-start .ensures)) (pre-facts _ _ L _ _ (c .pre-start .ensures) (e .eff-start .ensures)))
 
@@ -41,11 +42,19 @@ shared-slice-read-wide c = let l = c .before .before in omega (arith, l .loop .i
 wide-requires : tie.Need-wide-requires Inv-loop μ-loop
 wide-requires c κs = search needs
 
-mul-if1 : tie.Need-mul-if1 Inv-loop μ-loop
-mul-if1 c = let l = c .before .before .before in let q = walking-small _ _ _ _ _ _ (l .loop .inv .1) (omega arith) _ (c .wide .ensures) in omega (arith, q)
+inside : (c : tie.After-wide Inv-loop μ-loop) → c .wide .result < length (c .before .before .before .before .before .before .before .before .args .marks .now)
+inside c =
+    let l = c .before .before .before in
+    let s = l .before in
+    let z = s .before .before .before .before in
+    let p = z .pre in
+    omega (arith, c .wide .ensures, need-inside _ (z .args .marks .now) (p .0) _ (p .1) (p .2) _ _ (s .pre-start .ensures) (s .before .eff-start .ensures) (l .loop .k) (omega arith) (omega arith))
 
-element-copy-out-if1 : tie.Need-element-copy-out-if1 Inv-loop μ-loop
-element-copy-out-if1 c = let l = c .before .before .before in walking-small _ _ _ _ _ _ (l .loop .inv .1) (omega arith) _ (c .wide .ensures)
+mul-if1 : tie.Need-mul-if1 Inv-loop μ-loop
+mul-if1 c = omega (arith, inside c)
+
+shared-slice-read-if1 : tie.Need-shared-slice-read-if1 Inv-loop μ-loop
+shared-slice-read-if1 c = omega (arith, inside (c .before))
 
 returns : tie.Need-returns Inv-loop μ-loop
 returns c =
@@ -93,7 +102,7 @@ first-unmarked-spec =
     shared-slice-read-wide
     wide-requires
     mul-if1
-    element-copy-out-if1
+    shared-slice-read-if1
     returns
     add-k
     loop-less

@@ -26,15 +26,15 @@ element-copy-out-j c = search needs
 all-marked-requires : tie.Need-all-marked-requires Inv-loop μ-loop
 all-marked-requires c κs =
     let l = c .before .before .before .before in
-    let p = l .before .before .pre in
-    (p .0 .loaded, p .1 .each (l .loop .s) (omega arith) (omega (arith, p .0 .small, c .before .if1 .taken)) .below)
+    let p = l .before .before .before .pre in
+    (p .0 .loaded, p .1 .each (l .loop .s) (omega arith) (omega (arith, p .0 .small, c .before .if1 .taken)) .below, p .2)
 
 returns : tie.Need-returns Inv-loop μ-loop
 returns c =
     let m = c .before in
     let k = m .before .before in
     let l = k .before .before .before in
-    let p = l .before .before .pre in
+    let p = l .before .before .before .pre in
     λ _. complete-covers _ (p .0 .loaded .formed) _ _ _ _ (kept-at _ _ (p .1) (l .loop .s) _ _ (omega arith) refl (p .0 .small) (k .if1 .taken)) (sym (m .all-marked .ensures) ∙ c .if2 .taken)
 
 add-s : tie.Need-add-s Inv-loop μ-loop

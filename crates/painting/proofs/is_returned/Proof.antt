@@ -1,5 +1,6 @@
 use mathlib.Core.Logic.{⊎-elim}
 use native.Mathlib.Omega.{arith}
+use Rattle.planning.proofs.Painting.{black-inside}
 use Rattle.painting.proofs.Returns.{next-serves, head-chain, serves-near, served, served-first}
 use borrow.Author.Needs.{needs}
 use Rattle.painting.proofs.is_returned.Statement.{statement}
@@ -18,20 +19,20 @@ later-return-requires : tie.Need-later-return-requires
 later-return-requires c κs = search needs
 
 first-mover-requires : tie.Need-first-mover-requires
-first-mover-requires c κs = search needs
+first-mover-requires c κs = let p = c .before .before .before .before .before .before .before .pre .0 in (p .loaded, omega (arith, black-inside _ _ (p .on)))
 
 first-return-requires : tie.Need-first-return-requires
 first-return-requires c κs =
-    let p = c .before .before .before .before .before .before .before .before .pre in
-    (p, head-chain _ _ p _ (c .before .first-mover .ensures))
+    let p = c .before .before .before .before .before .before .before .before .before .pre in
+    (p .0, head-chain _ _ (p .0) _ (c .before .first-mover .ensures), p .1)
 
 cast-last : tie.Need-cast-last
 cast-last c =
     let l = c .before .before in
-    let p = l .before .before .before .before .before .pre in
+    let p = l .before .before .before .before .before .before .pre in
     ⊎-elim
-    (λ w. omega (arith, w .5, serves-near _ _ p _ _ (next-serves _ _ _ _ _ _ (w .3 .ensures))))
-    (λ w. omega (arith, w .2, serves-near _ _ p _ _ (l .later-return .ensures)))
+    (λ w. omega (arith, w .5, serves-near _ _ (p .0) _ _ (next-serves _ _ _ _ _ _ (w .3 .ensures))))
+    (λ w. omega (arith, w .2, serves-near _ _ (p .0) _ _ (l .later-return .ensures)))
     (c .before .if1 .came)
 
 mul-last : tie.Need-mul-last
@@ -43,10 +44,10 @@ element-write-last c = search needs
 returns : tie.Need-returns
 returns c =
     let l = c .before .before in
-    let p = l .before .before .before .before .before .pre in
+    let p = l .before .before .before .before .before .before .pre in
     ⊎-elim
-    (λ w. rw (w .5) (served-first _ _ p _ _ _ (w .1 .ensures) (w .3 .ensures)))
-    (λ w. rw (w .2) (served _ _ p _ _ (l .later-return .ensures) (w .0 .left)))
+    (λ w. rw (w .5) (served-first _ _ (p .0) _ _ _ (w .1 .ensures) (w .3 .ensures)))
+    (λ w. rw (w .2) (served _ _ (p .0) _ _ (l .later-return .ensures) (w .0 .left)))
     (c .before .if1 .came)
 
 pub is-returned-spec : {M : Type 1} → statement M

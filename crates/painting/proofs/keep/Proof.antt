@@ -8,7 +8,7 @@ element-copy-out-tries : tie.Need-element-copy-out-tries
 element-copy-out-tries c = search needs
 
 returns : tie.Need-returns
-returns c = let p = c .before .before .before .pre in ready-more _ _ _ _ _ (p .2) (omega arith)
+returns c = let p = c .before .before .before .before .pre in ready-more _ _ _ _ _ (p .2) (omega arith)
 
 mul-wide : tie.Need-mul-wide
 mul-wide c = search needs
@@ -32,12 +32,12 @@ actions-requires : tie.Need-actions-requires
 actions-requires c κs = search needs
 
 returns-2 : tie.Need-returns-2
-returns-2 c = let p = c .before .before .before .before .before .before .before .pre in ready-more _ _ _ _ _ (p .2) (omega arith)
+returns-2 c = let p = c .before .before .before .before .before .before .before .before .pre in ready-more _ _ _ _ _ (p .2) (omega arith)
 
 is-complete-requires : tie.Need-is-complete-requires
 is-complete-requires c κs =
     let x = c .before .before in
-    let p = x .before .before .before .before .before .before .before .pre in
+    let p = x .before .before .before .before .before .before .before .before .pre in
     (p .0, omega (arith, x .before .actions .ensures, x .if2 .left), p .2 .unmarked, p .1)
 
 mul-kept : tie.Need-mul-kept
@@ -62,14 +62,20 @@ element-write-last : tie.Need-element-write-last
 element-write-last c = search needs
 
 abbrev complete-to-start : tie.After-is-complete → tie.Start
-complete-to-start c = c .before .before .before .before .before .before .before .before .before .before
+complete-to-start c = c .before .before .before .before .before .before .before .before .before .before .before
+
+same-length : tie.Need-same-length
+same-length c = search needs
 
 returns-3 : tie.Need-returns-3
 returns-3 c =
     let t = c .before in
-    let k = t .before in
+    let k = t .before .before .before in
     let p = complete-to-start k .pre in
     record { unmarked = k .is-complete .ensures .1; complete = kept-more _ (p .0 .loaded .formed) _ (p .2 .complete) _ _ _ (omega arith) (k .is-complete .ensures .0 (t .if3 .taken)) }
+
+same-length-2 : tie.Need-same-length-2
+same-length-2 c = search needs
 
 returns-4 : tie.Need-returns-4
 returns-4 c = search needs
@@ -96,5 +102,7 @@ keep-spec =
     element-write-kept
     sub-last
     element-write-last
+    same-length
     returns-3
+    same-length-2
     returns-4)

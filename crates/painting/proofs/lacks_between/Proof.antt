@@ -16,10 +16,10 @@ abbrev μ-loop : tie.MeasureT-loop
 μ-loop task marks i f from to last₀ d₀ last d = to - d
 
 loop-holds : tie.Need-loop-holds Inv-loop μ-loop
-loop-holds c = trying-start _ _ _ _ _ _ (c .before .pre .1)
+loop-holds c = trying-start _ _ _ _ _ _ (c .before .before .pre .1)
 
 arc-returned-requires : tie.Need-arc-returned-requires Inv-loop μ-loop
-arc-returned-requires c κs = let p = c .before .before .before .before .pre in (p .0, omega (arith, p .2))
+arc-returned-requires c κs = let p = c .before .before .before .before .before .pre in (p .0, omega (arith, p .2), p .3)
 
 returns : tie.Need-returns Inv-loop μ-loop
 returns c = let a = c .before in let l = a .before .before .before in trying-hit _ _ _ _ _ _ _ (l .loop .inv) (omega arith) _ (a .arc-returned .ensures) (not-true _ (c .if1 .taken))

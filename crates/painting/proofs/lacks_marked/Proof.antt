@@ -21,18 +21,25 @@ add-lacks-between c = search needs
 lacks-between-requires : tie.Need-lacks-between-requires
 lacks-between-requires c κs = search needs
 
+same-length : tie.Need-same-length
+same-length c = search needs
+
 returns : tie.Need-returns
 returns c =
     let a = c .before .before .before .before in
-    (c .lacks-between .ensures ∙ asked-one _ _ _ _ _ _ (a .need .ensures) (omega arith), ready-more _ _ _ _ _ (a .before .before .pre .2) (omega arith))
+    (c .lacks-between .ensures ∙ asked-one _ _ _ _ _ _ (a .need .ensures) (omega arith), ready-more _ _ _ _ _ (a .before .before .before .pre .2) (omega arith))
 
 lacks-anywhere-requires : tie.Need-lacks-anywhere-requires
 lacks-anywhere-requires c κs = search needs
 
+same-length-2 : tie.Need-same-length-2
+same-length-2 c = search needs
+
 returns-2 : tie.Need-returns-2
 returns-2 c =
-    let x = c .before .before .before .before in
-    (c .lacks-anywhere .ensures .0 ∙ asked-any _ _ _ _ _ _ (x .before .need .ensures) (omega (arith, x .if1 .left)), c .lacks-anywhere .ensures .1)
+    let y = c .before .before in
+    let x = y .before .before .before .before in
+    (y .lacks-anywhere .ensures .0 ∙ asked-any _ _ _ _ _ _ (x .before .need .ensures) (omega (arith, x .if1 .left)), y .lacks-anywhere .ensures .1)
 
 pub lacks-marked-spec : {M : Type 1} → statement M
 lacks-marked-spec =
@@ -43,6 +50,8 @@ lacks-marked-spec =
     need-requires
     add-lacks-between
     lacks-between-requires
+    same-length
     returns
     lacks-anywhere-requires
+    same-length-2
     returns-2)

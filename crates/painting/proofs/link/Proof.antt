@@ -1,5 +1,5 @@
 use native.Mathlib.Omega.{arith}
-use Rattle.painting.proofs.Chains.{the-move, link-none, link-one}
+use Rattle.painting.proofs.Chains.{the-move, move-heads, link-none, link-one}
 use borrow.Author.Needs.{needs}
 use Rattle.painting.proofs.link.Statement.{statement}
 use Rattle.painting.proofs.link.Tie as tie
@@ -19,7 +19,7 @@ link-requires c κs =
     let m = e .before in
     let p = m .before .before .before .pre in
     let k = the-move _ _ (p .0 .formed) _ _ (m .move-of .ensures) (e .if1 .left) in
-    (k .small, omega (arith, p .1, p .0 .formed .actions-max), p .0 .head)
+    (move-heads _ _ (p .0 .formed) _ _ k _ (p .0 .heads), omega (arith, p .1, p .0 .formed .actions-max))
 
 same-length-2 : tie.Need-same-length-2
 same-length-2 c = search needs

@@ -21,7 +21,7 @@ mul-unlink : tie.Need-mul-unlink Inv-loop μ-loop
 mul-unlink c = search needs
 
 unlink-requires : tie.Need-unlink-requires Inv-loop μ-loop
-unlink-requires c κs = let v = c .before in let p = v .before .before .before .before .before .pre in (omega (arith, v .variables .ensures, p .loaded .formed .variables-max), p .loaded .head)
+unlink-requires c κs = let v = c .before in let p = v .before .before .before .before .before .pre in rw (v .variables .ensures) (p .loaded .heads)
 
 loop-holds : tie.Need-loop-holds Inv-loop μ-loop
 loop-holds c =

@@ -1,68 +1,44 @@
-use Prim.Native.Nat.{_-_}
 use native.Mathlib.Omega.{arith}
-use Rattle.task.specs.Task.{taskIn}
-use Rattle.painting.proofs.Keeping.{ready-start}
-use Rattle.painting.proofs.Arcs.{Scanning, scanning-start, scanning-turn, scanning-hit, scanning-end}
+use Rattle.painting.proofs.Marks.{unmarked-start}
 use borrow.Author.Needs.{needs}
 use Rattle.painting.proofs.lowest_lacking.Statement.{statement}
 use Rattle.painting.proofs.lowest_lacking.Tie as tie
 
--- No action below i lacks a return, no fact is marked from 2 × i on, and what is kept is complete.
-abbrev Inv-loop : tie.InvT-loop
-Inv-loop task paint n marks₀ kept₀ last₀ i₀ marks kept last i = Scanning (taskIn task) n marks kept i
+variables-requires : tie.Need-variables-requires
+variables-requires c κs = search needs
 
-abbrev μ-loop : tie.MeasureT-loop
-μ-loop task paint n marks₀ kept₀ last₀ i₀ marks kept last i = n - i
+slice-aggregate-lowest-by : tie.Need-slice-aggregate-lowest-by
+slice-aggregate-lowest-by c = search needs
 
-actions-requires : tie.Need-actions-requires Inv-loop μ-loop
-actions-requires c κs = search needs
+lowest-by-requires : tie.Need-lowest-by-requires
+lowest-by-requires c κs =
+    let x = c .before in
+    let v = x .before in
+    let p = v .before .before .pre in
+    (p .0, p .1, unmarked-start _ 1024 (omega (arith, v .variables .ensures, x .if1 .taken)))
 
-array-write-last : tie.Need-array-write-last Inv-loop μ-loop
-array-write-last c = search needs
+returns : tie.Need-returns
+returns c = search needs
 
-loop-holds : tie.Need-loop-holds Inv-loop μ-loop
-loop-holds c = scanning-start _ _ (c .actions .ensures) _ _ (ready-start _)
+slice-aggregate-lowest-by-2 : tie.Need-slice-aggregate-lowest-by-2
+slice-aggregate-lowest-by-2 c = search needs
 
-is-lacking-requires : tie.Need-is-lacking-requires Inv-loop μ-loop
-is-lacking-requires c κs =
-    let l = c .before .before .before .before in
-    let a = l .before in
-    let p = a .before .before .pre in
-    (p .0, p .1, omega (arith, a .actions .ensures), l .loop .inv .ready)
+lowest-by-requires-2 : tie.Need-lowest-by-requires-2
+lowest-by-requires-2 c κs =
+    let p = c .before .before .before .before .pre in
+    (p .0, p .1, unmarked-start _ 4096 (omega (arith, p .0 .loaded .formed .variables-max)))
 
-returns : tie.Need-returns Inv-loop μ-loop
-returns c =
-    let r = c .before in
-    let l = r .before .before .before .before .before in
-    scanning-hit _ _ (l .before .actions .ensures) _ _ _ (l .loop .inv) _ (r .is-lacking .ensures .0) (omega arith) (c .if1 .taken)
-
-add-i : tie.Need-add-i Inv-loop μ-loop
-add-i c = search needs
-
-loop-less : tie.Need-loop-less Inv-loop μ-loop
-loop-less c = search needs
-
-loop-again : tie.Need-loop-again Inv-loop μ-loop
-loop-again c =
-    let r = c .before in
-    let l = r .before .before .before .before .before in
-    scanning-turn _ _ (l .before .actions .ensures) _ _ _ (l .loop .inv) _ (r .is-lacking .ensures .0) (omega arith) (c .if1 .left) _ _ (r .is-lacking .ensures .1)
-
-returns-2 : tie.Need-returns-2 Inv-loop μ-loop
-returns-2 c = let l = c .before in scanning-end _ _ (l .before .actions .ensures) _ _ _ (l .loop .inv) (omega arith)
+returns-2 : tie.Need-returns-2
+returns-2 c = search needs
 
 pub lowest-lacking-spec : {M : Type 1} → statement M
 lowest-lacking-spec =
     tie.close
     (tie.spec
-    Inv-loop
-    μ-loop
-    actions-requires
-    array-write-last
-    loop-holds
-    is-lacking-requires
+    variables-requires
+    slice-aggregate-lowest-by
+    lowest-by-requires
     returns
-    add-i
-    loop-less
-    loop-again
+    slice-aggregate-lowest-by-2
+    lowest-by-requires-2
     returns-2)

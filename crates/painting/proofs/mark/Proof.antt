@@ -2,7 +2,7 @@ use Prim.Native.Nat.{_-_}
 use mathlib.Core.Path.{refl}
 use native.Mathlib.Omega.{arith}
 use Rattle.task.specs.Task.{factsIn}
-use Rattle.painting.proofs.Marks.{Marking, marking-start, marking-small, marking-turn, marking-end}
+use Rattle.painting.proofs.Marks.{Marking, marking-start, marking-inside, marking-turn, marking-end}
 use borrow.Author.Needs.{needs}
 use Rattle.painting.proofs.mark.Statement.{statement}
 use Rattle.painting.proofs.mark.Tie as tie
@@ -15,13 +15,13 @@ abbrev μ-loop : tie.MeasureT-loop
 μ-loop task from to f own marks₀ k₀ marks k = to - k
 
 loop-holds : tie.Need-loop-holds Inv-loop μ-loop
-loop-holds c = marking-start _ _ _ _ _ _ _ (c .before .pre) refl
+loop-holds c = marking-start _ _ _ _ _ _ _ (c .before .before .pre) refl
 
 mul-wide : tie.Need-mul-wide Inv-loop μ-loop
 mul-wide c = search needs
 
 shared-slice-read-wide : tie.Need-shared-slice-read-wide Inv-loop μ-loop
-shared-slice-read-wide c = let l = c .before .before in omega (arith, l .loop .inv .facts .within)
+shared-slice-read-wide c = let l = c .before .before in omega (arith, l .loop .inv .rest .facts .within)
 
 wide-requires : tie.Need-wide-requires Inv-loop μ-loop
 wide-requires c κs = search needs
@@ -33,14 +33,14 @@ mul-marks : tie.Need-mul-marks Inv-loop μ-loop
 mul-marks c =
     let w = c .before in
     let l = w .before .before .before in
-    let q = marking-small _ _ _ _ _ _ _ _ (l .loop .inv) (omega arith) _ _ (w .wide .ensures) (c .place-of .ensures) in
-    omega (arith, q)
+    let q = marking-inside _ _ _ _ _ _ _ _ (l .loop .inv) (omega arith) _ _ (w .wide .ensures) (c .place-of .ensures) in
+    omega (arith, q, l .loop .inv .long)
 
-element-write-marks : tie.Need-element-write-marks Inv-loop μ-loop
-element-write-marks c =
+slice-write-marks : tie.Need-slice-write-marks Inv-loop μ-loop
+slice-write-marks c =
     let w = c .before in
     let l = w .before .before .before in
-    marking-small _ _ _ _ _ _ _ _ (l .loop .inv) (omega arith) _ _ (w .wide .ensures) (c .place-of .ensures)
+    marking-inside _ _ _ _ _ _ _ _ (l .loop .inv) (omega arith) _ _ (w .wide .ensures) (c .place-of .ensures)
 
 add-k : tie.Need-add-k Inv-loop μ-loop
 add-k c = search needs
@@ -50,6 +50,9 @@ loop-less c = search needs
 
 loop-again : tie.Need-loop-again Inv-loop μ-loop
 loop-again c = let w = c .before in let l = w .before .before .before in marking-turn _ _ _ _ _ _ _ _ (l .loop .inv) (omega arith) _ _ (w .wide .ensures) (c .place-of .ensures)
+
+same-length : tie.Need-same-length Inv-loop μ-loop
+same-length c = c .before .loop .inv .long
 
 returns : tie.Need-returns Inv-loop μ-loop
 returns c = marking-end _ _ _ _ _ _ _ _ (c .before .loop .inv) (omega arith)
@@ -66,8 +69,9 @@ mark-spec =
     wide-requires
     place-of-requires
     mul-marks
-    element-write-marks
+    slice-write-marks
     add-k
     loop-less
     loop-again
+    same-length
     returns)

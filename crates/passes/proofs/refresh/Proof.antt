@@ -1,8 +1,10 @@
 use borrow.Author.Needs.{needs}
 use mathlib.Core.Path.{sym, _∙_}
+use native.Mathlib.Omega.{arith}
 use Rattle.planning.specs.Runs.{relaxed, step, act}
 use Rattle.task.specs.Task.{taskIn}
 use Rattle.state.specs.Sets.{setsOf}
+use Rattle.paths.proofs.Memos.{memo-marks}
 use Rattle.passes.proofs.Putting.{blank-memo}
 use Rattle.passes.proofs.Holding.{refresh-kept}
 use Rattle.passes.proofs.refresh.Statement.{statement}
@@ -18,7 +20,7 @@ returns c =
     refresh-kept (taskIn (a .task .now)) (setsOf (a .ever .now)) (a .memo .now) (a .i) (a .needs) (s .pre .0 .2) (s .pre .1) (sym (c .before .adds-none .ensures) ∙ c .if1 .taken)
 
 forget-requires : tie.Need-forget-requires
-forget-requires c κs = c .before .before .before .before .before .pre .1 .long
+forget-requires c κs = omega (arith, c .before .before .before .before .before .pre .1 .long, memo-marks (taskIn (c .before .before .before .before .before .args .task .now)))
 
 same-length : tie.Need-same-length
 same-length c = search needs
@@ -26,7 +28,8 @@ same-length c = search needs
 returns-2 : tie.Need-returns-2
 returns-2 c =
     let f = c .before .before in
-    blank-memo _ _ _ (f .forget .ensures)
+    let s = f .before .before .before .before .before .before in
+    blank-memo _ _ _ (c .before .memo .given ∙ s .pre .1 .long) (f .forget .ensures)
 
 pub refresh-spec : {M : Type 1} → statement M
 refresh-spec =

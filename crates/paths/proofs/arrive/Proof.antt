@@ -5,7 +5,7 @@ use Prim.Native.Nat.{_-_}
 use native.Mathlib.Omega.{arith}
 use Rattle.task.specs.Task.{taskIn}
 use Rattle.state.specs.Sets.{setsOf}
-use Rattle.paths.proofs.Arriving.{Arriving, Chain, chain-place, arriving-start, arriving-here, arriving-above, arriving-turn, arriving-end}
+use Rattle.paths.proofs.Arriving.{Arriving, Chain, chain-place, chain-inside, arriving-start, arriving-here, arriving-above, arriving-turn, arriving-end}
 use Rattle.paths.proofs.arrive.Statement.{statement}
 use Rattle.paths.proofs.arrive.Tie as tie
 
@@ -34,7 +34,7 @@ add-first-mover : tie.Need-add-first-mover Inv-loop μ-loop
 add-first-mover c = record { fits = omega (arith, chain-place _ _ _ _ (chain (c .before .before))) }
 
 first-mover-requires : tie.Need-first-mover-requires Inv-loop μ-loop
-first-mover-requires c κs = let s = c .before .before in (s .pre .0 .0 .loaded, chain-place _ _ _ _ (chain s))
+first-mover-requires c κs = let s = c .before .before in (s .pre .0 .0 .loaded, chain-inside _ _ _ _ (chain s))
 
 loop-holds : tie.Need-loop-holds Inv-loop μ-loop
 loop-holds c = let s = c .before .before .before in arriving-start _ _ _ _ (chain s) _ _ _ _ _ (s .pre .0 .2) (c .first-mover .ensures)

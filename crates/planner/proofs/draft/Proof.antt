@@ -12,7 +12,7 @@ use Rattle.planner.proofs.draft.Tie as tie
 repair-requires : tie.Need-repair-requires
 repair-requires c κs =
     let s = c .before .before .before .before .before .before .before in
-    (s .pre .0, plan-entries (taskIn (s .args .task .now)) relaxed (s .args .list .now) (s .pre .1))
+    record { prepared = s .pre .0; entries = plan-entries (taskIn (s .args .task .now)) relaxed (s .args .list .now) (s .pre .1); is-plan = s .pre .1 }
 
 same-length : tie.Need-same-length
 same-length c = search needs

@@ -8,16 +8,17 @@ use Rattle.task.specs.Task.{taskIn}
 use Rattle.state.specs.Sets.{setsOf}
 use borrow.Author.Needs.{needs}
 use Rattle.relax.specs.Keeping.{byOf, Keeping}
-use Rattle.relax.proofs.Laws.{keeping-start, entry-below, keeping-no, keeping-room, keeping-yes, keeping-end}
+use Rattle.relax.proofs.Laws.{keeping-start, entry-below, keeping-no, keeping-room, keeping-yes, keeping-entry, keeping-end}
 use Rattle.relax.proofs.keep_back.Statement.{statement}
 use Rattle.relax.proofs.keep_back.Tie as tie
 
--- Of the run from place k on, the kept actions stand from place m on, and what they need is in the sets.
+-- Of the run from place k on, the kept actions stand from place m on, and what they need is in the sets; before place k the run is as it
+-- was, as m falls no more often than k.
 abbrev Inv-loop : tie.InvT-loop
-Inv-loop task first run n needed₀ kept₀ k₀ m₀ needed kept k m = Keeping (taskIn task) n needed kept k m
+Inv-loop task first n needed₀ run k₀ m₀ needed kept k m = Keeping (taskIn task) run n needed kept k m
 
 abbrev μ-loop : tie.MeasureT-loop
-μ-loop task first run n needed₀ kept₀ k₀ m₀ needed kept k m = k
+μ-loop task first n needed₀ run k₀ m₀ needed kept k m = k
 
 abbrev start : tie.In-loop Inv-loop μ-loop → tie.Start Inv-loop μ-loop
 start c = c .before .before .before
@@ -38,15 +39,19 @@ wide2-to-then1 c = c .before .before
 within : (c : tie.In-loop Inv-loop μ-loop) → c .before .loop .k - 1 < start c .args .n
 within c = omega (arith, c .before .loop .inv .within)
 
-behind : (c : tie.In-loop Inv-loop μ-loop) → let h = c .before .loop in Keeping (taskIn (start c .args .task .now)) (start c .args .n) (h .needed) (h .kept) (h .k - 1 + 1) (h .m)
+behind : (c : tie.In-loop Inv-loop μ-loop) → let h = c .before .loop in let a = start c .args in Keeping (taskIn (a .task .now)) (a .plan .now) (a .n) (h .needed) (h .plan) (h .k - 1 + 1) (h .m)
 behind c =
     let h = c .before .loop in
-    subst (λ x. Keeping (taskIn (start c .args .task .now)) (start c .args .n) (h .needed) (h .kept) x (h .m)) (omega arith) (h .inv)
+    let a = start c .args in
+    subst (λ x. Keeping (taskIn (a .task .now)) (a .plan .now) (a .n) (h .needed) (h .plan) x (h .m)) (omega arith) (h .inv)
+
+same : (c : tie.In-loop Inv-loop μ-loop) → getD (c .before .loop .plan) (c .before .loop .k - 1) 0 ≡ getD (start c .args .plan .now) (c .before .loop .k - 1) 0
+same c = keeping-entry (start c .pre .0 .0) (c .before .loop .k - 1) (within c) (behind c)
 
 loop-holds : tie.Need-loop-holds Inv-loop μ-loop
 loop-holds c =
     let p = c .before .pre in
-    keeping-start (p .0 .0) _ _ (p .1 .0) (p .1 .1) (p .1 .2)
+    keeping-start (p .0 .0) _ (p .1 .0) (p .1 .1)
 
 sub-k : tie.Need-sub-k Inv-loop μ-loop
 sub-k c = omega arith
@@ -64,15 +69,15 @@ reached-needed-requires : tie.Need-reached-needed-requires Inv-loop μ-loop
 reached-needed-requires c κs =
     let turn = wide-to-turn c in
     let R = start turn .pre .0 .0 in
-    (R .loaded, rw (c .wide .ensures) (entry-below R (turn .before .loop .k - 1) (within turn)))
+    (R .loaded, rw (c .wide .ensures, same turn) (entry-below R (turn .before .loop .k - 1) (within turn)))
 
-answer-is : (c : tie.After-reached-needed Inv-loop μ-loop) → let turn = reached-to-turn c in let a = start turn .args in let i = getD (a .run .now) (turn .before .loop .k - 1) 0 in
+answer-is : (c : tie.After-reached-needed Inv-loop μ-loop) → let turn = reached-to-turn c in let a = start turn .args in let i = getD (a .plan .now) (turn .before .loop .k - 1) 0 in
     c .reached-needed .result ≡ reachedNeeded (byOf (a .first .now)) (setsOf (turn .before .loop .needed)) i (act (taskIn (a .task .now)) i .eff)
 answer-is c =
     let turn = reached-to-turn c in
     let a = start turn .args in
     let t = taskIn (a .task .now) in
-    c .reached-needed .ensures ∙ ap (λ x. reachedNeeded (byOf (a .first .now)) (setsOf (turn .before .loop .needed)) x (act t x .eff)) (c .before .wide .ensures)
+    c .reached-needed .ensures ∙ ap (λ x. reachedNeeded (byOf (a .first .now)) (setsOf (turn .before .loop .needed)) x (act t x .eff)) (c .before .wide .ensures ∙ same turn)
 
 room : (c : tie.Then1 Inv-loop μ-loop) → 0 < then1-to-turn c .before .loop .m
 room c =
@@ -82,11 +87,11 @@ room c =
 sub-m : tie.Need-sub-m Inv-loop μ-loop
 sub-m c = room c
 
-mul-kept : tie.Need-mul-kept Inv-loop μ-loop
-mul-kept c = record { fits = omega (arith, then1-to-turn c .before .loop .inv .end) }
+mul-plan : tie.Need-mul-plan Inv-loop μ-loop
+mul-plan c = record { fits = omega (arith, then1-to-turn c .before .loop .inv .end) }
 
-element-write-kept : tie.Need-element-write-kept Inv-loop μ-loop
-element-write-kept c = omega (arith, room c, then1-to-turn c .before .loop .inv .end)
+element-write-plan : tie.Need-element-write-plan Inv-loop μ-loop
+element-write-plan c = omega (arith, room c, then1-to-turn c .before .loop .inv .end)
 
 wide-requires-2 : tie.Need-wide-requires-2 Inv-loop μ-loop
 wide-requires-2 c κs = search needs
@@ -95,7 +100,7 @@ add-preconditions-requires : tie.Need-add-preconditions-requires Inv-loop μ-loo
 add-preconditions-requires c κs =
     let turn = then1-to-turn (wide2-to-then1 c) in
     let R = start turn .pre .0 .0 in
-    (R .loaded, rw (c .wide2 .ensures) (entry-below R (turn .before .loop .k - 1) (within turn)), turn .before .loop .inv .needed-long)
+    (R .loaded, rw (c .wide2 .ensures, same turn) (entry-below R (turn .before .loop .k - 1) (within turn)), turn .before .loop .inv .needed-long)
 
 loop-less : tie.Need-loop-less Inv-loop μ-loop
 loop-less c = omega arith
@@ -106,7 +111,7 @@ loop-again c =
     let at-then1 = wide2-to-then1 at-wide2 in
     let turn = then1-to-turn at-then1 in
     keeping-yes (start turn .pre .0 .0) (turn .before .loop .k - 1) (within turn) (behind turn) _ (start turn .pre .0 .1) (sym (at-then1 .if1 .taken) ∙ answer-is (at-then1 .before)) _
-    (rw (at-wide2 .wide2 .ensures) at (c .add-preconditions .ensures))
+    (rw (at-wide2 .wide2 .ensures, same turn) at (c .add-preconditions .ensures)) _ (same turn)
 
 loop-less-2 : tie.Need-loop-less-2 Inv-loop μ-loop
 loop-less-2 c = omega arith
@@ -136,8 +141,8 @@ keep-back-spec =
     wide-requires
     reached-needed-requires
     sub-m
-    mul-kept
-    element-write-kept
+    mul-plan
+    element-write-plan
     wide-requires-2
     add-preconditions-requires
     loop-less

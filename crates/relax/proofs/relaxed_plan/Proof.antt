@@ -37,7 +37,7 @@ keep-run-requires c κs = search needs
 
 returns-2 : tie.Need-returns-2
 returns-2 c =
-    let at-else1 = c .before .before .before .before in
+    let at-else1 = c .before .before .before in
     record { solved = sym (at-else1 .before .before .before .run-forward .ensures .solved) ∙ not-false _ (at-else1 .if1 .left); front = c .keep-run .ensures }
 
 pub relaxed-plan-spec : {M : Type 1} → statement M

@@ -24,26 +24,26 @@ lesser-requires-2 c κs = search needs
 capacity-requires : tie.Need-capacity-requires
 capacity-requires c κs = search needs
 
-slice-relend-prefix-repair-from : tie.Need-slice-relend-prefix-repair-from
-slice-relend-prefix-repair-from c = bounds c .0
+slice-relend-prefix-repair-in : tie.Need-slice-relend-prefix-repair-in
+slice-relend-prefix-repair-in c = bounds c .0
 
-slice-aggregate-repair-from : tie.Need-slice-aggregate-repair-from
-slice-aggregate-repair-from c = sym (length-take-le _ _ (bounds (c .before) .0))
+slice-aggregate-repair-in : tie.Need-slice-aggregate-repair-in
+slice-aggregate-repair-in c = sym (length-take-le _ _ (bounds (c .before) .0))
 
-slice-relend-prefix-repair-from-2 : tie.Need-slice-relend-prefix-repair-from-2
-slice-relend-prefix-repair-from-2 c = bounds (c .before) .1
+slice-relend-prefix-repair-in-2 : tie.Need-slice-relend-prefix-repair-in-2
+slice-relend-prefix-repair-in-2 c = bounds (c .before) .1
 
-slice-aggregate-repair-from-2 : tie.Need-slice-aggregate-repair-from-2
-slice-aggregate-repair-from-2 c = sym (length-take-le _ _ (bounds (c .before .before) .1))
+slice-aggregate-repair-in-2 : tie.Need-slice-aggregate-repair-in-2
+slice-aggregate-repair-in-2 c = sym (length-take-le _ _ (bounds (c .before .before) .1))
 
-repair-from-requires : tie.Need-repair-from-requires
-repair-from-requires c κs =
+repair-in-requires : tie.Need-repair-in-requires
+repair-in-requires c κs =
     let r = c .before .before in
     let p = start-of r .pre in
     let a = start-of r .args in
     let d = length-take-le _ (a .plan .now) (bounds r .0) in
     let e = length-take-le _ (a .marks .now) (bounds r .1) in
-    (p .0, p .1, omega (arith, d, bounds r .2), e ∙ sym d)
+    (p, omega (arith, d, bounds r .2), e ∙ sym d)
 
 same-length : tie.Need-same-length
 same-length c = search needs
@@ -59,7 +59,7 @@ returns c =
     let e = front-length (a .plan .now) (a .work .now) (a .marks .now) _ _ _ (r .before .before .lesser .ensures) (r .before .lesser2 .ensures) (r .capacity .ensures) in
     let m = area-length (a .plan .now) (a .work .now) (a .marks .now) _ _ _ (r .before .before .lesser .ensures) (r .before .lesser2 .ensures) (r .capacity .ensures) in
     held-front _ _ _ _ _ _ _ (sym (c .before .before .before .plan .given .0)) (sym (c .before .marks .given .0 ∙ m ∙ sym e)) _
-    (e ∙ room-is (a .plan .now) (a .work .now) (a .marks .now) _ _ _ (r .before .before .lesser .ensures) (r .before .lesser2 .ensures) (r .capacity .ensures)) _ (f .repair-from .ensures)
+    (e ∙ room-is (a .plan .now) (a .work .now) (a .marks .now) _ _ _ (r .before .before .lesser .ensures) (r .before .lesser2 .ensures) (r .capacity .ensures)) _ (f .repair-in .ensures)
 
 pub repair-spec : {M : Type 1} → statement M
 repair-spec =
@@ -68,11 +68,11 @@ repair-spec =
     lesser-requires
     lesser-requires-2
     capacity-requires
-    slice-relend-prefix-repair-from
-    slice-aggregate-repair-from
-    slice-relend-prefix-repair-from-2
-    slice-aggregate-repair-from-2
-    repair-from-requires
+    slice-relend-prefix-repair-in
+    slice-aggregate-repair-in
+    slice-relend-prefix-repair-in-2
+    slice-aggregate-repair-in-2
+    repair-in-requires
     same-length
     same-length-2
     returns)

@@ -22,7 +22,7 @@ wide-requires : tie.Need-wide-requires
 wide-requires c κs = search needs
 
 returns : tie.Need-returns
-returns c = let a = c .before .before .before .args in c .wide .ensures ∙ sym (at-zero (a .task .now) (1361 + a .i))
+returns c = let a = c .before .before .before .args in c .wide .ensures ∙ sym (at-zero (a .task .now) (337 + a .i))
 
 pub cost-spec : {M : Type 1} → statement M
 cost-spec =

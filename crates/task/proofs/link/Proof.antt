@@ -6,6 +6,12 @@ use borrow.Author.Needs.{needs}
 use Rattle.task.proofs.link.Statement.{statement}
 use Rattle.task.proofs.link.Tie as tie
 
+slice-read-wide : tie.Need-slice-read-wide
+slice-read-wide c = search needs
+
+wide-requires : tie.Need-wide-requires
+wide-requires c κs = search needs
+
 add-task : tie.Need-add-task
 add-task c = search needs
 
@@ -41,12 +47,14 @@ same-length c = search needs
 
 returns : tie.Need-returns
 unfolding linked
-returns c = refl
+returns c = rw (c .before .wide .ensures) refl
 
 pub link-spec : {M : Type 1} → statement M
 link-spec =
     tie.close
     (tie.spec
+    slice-read-wide
+    wide-requires
     add-task
     mul-task
     slice-read-task

@@ -1,14 +1,17 @@
 -- The first i actions passed their checks and are loaded; the list goes on where they end.
 use Rattle.record.proofs.Laws.{false-not, header-range, Behind, actions-start, action-here, actions-turn, actions-done, actions-end, accepted, accepted-parts, not-done}
 use Rattle.answers.proofs.Stages.{answer-done, answer-passes, passed}
-use Rattle.task.proofs.Loading.{Loading, loading-start, loading-place, loading-room, loading-turn, action-ends, few-facts, record-stops, actions-as, loading-task, loading-done}
+use Rattle.task.proofs.Loading.{Loading, loading-start, loading-place, loading-room, loading-turn, action-ends, few-facts, record-stops, actions-as}
+use Rattle.task.proofs.Loading.{loading-low, loading-size, loading-headed, loading-task, loading-done}
 use borrow.Author.Needs.{needs}
 use mathlib.Core.Path.{_≡_, refl, sym, _∙_}
 use mathlib.Core.Option.{none}
 use Prim.Native.Nat.{_+_, _-_, _*_, _<_, _≤_}
 use native.Mathlib.Omega.{arith}
+use lib.ListN.{length}
+use lib.Seq.{getD-set-same}
 use Rattle.planning.specs.Basics.{inOrder}
-use Rattle.planning.specs.Record.{actionsIn, actionsChecks, actionsEnd, recordEnd}
+use Rattle.planning.specs.Record.{variablesIn, actionsIn, actionsChecks, actionsEnd, recordEnd}
 use Rattle.task.proofs.load_actions.Statement.{statement}
 use Rattle.task.proofs.load_actions.Tie as tie
 
@@ -60,7 +63,7 @@ returns c =
     record-stops _ _
     (λ e. c .before .before .before .load-action .ensures .refused (c .if1 .taken)
     (action-here _ _ _ _ _ (h .loop .inv .1) i (actions-as _ _ _ (P .variables-is) (P .count-is) ∙ accepted-parts _ e .actions))
-    (loading-room _ _ _ _ _ _ (h .loop .inv .0) (omega (arith, P .count-is)) (P .room .enough e)))
+    (loading-room _ _ _ _ _ _ (h .loop .inv .0) (omega (arith, P .count-is)) (header-range _ (P .header) .0) (P .room .enough e)))
 
 -- behind the action that was loaded last the places are still small
 next : (c : tie.Else1 Inv-loop μ-loop) → let l = c .before .before .before .before .before .before .loop in (c .before .before .before .load-action .result ≤ 31) × (l .at ≤ 400000) × (l .to ≤ 65000)
@@ -134,8 +137,14 @@ returns-2 : tie.Need-returns-2 Inv-loop μ-loop
 returns-2 c =
     record-stops _ _ (λ e. not-done _ _ _ (c .enum-told2 .given .1) (answer-passes _ _ _ (c .before .before .check-end .ensures) (accepted-parts _ e .end)))
 
+cast-task : tie.Need-cast-task Inv-loop μ-loop
+cast-task c = let h = c .before .before .before .before in omega (arith, loading-low _ _ _ _ _ _ (h .loop .inv .0) (header-range _ (start h .pre .header) .2))
+
+slice-write-task : tie.Need-slice-write-task Inv-loop μ-loop
+slice-write-task c = let h = c .before .before .before .before in omega (arith, start h .pre .room .head, h .loop .inv .0 .long)
+
 same-length-3 : tie.Need-same-length-3 Inv-loop μ-loop
-same-length-3 c = c .before .before .before .before .loop .inv .0 .long
+same-length-3 c = loading-headed _ _ _ _ _ _ (c .before .before .before .before .loop .inv .0) .long
 
 returns-3 : tie.Need-returns-3 Inv-loop μ-loop
 returns-3 c =
@@ -148,9 +157,13 @@ returns-3 c =
       end = passed _ _ _ _ (c .enum-told .given .1) (c .before .before .check-end .ensures) .0;
     }) in
     let l : actionsIn (start h .args .bytes .now) ≤ h .loop .i = omega (arith, P .count-is) in
+    let I = loading-headed _ _ _ _ _ _ (h .loop .inv .0) in
+    let r : h .loop .to + 64 * variablesIn (start h .args .bytes .now) ≤ length (start h .args .task .now) =
+    omega (arith, P .room .enough a, loading-size _ _ _ _ _ _ l (h .loop .inv .0)) in
+    let q = getD-set-same (h .loop .task) 3 (h .loop .to) 0 (omega (arith, P .room .head, h .loop .inv .0 .long)) in
     record {
       accepted = λ _. a;
-      loaded = λ _. record { loaded = loading-done _ _ _ _ _ _ a (P .room .enough a) l (h .loop .inv .0); same = loading-task _ _ _ _ _ _ a (P .room .enough a) l (h .loop .inv .0) };
+      loaded = λ _. record { loaded = loading-done _ _ _ _ _ _ l I a r q; same = loading-task _ _ _ _ _ _ l I a r };
       refused = λ e. absurd (false-not (sym e));
     }
 
@@ -183,5 +196,7 @@ load-actions-spec =
     enum-told-2
     same-length-2
     returns-2
+    cast-task
+    slice-write-task
     same-length-3
     returns-3)

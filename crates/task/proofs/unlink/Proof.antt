@@ -2,16 +2,22 @@ use borrow.Author.Needs.{needs}
 use Prim.Native.Nat.{_-_, _≤_}
 use native.Mathlib.Omega.{arith}
 use Rattle.task.specs.Links.{Unlinked}
-use Rattle.task.proofs.Relinking.{unlinked-none, unlinked-more, unlinked-all}
+use Rattle.task.proofs.Relinking.{heads-fewer, unlinked-none, unlinked-more, unlinked-all}
 use Rattle.task.proofs.unlink.Statement.{statement}
 use Rattle.task.proofs.unlink.Tie as tie
 
 -- The heads below f are 65,535 and what is not part of a link is as it was.
 abbrev Inv-loop : tie.InvT-loop
-Inv-loop task₀ n f₀ task f = (f ≤ n) × Unlinked f task₀ task
+Inv-loop task₀ n heads f₀ task f = (f ≤ n) × Unlinked f task₀ task
 
 abbrev μ-loop : tie.MeasureT-loop
-μ-loop task₀ n f₀ task f = n - f
+μ-loop task₀ n heads f₀ task f = n - f
+
+slice-read-wide : tie.Need-slice-read-wide Inv-loop μ-loop
+slice-read-wide c = search needs
+
+wide-requires : tie.Need-wide-requires Inv-loop μ-loop
+wide-requires c κs = search needs
 
 loop-holds : tie.Need-loop-holds Inv-loop μ-loop
 loop-holds c = (search needs, unlinked-none _)
@@ -32,7 +38,7 @@ loop-less : tie.Need-loop-less Inv-loop μ-loop
 loop-less c = search needs
 
 loop-again : tie.Need-loop-again Inv-loop μ-loop
-loop-again c = let l = c .before in (omega arith, unlinked-more _ _ _ (omega arith) (omega arith) (l .loop .inv .1))
+loop-again c = let l = c .before in (omega arith, unlinked-more _ _ _ _ (l .before .wide .ensures) (heads-fewer _ _ _ (omega arith) (l .before .before .before .before .pre)) (l .loop .inv .1))
 
 same-length : tie.Need-same-length Inv-loop μ-loop
 same-length c = c .before .loop .inv .1 .relinked .long
@@ -46,6 +52,8 @@ unlink-spec =
     (tie.spec
     Inv-loop
     μ-loop
+    slice-read-wide
+    wide-requires
     loop-holds
     add-task
     mul-task
