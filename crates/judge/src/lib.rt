@@ -87,8 +87,7 @@ pub fn follow(task: &[u16], list: &[u16]) -> Trace
         if state::knows_effects(&s.sets, task, i, &mut known) {
             let old = s.newest;
             let newest = old.step(task, i);
-            let sets = s.sets;
-            s = State { sets, newest };
+            s.newest = newest;
             continue;
         }
         s = s.step(task, i);

@@ -18,8 +18,9 @@ use Rattle.planning.proofs.Tests.{true→T, or-l}
 use Rattle.planning.proofs.Facts.{look-some}
 use Rattle.planning.proofs.Formed.{Formed, sorted-has}
 use Rattle.state.specs.Sets.{Asked}
-use Rattle.paths.specs.Paths.{pathsOf, memoFor, Memo, Put}
+use Rattle.paths.specs.Paths.{pathsOf, memoFor, slot, Memo, Put}
 use Rattle.paths.proofs.Walking.{put-none}
+use Rattle.paths.proofs.Memos.{slot-below}
 use Rattle.paths.specs.declared.Written.{Written}
 use Rattle.paths.specs.declared.Written.the-variants.{Upto, Long}
 use Rattle.passes.specs.Passes.{askedBy, Fitting, Blank, writtenIn, insertedBy, Searched, Behind}
@@ -158,4 +159,4 @@ forgetting-turn n memo k f h = record { long = length-set memo k 0 ∙ f .long; 
     go x b (no e) = getD-set-other memo k x 0 0 e ∙ f .done x (omega arith)
 
 pub blank-memo : (t : Task) (K : State) (memo : List ℕ) → length memo ≡ memoFor t → Blank memo → Memo t K memo
-blank-memo t K memo e B = record { long = e; rows = λ v d c _ b _ q. absurd (omega (arith, q, B d b)) }
+blank-memo t K memo e B = record { long = e; rows = λ v d _ _ q. absurd (omega (arith, q, B (slot v d) (slot-below v d))) }

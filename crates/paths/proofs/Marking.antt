@@ -10,7 +10,7 @@ use lib.Dec.{T}
 use lib.ListN.{length, getD, set, length-set}
 use lib.Seq.{getD-set-same, getD-set-other}
 use Rattle.state.specs.Sets.{inSet}
-use Rattle.paths.specs.Paths.{Member}
+use Rattle.paths.specs.Paths.{Member, unknown}
 use Rattle.paths.specs.Labels.{unreached, leadBy, lower}
 
 pub record Marking (old labels : List ℕ) (m l c : ℕ) : Type 0 where
@@ -58,10 +58,15 @@ module _ (old labels : List ℕ) (m l c : ℕ) (g : Marking old labels m l c) wh
   marking-end h x b = g .marked x (omega arith)
 
 -- the lead in a label
-pub lead-none : (l c : ℕ) → l ≡ unreached → c ≡ leadBy l c
-unfolding leadBy
-lead-none l c e = rw (eq-eqb l unreached e, leadBy) refl
+module _ (b : Bool) (l c : ℕ) where
+  pub lead-open : b ≡ true → unknown c ≡ leadBy b l c
+  unfolding leadBy
+  lead-open e = rw e refl
 
-pub lead-some : (l c : ℕ) → (l ≡ unreached → ⊥) → l % 65536 ≡ leadBy l c
-unfolding leadBy
-lead-some l c n = rw (ne-eqb l unreached n, leadBy) refl
+  pub lead-none : b ≡ false → l ≡ unreached → c ≡ leadBy b l c
+  unfolding leadBy
+  lead-none e z = rw (e, eq-eqb l unreached z, leadBy) refl
+
+  pub lead-some : b ≡ false → (l ≡ unreached → ⊥) → l % 65536 ≡ leadBy b l c
+  unfolding leadBy
+  lead-some e n = rw (e, ne-eqb l unreached n, leadBy) refl

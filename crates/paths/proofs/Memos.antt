@@ -1,46 +1,27 @@
--- Rows of leads kept in one list: a row is written, and the others stand.
+-- Leads kept in one list: those of one slot are written, and the other slots stand.
 use mathlib.Core.Path.{_≡_, refl, sym, ap, _∙_, subst}
-use mathlib.Core.Bool.{Bool, true, false}
-use mathlib.Core.List.{List, _++_}
-use Prim.Native.Nat.{ℕ, _+_, _-_, _*_, _<_, _≤_}
+use mathlib.Core.Logic.{_⊎_, inl, inr, _≢_}
+use mathlib.Core.Bool.{Bool, true, false, not}
+use mathlib.Core.List.{List}
+use Prim.Native.Nat.{ℕ, _+_, _*_, _%_, _<_, _≤_}
 use native.Mathlib.Omega.{arith}
 use native.Mathlib.Decide.{ℕ-discrete, decLt}
 use borrow.Author.Tests.{ltb-true, lt-ltb}
-use lib.Dec.{T, ltb}
-use lib.ListN.{length, getD, set, take, drop, length-set, length-append, length-drop, List·getD-append}
-use lib.Seq.{length-take-le, getD-append-add, getD-take, getD-drop, getD-set-same, getD-set-other}
+use lib.Dec.{T, T-not, ltb}
+use lib.ListN.{length, getD, set, length-set}
+use lib.Seq.{getD-set-same, getD-set-other}
 use Rattle.planning.specs.Basics.{someBelow}
 use Rattle.planning.specs.Record.{Task}
 use Rattle.planning.specs.Runs.{State, variables, count, black}
-use Rattle.planning.proofs.Tests.{T→true, true→T, F→false}
+use Rattle.planning.proofs.Tests.{T→true, true→T, F→false, T-cases}
 use Rattle.planning.proofs.Below.{some-intro, some-elim}
+use Rattle.planning.proofs.Formed.{Formed}
 use Rattle.planning.proofs.Painting.{black-inside}
-use Rattle.paths.specs.Paths.{Leads, fewValues, memoFor, rowAt, Memo, leadTo}
-
-pub part-long : (xs : List ℕ) (a k : ℕ) → k ≡ 64 → a + 64 ≤ length xs → length (take k (drop a xs)) ≡ 64
-part-long xs a k e h = rw e (length-take-le 64 (drop a xs) (omega (arith, length-drop a xs)))
-
--- a list with a part of 64 entries from place a on replaced
-module _ (xs ys : List ℕ) (a : ℕ) (long : length ys ≡ 64) (fits : a + 64 ≤ length xs) where
-  abbrev spliced : List ℕ
-  spliced = take a xs ++ (ys ++ drop 64 (drop a xs))
-
-  splice-before : (p : ℕ) → p < a → getD spliced p 0 ≡ getD xs p 0
-  splice-before p h = List·getD-append (take a xs) (ys ++ drop 64 (drop a xs)) 0 p (omega (arith, length-take-le a xs (omega arith))) ∙ getD-take a xs p 0 h
-
-  splice-tail : (k : ℕ) → getD spliced (a + k) 0 ≡ getD (ys ++ drop 64 (drop a xs)) k 0
-  splice-tail k = subst (λ (x : ℕ). getD spliced (x + k) 0 ≡ getD (ys ++ drop 64 (drop a xs)) k 0) (length-take-le a xs (omega arith)) (getD-append-add (take a xs) (ys ++ drop 64 (drop a xs)) k 0)
-
-  splice-in : (k : ℕ) → k < 64 → getD spliced (a + k) 0 ≡ getD ys k 0
-  splice-in k h = splice-tail k ∙ List·getD-append ys (drop 64 (drop a xs)) 0 k (omega arith)
-
-  splice-behind : (p : ℕ) → a + 64 ≤ p → getD spliced p 0 ≡ getD xs p 0
-  splice-behind p h =
-      let e : p ≡ a + (64 + (p - (a + 64))) = omega arith in
-      let f : getD (ys ++ drop 64 (drop a xs)) (length ys + (p - (a + 64))) 0 ≡ getD (drop 64 (drop a xs)) (p - (a + 64)) 0 = getD-append-add ys (drop 64 (drop a xs)) (p - (a + 64)) 0 in
-      let g : getD (ys ++ drop 64 (drop a xs)) (64 + (p - (a + 64))) 0 ≡ getD (drop 64 (drop a xs)) (p - (a + 64)) 0 = rw long at f in
-      ap (λ (x : ℕ). getD spliced x 0) e ∙ splice-tail (64 + (p - (a + 64))) ∙ g
-      ∙ getD-drop 64 (drop a xs) (p - (a + 64)) 0 ∙ getD-drop a xs (64 + (p - (a + 64))) 0 ∙ ap (λ (x : ℕ). getD xs x 0) (sym e)
+use Rattle.state.specs.Sets.{inSet}
+use Rattle.paths.specs.Paths.{unknown, Leads, fewValues, memoFor, slot, leadIn, Memo, Leading, leadTo}
+use Rattle.paths.specs.Labels.{leadBy, Done, Settled}
+use Rattle.paths.proofs.Labels.{settled-lead}
+use Rattle.paths.proofs.Walking.{lead-moves}
 
 -- variables before v have few values; the search for one with more, and its end
 module _ (t : Task) where
@@ -68,7 +49,7 @@ module _ (t : Task) where
       go true = omega arith
       go false = omega arith
 
-  pub memo-rows : (v : ℕ) → v < variables t → count t v ≤ 64 → rowAt (count t v) ≤ memoFor t
+  pub memo-rows : (v : ℕ) → v < variables t → count t v ≤ 64 → 64 * (count t v + 1) ≤ memoFor t
   unfolding memoFor
   memo-rows v h few = go (fewValues t) refl
     where
@@ -80,55 +61,101 @@ module _ (t : Task) where
       go true e = small (decLt 15 (count t v)) e
       go false e = omega arith
 
-  pub memo-row : (v d : ℕ) → T (black t v) → d < count t v → count t v ≤ 64 → rowAt d + 64 ≤ memoFor t
-  memo-row v d bl b few = omega (arith, memo-rows v (black-inside t v bl) few)
+  pub memo-lead : (v c k : ℕ) → T (black t v) → c < count t v → count t v ≤ 64 → k < 64 → 64 * (c + 1) + k < memoFor t
+  memo-lead v c k bl b few kb = omega (arith, memo-rows v (black-inside t v bl) few)
 
-module _ (t : Task) (K : State) (v d : ℕ) (bl : T (black t v)) (b : d < count t v) (few : count t v ≤ 64) where
-  module _ (memo row : List ℕ) (M : Memo t K memo) (long : length row ≡ 64) (L : Leads t K v d row) where
-    abbrev written : List ℕ
-    written = take (rowAt d) memo ++ (row ++ drop 64 (drop (rowAt d) memo))
+pub slot-below : (v d : ℕ) → slot v d < 64
+unfolding slot
+slot-below v d = omega arith
 
-    fits : rowAt d + 64 ≤ length memo
-    fits = omega (arith, M .long, memo-row t v d bl b few)
+slot-apart : (v d e : ℕ) → d < 64 → e < 64 → slot v d ≡ slot v e → d ≡ e
+unfolding slot
+slot-apart v d e db eb h = omega arith
 
-    written-long : length written ≡ memoFor t
-    written-long =
-        let front : length (take (rowAt d) memo) ≡ rowAt d = length-take-le (rowAt d) memo (omega (arith, fits)) in
-        let whole = length-append (take (rowAt d) memo) (row ++ drop 64 (drop (rowAt d) memo)) in
-        let rest = length-append row (drop 64 (drop (rowAt d) memo)) in
-        omega (arith, M .long, fits, whole, rest, long, front, length-drop 64 (drop (rowAt d) memo), length-drop (rowAt d) memo)
+-- the leads of the values below x are written to slot k, and what stands in other slots is as it was
+pub record Filling (labels : List ℕ) (rest k : ℕ) (memo₀ memo : List ℕ) (x : ℕ) : Type 0 where
+  pub long : length memo ≡ length memo₀
+  pub others : (p : ℕ) → p % 64 ≢ k → getD memo p 0 ≡ getD memo₀ p 0
+  pub filled : (y : ℕ) → y < x → leadIn memo k y ≡ leadBy (inSet rest y) (getD labels y 0) y
 
+module _ (labels : List ℕ) (rest k : ℕ) (kb : k < 64) (memo₀ memo : List ℕ) (x : ℕ) (R : Filling labels rest k memo₀ memo x) where
+  pub filling-turn : (w : ℕ) → 64 * (x + 1) + k < length memo₀ → w ≡ leadBy (inSet rest x) (getD labels x 0) x → Filling labels rest k memo₀ (set memo (64 * (x + 1) + k) w) (x + 1)
+  filling-turn w b e = record {
+    long = length-set memo (64 * (x + 1) + k) w ∙ R .long;
+    others = λ p n. getD-set-other memo (64 * (x + 1) + k) p w 0 (λ q. n (omega (arith, q))) ∙ R .others p n;
+    filled = λ y l. go y l (ℕ-discrete y x);
+  }
+    where
+      go : (y : ℕ) → y < x + 1 → Dec (y ≡ x) → leadIn (set memo (64 * (x + 1) + k) w) k y ≡ leadBy (inSet rest y) (getD labels y 0) y
+      go y l (yes q) = rw q (getD-set-same memo (64 * (x + 1) + k) w 0 (omega (arith, R .long)) ∙ e)
+      go y l (no q) = getD-set-other memo (64 * (x + 1) + k) (64 * (y + 1) + k) w 0 (λ z. q (omega (arith, z))) ∙ R .filled y (omega arith)
+
+-- the same leads in another place
+leads-same : (t : Task) (K : State) (v d : ℕ) (lead lead′ : ℕ → ℕ) → count t v ≤ 64 → ((c : ℕ) → lead′ c ≡ lead c) → Leads t K v d lead → Leads t K v d lead′
+leads-same t K v d lead lead′ few same L c cb k =
+    let r = L c cb (λ q. k (same c ∙ q)) in
+    (same c ∙ r .0, λ q. r .1 (sym (same (leadTo t K v d c % 64)) ∙ q))
+
+-- where they are all written, those of settled values are known
+module _ (t : Task) (F : Formed t) (K : State) (v d : ℕ) (db : d < count t v) (labels : List ℕ) (rest : ℕ) (S : Settled t K v d labels rest) (k : ℕ) (ek : k ≡ slot v d) (memo₀ memo : List ℕ)
+    (R : Filling labels rest k memo₀ memo (count t v)) where
+  known : (c : ℕ) → c < count t v → Done rest c → (leadIn memo k c ≡ leadTo t K v d c) × (leadIn memo k c ≢ unknown c)
+  known c cb o = (e, λ q. lead-moves t F K v d c cb (sym e ∙ q))
+    where
+      e : leadIn memo k c ≡ leadTo t K v d c
+      e = R .filled c cb ∙ ap (λ b. leadBy b (getD labels c 0) c) (F→false (inSet rest c) o) ∙ settled-lead t F K v d db labels rest S c cb o .0
+
+  leads-filled : Leads t K v d (leadIn memo k)
+  unfolding leadBy
+  leads-filled x xb n = go (T-cases (inSet rest x))
+    where
+      go : T (inSet rest x) ⊎ T (not (inSet rest x)) → (leadIn memo k x ≡ leadTo t K v d x) × (leadIn memo k (leadTo t K v d x % 64) ≢ unknown (leadTo t K v d x % 64))
+      go (inl r) = absurd (n (R .filled x xb ∙ ap (λ b. leadBy b (getD labels x 0) x) (T→true (inSet rest x) r)))
+      go (inr r) =
+          let f : Done rest x = T-not (inSet rest x) r in
+          let l = settled-lead t F K v d db labels rest S x xb f in
+          (known x xb f .0, known (leadTo t K v d x % 64) (l .2) (l .1) .1)
+
+  -- then the mark
+  module _ (M : Memo t K memo₀) (m : ℕ) (em : m ≡ v + 1) where
     abbrev marked : List ℕ
-    marked = set written d (v + 1)
+    marked = set memo k m
 
-    memo-mark : getD marked d 0 ≡ v + 1
-    memo-mark = getD-set-same written d (v + 1) 0 (omega (arith, written-long, memo-marks t, few))
+    kb : k < 64
+    kb = rw ek (slot-below v d)
 
-    -- a row of another value stands as it was
-    other-row : (u e c : ℕ) → T (black t u) → e < 64 → c < 64 → c < count t u → (e ≡ d → ⊥) → getD marked e 0 ≡ u + 1 → getD marked (rowAt e + c) 0 ≡ leadTo t K u e c
-    other-row u e c ub eb cs cb ne h =
-        let same : getD marked e 0 ≡ getD written e 0 = getD-set-other written d e (v + 1) 0 ne in
-        let m : getD memo e 0 ≡ u + 1 = sym (same ∙ splice-before memo row (rowAt d) long fits e (omega arith)) ∙ h in
-        getD-set-other written d (rowAt e + c) (v + 1) 0 (omega (arith, few)) ∙ apart (decLt e d) ∙ M .rows u e c ub eb cb m
-      where
-        apart : Dec (e < d) → getD written (rowAt e + c) 0 ≡ getD memo (rowAt e + c) 0
-        apart (yes l) = splice-before memo row (rowAt d) long fits (rowAt e + c) (omega arith)
-        apart (no l) = splice-behind memo row (rowAt d) long fits (rowAt e + c) (omega arith)
+    lead-kept : (j c : ℕ) → leadIn marked j c ≡ leadIn memo j c
+    lead-kept j c = getD-set-other memo k (64 * (c + 1) + j) m 0 (λ q. omega (arith, q, kb))
 
-    memo-written : ((u : ℕ) → count t u ≤ 64) → Memo t K marked
-    memo-written small = record {
-      long = length-set written d (v + 1) ∙ written-long;
-      rows = λ u e c ub eb cb h. go u e c ub eb cb h (ℕ-discrete e d);
-    }
-      where
-        go : (u e c : ℕ) → T (black t u) → e < 64 → c < count t u → getD marked e 0 ≡ u + 1 → Dec (e ≡ d) → getD marked (rowAt e + c) 0 ≡ leadTo t K u e c
-        go u e c ub eb cb h (no q) = other-row u e c ub eb (omega (arith, small u)) cb q h
-        go u e c ub eb cb h (yes q) =
-            let m : getD marked d 0 ≡ u + 1 = rw q at h in
-            let same : u ≡ v = omega (arith, m, memo-mark) in
-            let cv : c < count t v = rw same at cb in
-            rw (q, same) (getD-set-other written d (rowAt d + c) (v + 1) 0 (omega (arith, few)) ∙ splice-in memo row (rowAt d) long fits c (omega arith) ∙ L c cv)
+    own-mark : getD marked k 0 ≡ v + 1
+    own-mark = getD-set-same memo k m 0 (omega (arith, R .long, M .long, memo-marks t, kb)) ∙ em
 
-    pub memo-filled : ((u : ℕ) → count t u ≤ 64) → (k x : ℕ) → k ≡ 64 → x ≡ v + 1
-        → let m = set (take (rowAt d) memo ++ (row ++ drop k (drop (rowAt d) memo))) d x in Memo t K m × (getD m d 0 ≡ v + 1)
-    memo-filled small k x e q = rw (e, q) (memo-written small, memo-mark)
+    other-mark : (j : ℕ) → j < 64 → (j ≡ k → ⊥) → getD marked j 0 ≡ getD memo₀ j 0
+    other-mark j b n = getD-set-other memo k j m 0 n ∙ R .others j (λ q. n (omega (arith, q)))
+
+    other-lead : (j : ℕ) → j < 64 → (j ≡ k → ⊥) → (c : ℕ) → leadIn marked j c ≡ leadIn memo₀ j c
+    other-lead j b n c = lead-kept j c ∙ R .others (64 * (c + 1) + j) (λ q. n (omega (arith, q)))
+
+    rows-filled : ((u : ℕ) → count t u ≤ 64) → (u e : ℕ) → T (black t u) → e < 64 → getD marked (slot u e) 0 ≡ u + 1 → Dec (slot u e ≡ k) → Leads t K u e (leadIn marked (slot u e))
+    rows-filled small u e ub eb h (no q) =
+        leads-same t K u e (leadIn memo₀ (slot u e)) (leadIn marked (slot u e)) (small u) (other-lead (slot u e) (slot-below u e) q)
+        (M .rows u e ub eb (sym (other-mark (slot u e) (slot-below u e) q) ∙ h))
+    rows-filled small u e ub eb h (yes q) =
+        let w : u + 1 ≡ v + 1 = sym h ∙ ap (λ (j : ℕ). getD marked j 0) q ∙ own-mark in
+        let eu : u ≡ v = omega (arith, w) in
+        let ee : e ≡ d = slot-apart v e d eb (omega (arith, small v)) (subst (λ (x : ℕ). slot x e ≡ slot v d) eu (q ∙ ek)) in
+        rw (eu, ee, ← ek) (leads-same t K v d (leadIn memo k) (leadIn marked k) (small v) (lead-kept k) leads-filled)
+
+    pub memo-filled : ((u : ℕ) → count t u ≤ 64) → (c : ℕ) → c < count t v → Done rest c → Memo t K (set memo k m) × Leading (set memo k m) v c d
+    memo-filled small c cb o = (
+      record { long = length-set memo k m ∙ R .long ∙ M .long; rows = λ u e ub eb h. rows-filled small u e ub eb h (ℕ-discrete (slot u e) k) },
+      rw (← ek) (own-mark, λ q. known c cb o .1 (sym (lead-kept k c) ∙ q)),
+    )
+
+-- the slot by another name
+module _ (memo : List ℕ) (v c d k : ℕ) (e : k ≡ slot v d) where
+  pub leading : getD memo k 0 ≡ v + 1 → leadIn memo k c ≢ unknown c → Leading memo v c d
+  leading m l = rw (← e) (m, l)
+
+  pub leading-leads : (t : Task) (K : State) → Memo t K memo → T (black t v) → d < 64 → Leading memo v c d → Leads t K v d (leadIn memo k) × (leadIn memo k c ≢ unknown c)
+  leading-leads t K M bl b L = rw e (M .rows v d bl b (L .0), L .1)

@@ -1,11 +1,11 @@
 -- Which variables moves need, and why rows of leads stay right while nothing new of these is held: a path depends on the facts
 -- known by the usable arcs alone, and an arc of a black variable is given by an action that sets it.
 use mathlib.Core.Path.{_≡_, refl, sym, ap, _∙_, subst, fun-ext}
-use mathlib.Core.Logic.{_⊎_, inl, inr}
+use mathlib.Core.Logic.{_⊎_, inl, inr, _≢_}
 use mathlib.Core.Bool.{Bool, true, false, _&&_, _||_, or-false, or-assoc, and-false}
 use mathlib.Core.List.{List, [], _∷_}
 use mathlib.Core.Option.{Option, none, some}
-use Prim.Native.Nat.{ℕ, zero, suc, _+_, _/_, _^_, _<_, _≤_, pred}
+use Prim.Native.Nat.{ℕ, zero, suc, _+_, _/_, _%_, _^_, _<_, _≤_, pred}
 use native.Mathlib.Omega.{arith}
 use native.Mathlib.Decide.{decLt}
 use lib.Bits.{bitOr}
@@ -23,7 +23,7 @@ use Rattle.task.specs.Task.{factOf, factsIn}
 use Rattle.state.specs.Sets.{inSet}
 use Rattle.state.proofs.Effects.{factsIn-cons, factsIn-none}
 use Rattle.state.proofs.Members.{inSet-or, inSet-single}
-use Rattle.paths.specs.Paths.{leadOf, Memo, anyBlack, Covers}
+use Rattle.paths.specs.Paths.{leadOf, leadTo, unknown, slot, leadIn, Memo, anyBlack, Covers}
 
 -- one turn of a loop over facts, and its end
 module _ (l : List ℕ) (k to : ℕ) (h : k < to) (b : to ≤ length l) (f : ℕ) (ef : f ≡ getD l k 0) where
@@ -141,5 +141,8 @@ module _ (t : Task) (m : ℕ) (C : Covers t (actions t) m) (K L : State) (sub : 
   pub memo-same : (memo : List ℕ) → Memo t K memo → Memo t L memo
   memo-same memo M = record {
     long = M .long;
-    rows = λ v d c bl b cb e. M .rows v d c bl b cb e ∙ ap (λ (p : List ℕ). leadOf (act t) v c p) (path-same (act t) (actions t) K L v (count t v) (usable-same v bl) c d);
+    rows = λ v d bl b e c cb k.
+        let r = M .rows v d bl b e c cb k in
+        let same : leadTo t K v d c ≡ leadTo t L v d c = ap (λ (p : List ℕ). leadOf (act t) v c p) (path-same (act t) (actions t) K L v (count t v) (usable-same v bl) c d) in
+        (r .0 ∙ same, subst (λ (x : ℕ). leadIn memo (slot v d) (x % 64) ≢ unknown (x % 64)) same (r .1));
   }

@@ -22,12 +22,11 @@ use Rattle.planning.proofs.Below.{tally-le, tally-cases}
 use Rattle.planning.proofs.Formed.{Formed}
 use Rattle.planning.proofs.Best.{arcs-inside}
 use Rattle.state.specs.Sets.{inSet}
-use Rattle.state.proofs.Members.{inSet-single}
-use Rattle.paths.specs.Paths.{Member, leadTo}
-use Rattle.paths.specs.Labels.{unreached, dearest, highest, through, leadBy, Nearest, Into, Lowered, Settled}
+use Rattle.state.proofs.Members.{inSet-empty, inSet-single}
+use Rattle.paths.specs.Paths.{Member}
+use Rattle.paths.specs.Labels.{unreached, dearest, highest, through, Nearest, Into, Lowered, Done, Settled}
 use Rattle.paths.proofs.Sets.{inSet-either, either, inSet-all}
 use Rattle.paths.proofs.Arcs.{arc-leaves}
-use Rattle.paths.proofs.Labels.{settled-lead}
 
 -- the nearest of the members before c, and its label
 pub record Seeking (labels : List ℕ) (front r m c : ℕ) : Type 0 where
@@ -77,6 +76,10 @@ module _ (labels : List ℕ) (front : ℕ) where
 
     pub seeking-more : ¬ (getD labels c 0 < m) → Seeking labels front r m y
     seeking-more h = turn r m (S .inside) (S .member) (S .label) (omega arith) (omega arith)
+
+-- the empty set
+pub none-in : (c : ℕ) → Done 0 c
+none-in c h = rw inSet-empty at h
 
 -- a value taken out of a set
 rest-bit : (a b : Bool) → (T b → T a) → either a b ≡ (a && not b)
@@ -155,20 +158,23 @@ module _ (t : Task) (F : Formed t) (K : State) (v d : ℕ) (db : d < count t v) 
     }
 
   module _ (labels : List ℕ) (rest front x : ℕ) (S : Settling t K v d labels rest front) (N : Nearest labels front x) where
-    -- none is left
-    pub settling-end : 64 ≤ x → Settled t K v d labels
+    into-inside : (c y m : ℕ) → Into t K v y (getD labels y 0 / 65536) c m → y < n
+    into-inside c y m (i, ib, u, e, _) = rw (← e) (arcs-inside t F K v c i ib u)
+
+    -- none is left, so that each label stands
+    pub settling-end : 64 ≤ x → Settled t K v d labels 0
     settling-end h = record {
       goal = S .goal;
+      goal-done = none-in d;
       small = λ c cb l. omega (arith, S .bound c cb l);
-      least = λ c x m cb ne l I. S .least c x m cb ne (into-inside c x m I) (λ r. far x r l) I;
-      found = λ c cb ne. elim (S .found c cb ne) [ inl z ↦ inl z | inr z ↦ inr (z .0, S .settled (z .0) (z .1) (z .2), z .3) ];
+      least = λ c y m cb ne _ _ l I. S .least c y m cb ne (into-inside c y m I) (λ r. far y r l) I;
+      found = λ c cb ne _. elim (S .found c cb ne) [ inl z ↦ inl z | inr z ↦ inr (z .0, none-in (z .0), S .settled (z .0) (z .1) (z .2), z .3) ];
+      beyond = λ c y m s r. absurd (none-in c r);
+      reached = λ c s r. absurd (none-in c r);
     }
       where
         far : (c : ℕ) → T (inSet rest c) → getD labels c 0 < unreached → ⊥
         far c r l = omega (arith, N .least c (small c (S .inside c r)) (S .front-of c r l) .0)
-
-        into-inside : (c x m : ℕ) → Into t K v x (getD labels x 0 / 65536) c m → x < n
-        into-inside c x m (i, ib, u, e, _) = rw (← e) (arcs-inside t F K v c i ib u)
 
     module _ (xs : x < 64) where
       pub near-in : T (inSet rest x)
@@ -183,101 +189,142 @@ module _ (t : Task) (F : Formed t) (K : State) (v d : ℕ) (db : d < count t v) 
       pub near-key : getD labels x 0 / 65536 ≤ highest
       near-key = omega (arith, S .bound x xn xl)
 
-      module _ (one : ℕ) (e : one ≡ 2 ^ x) (labels′ : List ℕ) (front′ : ℕ)
-          (M : Lowered (Into t K v x (getD labels x 0 / 65536)) (bitXor rest one) labels labels′ (bitXor front one) front′) where
+      module _ (one : ℕ) (e : one ≡ 2 ^ x) where
         abbrev rest′ : ℕ
         rest′ = bitXor rest one
 
-        out : T (inSet rest′ x) → ⊥
+        out : Done rest′ x
         out = taken-out rest x one e near-in
 
-        still-out : (c : ℕ) → (T (inSet rest c) → ⊥) → T (inSet rest′ c) → ⊥
+        still-out : (c : ℕ) → Done rest c → Done rest′ c
         still-out c o r = o (taken-of rest x one e near-in c r)
 
-        out-cases : (c : ℕ) → (T (inSet rest′ c) → ⊥) → (c ≡ x) ⊎ (T (inSet rest c) → ⊥)
+        out-cases : (c : ℕ) → Done rest′ c → (c ≡ x) ⊎ Done rest c
         out-cases = taken-cases rest x one e near-in
-
-        same : (c : ℕ) → c < n → (T (inSet rest′ c) → ⊥) → getD labels′ c 0 ≡ getD labels c 0
-        same c b o = elim (M .found c (small c b)) [ inl z ↦ z | inr z ↦ absurd (o (z .0)) ]
 
         -- a label by an arc into x
         above : (c m : ℕ) → Into t K v x (getD labels x 0 / 65536) c m → getD labels x 0 < m
         unfolding through
         above c m (i, ib, u, _, w) = omega (arith, w)
 
-        high-enough : (c m : ℕ) → Into t K v x (getD labels x 0 / 65536) c m → 65535 < m
+        -- the settled ones are no farther than x, and the others no nearer
+        low : (s : ℕ) → s < n → Done rest′ s → getD labels s 0 ≤ getD labels x 0
+        low s sb so = elim (out-cases s so) [ inl q ↦ rw q (omega arith) | inr q ↦ S .ordered s x sb q near-in ]
+
+        far : (c : ℕ) → T (inSet rest c) → getD labels x 0 ≤ getD labels c 0
+        far c r = elim (decLt (getD labels c 0) unreached) [
+          | yes l ↦ N .least c (small c (S .inside c r)) (S .front-of c r l) .1
+          | no l ↦ omega (arith, xl)
+        ]
+
+        -- what is settled is no more than what an arc into x gives
+        settled-into : (c m : ℕ) → c < n → Done rest′ c → Into t K v x (getD labels x 0 / 65536) c m → getD labels c 0 ≤ m
+        settled-into c m cb o I = omega (arith, low c cb o, above c m I)
+
+        reached-out : (s : ℕ) → s < n → Done rest′ s → getD labels s 0 < unreached
+        reached-out s sb so = omega (arith, low s sb so, xl)
+
+        goal-out : Done rest′ d
         unfolding through
-        high-enough c m (i, ib, u, _, w) = omega (arith, w)
+        goal-out r = elim (S .found x xn nd) [
+          | inl z ↦ omega (arith, z, xl)
+          | inr (y, yb, yo, (i, ib, u, ty, w)) ↦ omega (arith, w, far d (taken-of rest x one e near-in d r), S .goal, small d db)
+        ]
+          where
+            nd : x ≢ d
+            nd q = out (subst (λ y. T (inSet rest′ y)) (sym q) r)
 
-        near : (c m : ℕ) → Into t K v x (getD labels x 0 / 65536) c m → (m < unreached) × (m / 65536 ≤ getD labels x 0 / 65536 + dearest)
-        unfolding through
-        near c m (i, ib, u, _, w) =
-            let a = F .cost-below i in
-            let b = F .actions-max in
-            let k = near-key in
-            (omega (arith, w, xs), omega (arith, w, xs))
+        -- x is the last to be settled
+        pub settling-stop : Settled t K v d labels rest′ × Done rest′ x
+        settling-stop = (
+          record {
+            goal = S .goal;
+            goal-done = goal-out;
+            small = λ c cb l. omega (arith, S .bound c cb l);
+            least = λ c y m cb ne co yo yl I. elim (out-cases y yo) [
+              | inl q ↦ settled-into c m cb co (subst (λ z. Into t K v z (getD labels z 0 / 65536) c m) q I)
+              | inr q ↦ S .least c y m cb ne (into-inside c y m I) q I
+            ];
+            found = λ c cb ne co. elim (S .found c cb ne) [ inl z ↦ inl z | inr (y, yb, yo, I) ↦ inr (y, still-out y yo, S .settled y yb yo, I) ];
+            beyond = λ c y m s r yo yl I sb so. elim (out-cases y yo) [
+              | inl q ↦ omega (arith, low s sb so, above c m (subst (λ z. Into t K v z (getD labels z 0 / 65536) c m) q I))
+              | inr q ↦
+                  let rc = taken-of rest x one e near-in c r in
+                  omega (arith, low s sb so, far c rc, S .least c y m (S .inside c rc) (λ z. goal-out (subst (λ y. T (inSet rest′ y)) z r)) (into-inside c y m I) q I)
+            ];
+            reached = λ c s r sb so. reached-out s sb so;
+          },
+          out,
+        )
 
-        fewer : tally 64 (inSet rest′) < tally 64 (inSet rest)
-        fewer = taken-fewer rest x one e near-in xs
+        module _ (labels′ : List ℕ) (front′ : ℕ) (M : Lowered (Into t K v x (getD labels x 0 / 65536)) (bitXor rest one) labels labels′ (bitXor front one) front′) where
+          same : (c : ℕ) → c < n → Done rest′ c → getD labels′ c 0 ≡ getD labels c 0
+          same c b o = elim (M .found c (small c b)) [ inl z ↦ z | inr z ↦ absurd (o (z .0)) ]
 
-        least-into : (c m : ℕ) → c < n → c ≢ d → Into t K v x (getD labels x 0 / 65536) c m → T (inSet rest′ c) ⊎ T (not (inSet rest′ c)) → getD labels′ c 0 ≤ m
-        least-into c m cb ne I (inl r) = M .least c m (small c cb) r I
-        least-into c m cb ne I (inr r) =
-            let o : T (inSet rest′ c) → ⊥ = T-not (inSet rest′ c) r in
-            elim (out-cases c o) [
-              | inl q ↦ absurd (arc-leaves t F K v c (I .0) (I .1) (I .2) (q ∙ sym (I .3)))
-              | inr q ↦ omega (arith, same c cb o, S .ordered c x cb q near-in, above c m I)
-            ]
+          high-enough : (c m : ℕ) → Into t K v x (getD labels x 0 / 65536) c m → 65535 < m
+          unfolding through
+          high-enough c m (i, ib, u, _, w) = omega (arith, w)
 
-        pub settling-turn : Settling t K v d labels′ rest′ front′
-        settling-turn = record {
-          long = M .long;
-          goal = elim (M .found d (small d db)) [ inl z ↦ z ∙ S .goal | inr z ↦ absurd (omega (arith, M .below d (small d db), S .goal, small d db, high-enough d (getD labels′ d 0) (z .1))) ];
-          inside = λ c h. S .inside c (taken-of rest x one e near-in c h);
-          fronts = λ c b h. elim (M .grown c b h) [
-            | inl z ↦
-                let f : T (inSet front c) = taken-of front x one e (N .member xs) c z in
-                let p = S .fronts c b f in
-                (taken-in rest x one e near-in c (p .0) (λ q. taken-out front x one e (N .member xs) (subst (λ y. T (inSet (bitXor front one) y)) q z)), omega (arith, p .1, M .below c b))
-            | inr z ↦ (z .0, omega (arith, M .least c (z .1 .0) b (z .0) (z .1 .1), near c (z .1 .0) (z .1 .1) .0))
-          ];
-          front-of = λ c r l.
-              let rc = taken-of rest x one e near-in c r in
-              let b = small c (S .inside c rc) in
-              elim (M .found c b) [
-                | inl z ↦ M .kept c (taken-in front x one e (N .member xs) c (S .front-of c rc (omega (arith, z))) (λ q. out (subst (λ y. T (inSet rest′ y)) q r)))
-                | inr z ↦ M .grows c (getD labels′ c 0) b r (z .1)
-              ];
-          least = λ c y m cb ne yb yo I. elim (out-cases y yo) [
-            | inl q ↦ least-into c m cb ne (subst (λ z. Into t K v x (z / 65536) c m) (same x xn out) (subst (λ z. Into t K v z (getD labels′ z 0 / 65536) c m) q I)) (T-cases (inSet rest′ c))
-            | inr q ↦ omega (arith, M .below c (small c cb), S .least c y m cb ne yb q (subst (λ z. Into t K v y (z / 65536) c m) (same y yb yo) I))
-          ];
-          found = λ c cb ne. elim (M .found c (small c cb)) [
-            | inl z ↦ elim (S .found c cb ne) [
-              | inl w ↦ inl (z ∙ w)
-              | inr (y, yb, yo, I) ↦
-                  let s : getD labels y 0 ≡ getD labels′ y 0 = sym (same y yb (still-out y yo)) in
-                  inr (y, yb, still-out y yo, subst (λ k. Into t K v y (k / 65536) c (getD labels′ c 0)) s (subst (λ m. Into t K v y (getD labels y 0 / 65536) c m) (sym z) I))
-            ]
-            | inr z ↦ inr (x, xn, out, subst (λ k. Into t K v x (k / 65536) c (getD labels′ c 0)) (sym (same x xn out)) (z .1))
-          ];
-          ordered = λ s c sb so r.
-              let rc = taken-of rest x one e near-in c r in
-              let b = small c (S .inside c rc) in
-              let low : getD labels s 0 ≤ getD labels x 0 = elim (out-cases s so) [ inl q ↦ rw q (omega arith) | inr q ↦ S .ordered s x sb q near-in ] in
-              elim (M .found c b) [
-                | inl z ↦ elim (decLt (getD labels c 0) unreached) [
-                  | yes l ↦ omega (arith, same s sb so, low, z, N .least c b (S .front-of c rc l) .1)
-                  | no l ↦ omega (arith, same s sb so, low, z, xl)
-                ]
-                | inr z ↦ omega (arith, same s sb so, low, above c (getD labels′ c 0) (z .1))
-              ];
-          settled = λ s sb so. elim (out-cases s so) [ inl q ↦ rw (same s sb so, q) xl | inr q ↦ rw (same s sb so) (S .settled s sb q) ];
-          bound = λ c cb l. elim (M .found c (small c cb)) [
-            | inl z ↦ omega (arith, z, fewer, S .bound c cb (omega (arith, z)))
-            | inr z ↦ omega (arith, fewer, S .bound x xn xl, near c (getD labels′ c 0) (z .1) .1)
-          ];
-        }
+          near : (c m : ℕ) → Into t K v x (getD labels x 0 / 65536) c m → (m < unreached) × (m / 65536 ≤ getD labels x 0 / 65536 + dearest)
+          unfolding through
+          near c m (i, ib, u, _, w) =
+              let a = F .cost-below i in
+              let b = F .actions-max in
+              let k = near-key in
+              (omega (arith, w, xs), omega (arith, w, xs))
+
+          fewer : tally 64 (inSet rest′) < tally 64 (inSet rest)
+          fewer = taken-fewer rest x one e near-in xs
+
+          least-into : (c m : ℕ) → c < n → Into t K v x (getD labels x 0 / 65536) c m → T (inSet rest′ c) ⊎ T (not (inSet rest′ c)) → getD labels′ c 0 ≤ m
+          least-into c m cb I (inl r) = M .least c m (small c cb) r I
+          least-into c m cb I (inr r) = let o : Done rest′ c = T-not (inSet rest′ c) r in omega (arith, same c cb o, settled-into c m cb o I)
+
+          pub settling-turn : Settling t K v d labels′ rest′ front′
+          settling-turn = record {
+            long = M .long;
+            goal = elim (M .found d (small d db)) [ inl z ↦ z ∙ S .goal | inr z ↦ absurd (omega (arith, M .below d (small d db), S .goal, small d db, high-enough d (getD labels′ d 0) (z .1))) ];
+            inside = λ c h. S .inside c (taken-of rest x one e near-in c h);
+            fronts = λ c b h. elim (M .grown c b h) [
+              | inl z ↦
+                  let f : T (inSet front c) = taken-of front x one e (N .member xs) c z in
+                  let p = S .fronts c b f in
+                  (taken-in rest x one e near-in c (p .0) (λ q. taken-out front x one e (N .member xs) (subst (λ y. T (inSet (bitXor front one) y)) q z)), omega (arith, p .1, M .below c b))
+              | inr z ↦ (z .0, omega (arith, M .least c (z .1 .0) b (z .0) (z .1 .1), near c (z .1 .0) (z .1 .1) .0))
+            ];
+            front-of = λ c r l.
+                let rc = taken-of rest x one e near-in c r in
+                let b = small c (S .inside c rc) in
+                elim (M .found c b) [
+                  | inl z ↦ M .kept c (taken-in front x one e (N .member xs) c (S .front-of c rc (omega (arith, z))) (λ q. out (subst (λ y. T (inSet rest′ y)) q r)))
+                  | inr z ↦ M .grows c (getD labels′ c 0) b r (z .1)
+                ];
+            least = λ c y m cb ne yb yo I. elim (out-cases y yo) [
+              | inl q ↦ least-into c m cb (subst (λ z. Into t K v x (z / 65536) c m) (same x xn out) (subst (λ z. Into t K v z (getD labels′ z 0 / 65536) c m) q I)) (T-cases (inSet rest′ c))
+              | inr q ↦ omega (arith, M .below c (small c cb), S .least c y m cb ne yb q (subst (λ z. Into t K v y (z / 65536) c m) (same y yb yo) I))
+            ];
+            found = λ c cb ne. elim (M .found c (small c cb)) [
+              | inl z ↦ elim (S .found c cb ne) [
+                | inl w ↦ inl (z ∙ w)
+                | inr (y, yb, yo, I) ↦
+                    let s : getD labels y 0 ≡ getD labels′ y 0 = sym (same y yb (still-out y yo)) in
+                    inr (y, yb, still-out y yo, subst (λ k. Into t K v y (k / 65536) c (getD labels′ c 0)) s (subst (λ m. Into t K v y (getD labels y 0 / 65536) c m) (sym z) I))
+              ]
+              | inr z ↦ inr (x, xn, out, subst (λ k. Into t K v x (k / 65536) c (getD labels′ c 0)) (sym (same x xn out)) (z .1))
+            ];
+            ordered = λ s c sb so r.
+                let rc = taken-of rest x one e near-in c r in
+                let b = small c (S .inside c rc) in
+                elim (M .found c b) [
+                  | inl z ↦ omega (arith, same s sb so, low s sb so, z, far c rc)
+                  | inr z ↦ omega (arith, same s sb so, low s sb so, above c (getD labels′ c 0) (z .1))
+                ];
+            settled = λ s sb so. rw (same s sb so) (reached-out s sb so);
+            bound = λ c cb l. elim (M .found c (small c cb)) [
+              | inl z ↦ omega (arith, z, fewer, S .bound c cb (omega (arith, z)))
+              | inr z ↦ omega (arith, fewer, S .bound x xn xl, near c (getD labels′ c 0) (z .1) .1)
+            ];
+          }
 
 -- the start: all values unsettled, and d has the label of the empty path
 all-ones : (n : ℕ) → n ≤ 64 → 18446744073709551615 / 2 ^ (64 - n) ≡ 2 ^ n - 1
@@ -306,16 +353,3 @@ started t F K v d n one db en eo = (
 
     front : (c : ℕ) → inSet one c ≡ eqb c d
     front c = rw eo (inSet-single d c)
-
--- the leads read off
-pub record Reading (t : Task) (K : State) (v d : ℕ) (row : List ℕ) (c : ℕ) : Type 0 where
-  pub long : length row ≡ 64
-  pub leads : (x : ℕ) → x < c → x < count t v → getD row x 0 ≡ leadTo t K v d x
-
-module _ (t : Task) (F : Formed t) (K : State) (v d : ℕ) (db : d < count t v) (labels : List ℕ) (S : Settled t K v d labels) where
-  pub reading-turn : (row : List ℕ) (c w : ℕ) → Reading t K v d row c → c < 64 → c < count t v → w ≡ leadBy (getD labels c 0) c → Reading t K v d (set row c w) (c + 1)
-  reading-turn row c w R b cb e = record { long = length-set row c w ∙ R .long; leads = λ x l xb. go x l xb (ℕ-discrete x c) }
-    where
-      go : (x : ℕ) → x < c + 1 → x < count t v → Dec (x ≡ c) → getD (set row c w) x 0 ≡ leadTo t K v d x
-      go x l xb (yes q) = rw q (getD-set-same row c w 0 (omega (arith, R .long)) ∙ e ∙ settled-lead t F K v d db labels S c cb)
-      go x l xb (no q) = getD-set-other row c x w 0 q ∙ R .leads x (omega arith) xb

@@ -1,6 +1,7 @@
 -- The path read off a row of leads: each lead comes one move closer, so the path is the definition's. A lead whose target is the value
 -- itself is that of an empty path, as an arc leaves its value.
 use mathlib.Core.Path.{_≡_, refl, sym, ap, _∙_}
+use mathlib.Core.Logic.{_≢_}
 use mathlib.Core.List.{List, [], _∷_, _++_, append-assoc, append-nil}
 use mathlib.Core.Option.{none, some}
 use Prim.Native.Nat.{ℕ, zero, suc, pred, _+_, _/_, _%_, _<_, _≤_}
@@ -16,7 +17,7 @@ use Rattle.planning.specs.Painting.{target}
 use Rattle.planning.specs.Repair.{usableArc, bestIn, bestPath}
 use Rattle.planning.proofs.Formed.{Formed}
 use Rattle.planning.proofs.Best.{best-onward, arcs-inside}
-use Rattle.paths.specs.Paths.{pathsOf, leadOf, leadTo, Put}
+use Rattle.paths.specs.Paths.{pathsOf, leadOf, leadTo, unknown, Put}
 use Rattle.paths.specs.declared.Written.the-variants.{Upto}
 use Rattle.paths.proofs.Arcs.{arc-leaves}
 
@@ -64,6 +65,11 @@ module _ (t : Task) (F : Formed t) (K : State) (v d : ℕ) where
           let o = best-onward (act t) A K v d n inside x b i p q in
           let m : target (act t) v i < n = inside x i (o .below) (o .usable) in
           absurd (arc-leaves t F K v x i (o .below) (o .usable) (omega (arith, e, F .count-max v)))
+
+  -- so no lead is that of a move to the value itself
+  pub lead-moves : (x : ℕ) → x < n → leadTo t K v d x ≢ unknown x
+  unfolding leadOf
+  lead-moves x b e = let z : leadTo t K v d x ≡ x = rw (walk-stop x b (omega (arith, e, F .count-max v))) refl in omega (arith, e, z)
 
   -- the lead of another path: its first action, and where the path goes on
   pub record Move (x l : ℕ) : Type 0 where

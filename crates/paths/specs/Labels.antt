@@ -11,6 +11,7 @@ use Rattle.planning.specs.Runs.{State, actions, count, act}
 use Rattle.planning.specs.Painting.{target}
 use Rattle.planning.specs.Repair.{usableArc}
 use Rattle.state.specs.Sets.{inSet}
+use Rattle.paths.specs.Paths.{unknown}
 
 -- where no path was found; what a move adds to a key at most, 64 × 65,535 + 1; a bound on keys, 64 such moves
 abbrev pub unreached : ℕ
@@ -26,9 +27,9 @@ highest = 268431424
 unfoldable pub through : ℕ → ℕ → ℕ → ℕ → ℕ
 through key cost i x = (key + 64 * cost + 1) * 65536 + (64 * i + x)
 
--- the lead that a label of c has, c where no path was found
-unfoldable pub leadBy : ℕ → ℕ → ℕ
-leadBy l c = elim (eqb l unreached) [ true ↦ c | false ↦ l % 65536 ]
+-- the lead that a label of c has: unknown where c is open, c where no path was found
+unfoldable pub leadBy : Bool → ℕ → ℕ → ℕ
+leadBy rest l c = elim rest [ true ↦ unknown c | false ↦ elim (eqb l unreached) [ true ↦ c | false ↦ l % 65536 ] ]
 
 -- the lesser of two numbers where the test holds
 unfoldable pub lower : Bool → ℕ → ℕ → ℕ
@@ -56,10 +57,19 @@ pub record Lowered (D : ℕ → ℕ → Type 0) (rest : ℕ) (old new : List ℕ
   pub grows : (c m : ℕ) → c < 64 → T (inSet rest c) → D c m → T (inSet grow c)
   pub grown : (c : ℕ) → c < 64 → T (inSet grow c) → T (inSet front c) ⊎ (T (inSet rest c) × ((m : ℕ) × D c m))
 
--- The labels towards d: that of d is that of the empty path; any other is the least by a usable arc into a value that has one.
-pub record Settled (t : Task) (K : State) (v d : ℕ) (labels : List ℕ) : Type 0 where
+-- c is not among the values that are left
+abbrev pub Done : ℕ → ℕ → Type 0
+Done rest c = T (inSet rest c) → ⊥
+
+-- The labels towards d of a search that may have stopped, where the values of the set rest are open, which is not settled. The label of d is that of the
+-- empty path; any other settled one is the least by a usable arc into a settled value that has one. An arc from an open value into a settled
+-- one gives no less than the settled ones have, and then all of these have been reached.
+pub record Settled (t : Task) (K : State) (v d : ℕ) (labels : List ℕ) (rest : ℕ) : Type 0 where
   pub goal : getD labels d 0 ≡ d
+  pub goal-done : Done rest d
   pub small : (c : ℕ) → c < count t v → getD labels c 0 < unreached → getD labels c 0 / 65536 ≤ highest
-  pub least : (c x m : ℕ) → c < count t v → c ≢ d → getD labels x 0 < unreached → Into t K v x (getD labels x 0 / 65536) c m → getD labels c 0 ≤ m
-  pub found : (c : ℕ) → c < count t v → c ≢ d
-      → (getD labels c 0 ≡ unreached) ⊎ ((x : ℕ) × (getD labels x 0 < unreached) × Into t K v x (getD labels x 0 / 65536) c (getD labels c 0))
+  pub least : (c x m : ℕ) → c < count t v → c ≢ d → Done rest c → Done rest x → getD labels x 0 < unreached → Into t K v x (getD labels x 0 / 65536) c m → getD labels c 0 ≤ m
+  pub found : (c : ℕ) → c < count t v → c ≢ d → Done rest c
+      → (getD labels c 0 ≡ unreached) ⊎ ((x : ℕ) × Done rest x × (getD labels x 0 < unreached) × Into t K v x (getD labels x 0 / 65536) c (getD labels c 0))
+  pub beyond : (c x m s : ℕ) → T (inSet rest c) → Done rest x → getD labels x 0 < unreached → Into t K v x (getD labels x 0 / 65536) c m → s < count t v → Done rest s → getD labels s 0 ≤ m
+  pub reached : (c s : ℕ) → T (inSet rest c) → s < count t v → Done rest s → getD labels s 0 < unreached

@@ -1,8 +1,9 @@
--- Rows of leads: the first action of the best path to one value and where it leads, from each value.
+-- Leads: the first action of the best path to one value and where it leads, from each value; kept in a memo.
 use mathlib.Core.Path.{_≡_}
+use mathlib.Core.Logic.{_≢_}
 use mathlib.Core.Bool.{Bool, true, false, not, _&&_, _||_}
 use mathlib.Core.List.{List, [], _∷_, _++_}
-use Prim.Native.Nat.{ℕ, _+_, _*_, _<_, _≤_}
+use Prim.Native.Nat.{ℕ, _+_, _*_, _%_, _<_, _≤_}
 use lib.Dec.{T, ltb}
 use lib.ListN.{length, getD, take}
 use Rattle.planning.specs.Basics.{someBelow}
@@ -38,25 +39,37 @@ leadOf act v c (i ∷ p) = 64 * i + target act v i
 abbrev pub leadTo : Task → State → ℕ → ℕ → ℕ → ℕ
 leadTo t K v d c = leadOf (act t) v c (pathsOf t K v c d)
 
--- the row holds the leads to d
-abbrev pub Leads : Task → State → ℕ → ℕ → List ℕ → Type 0
-Leads t K v d row = (c : ℕ) → c < count t v → getD row c 0 ≡ leadTo t K v d c
+-- what stands for the lead from c where it is not known: a move from c to c, which no path has
+abbrev pub unknown : ℕ → ℕ
+unknown c = 64 + c
+
+-- leads to d, each unknown or the best path's; and where one is known, so is that of the value to which it leads
+abbrev pub Leads : Task → State → ℕ → ℕ → (ℕ → ℕ) → Type 0
+Leads t K v d lead = (c : ℕ) → c < count t v → lead c ≢ unknown c → (lead c ≡ leadTo t K v d c) × (lead (leadTo t K v d c % 64) ≢ unknown (leadTo t K v d c % 64))
 
 -- no variable has more than 15 values
 unfoldable pub fewValues : Task → Bool
 fewValues t = not (someBelow (variables t) (λ v. ltb 15 (count t v)))
 
--- the memo: 64 marks, and behind them a row of 64 leads for each value that a variable may have; its length
+-- the memo: a mark for each of 64 slots, and behind them for each value that a variable may have 64 leads, one a slot; its length
 unfoldable pub memoFor : Task → ℕ
 memoFor t = elim (fewValues t) [ true ↦ 1024 | false ↦ 4160 ]
 
-abbrev pub rowAt : ℕ → ℕ
-rowAt d = 64 * (d + 1)
+-- the slot of the variable v and the value d: no two values of a variable have the same; and the leads in a slot
+unfoldable pub slot : ℕ → ℕ → ℕ
+slot v d = (39 * v + d) % 64
 
--- the row of d has the leads to d of the black variable v where v + 1 is the mark of d
+abbrev pub leadIn : List ℕ → ℕ → ℕ → ℕ
+leadIn memo k c = getD memo (64 * (c + 1) + k) 0
+
+-- where v + 1 is the mark of a slot, the leads in it are those of the black variable v
 pub record Memo (t : Task) (K : State) (memo : List ℕ) : Type 0 where
   pub long : length memo ≡ memoFor t
-  pub rows : (v d c : ℕ) → T (black t v) → d < 64 → c < count t v → getD memo d 0 ≡ v + 1 → getD memo (rowAt d + c) 0 ≡ leadTo t K v d c
+  pub rows : (v d : ℕ) → T (black t v) → d < 64 → getD memo (slot v d) 0 ≡ v + 1 → Leads t K v d (leadIn memo (slot v d))
+
+-- the lead of v from c to d is known
+abbrev pub Leading : List ℕ → ℕ → ℕ → ℕ → Type 0
+Leading memo v c d = (getD memo (slot v d) 0 ≡ v + 1) × (leadIn memo (slot v d) c ≢ unknown c)
 
 -- the facts set a black variable
 unfoldable pub anyBlack : Task → List Fact → Bool

@@ -5,15 +5,16 @@ ghost use mathlib.Core.Path.{_≡_};
 ghost use mathlib.Core.Bool.{_&&_, _||_};
 ghost use Prim.Native.Nat.{ℕ, _+_, _/_, _<_, _≤_, min};
 ghost use lib.Dec.{T};
-ghost use lib.ListN.{length, getD};
+ghost use lib.ListN.{length, getD, replicate};
 ghost use Rattle.planning.specs.Runs.{touches, holds, actions, count, act, black};
 ghost use Rattle.task.specs.Task.{factsIn, taskIn, Loaded};
 ghost use Rattle.task.specs.Links.{Prepared};
 ghost use Rattle.state.specs.Sets.{inSet, setsOf, Facts};
-ghost use Rattle.paths.specs.Paths.{Member, sourceOf, pathsOf, Leads, fewValues, Memo, anyBlack, Covers, Put};
-ghost use Rattle.paths.specs.Labels.{lower, through, highest, leadBy, Nearest, Into, Lowered, Settled};
+ghost use Rattle.paths.specs.Paths.{Member, sourceOf, pathsOf, fewValues, slot, Memo, Leading, anyBlack, Covers, Put};
+ghost use Rattle.paths.specs.Labels.{unreached, lower, through, highest, leadBy, Nearest, Into, Lowered, Done, Settled};
 
-// The memo has 64 marks, and behind them a row of 64 leads for each value: 15 where no variable has more, else 64.
+// The memo has a mark for each of 64 slots, and behind them 64 leads for each value, one a slot: for 15 values where no variable has more, else
+// for 64. The leads of a variable to one value are in one slot.
 pub const SMALL: usize = 1024;
 
 pub const LARGE: usize = 4160;
@@ -174,12 +175,20 @@ fn nearest(labels: &[u64; 64], front: u64) -> usize
     r
 }
 
-// The labels of all values towards d: of those that have one yet, the nearest is settled next.
-fn settle(task: &[u16], ever: &[u64; 64], v: usize, d: usize) -> [u64; 64]
-    requires { ⌜ Prepared (now task) × T (black (taskIn (now task)) v) × (d < count (taskIn (now task)) v) ⌝ }
-    ensures { λ r. ⌜ Settled (taskIn (now (task .entry))) (setsOf (now (ever .entry))) v d r ⌝ }
+// The labels towards d where there is none yet: of the values that have one the nearest is settled next, until c is, or each where the whole
+// is asked for. The answer is the set of those that are not settled.
+fn settle(
+    task: &[u16],
+    ever: &[u64; 64],
+    labels: &mut [u64; 64],
+    v: usize,
+    c: usize,
+    d: usize,
+    whole: bool,
+) -> u64
+    requires { ⌜ Prepared (now task) × T (black (taskIn (now task)) v) × (d < count (taskIn (now task)) v) × (now labels ≡ replicate 64 unreached) ⌝ }
+    ensures { λ r. ⌜ Settled (taskIn (now (task .entry))) (setsOf (now (ever .entry))) v d (now (labels .exit)) r × Done r c ⌝ }
 {
-    let mut labels = [UNREACHED; 64];
     labels[d] = d as u64;
     let mut rest = ALL >> (64 - task::count(task, v));
     let mut front = state::single(d);
@@ -187,51 +196,75 @@ fn settle(task: &[u16], ever: &[u64; 64], v: usize, d: usize) -> [u64; 64]
     while x < 64 {
         let one = state::single(x);
         rest = rest ^ one;
-        front = arrive(task, ever, &mut labels, v, x, rest, front ^ one);
-        x = nearest(&labels, front);
+        if x == c && !whole {
+            return rest;
+        }
+        front = arrive(task, ever, labels, v, x, rest, front ^ one);
+        x = nearest(labels, front);
     }
-    labels
+    0
 }
 
-// The lead of c by its label.
-fn lead(l: u64, c: usize) -> u16
+// The lead of c by its label, unknown if c is open.
+fn lead(l: u64, c: usize, rest: u64) -> u16
     requires { ⌜ c < 64 ⌝ }
-    ensures { λ r. ⌜ r ≡ leadBy l c ⌝ }
+    ensures { λ r. ⌜ r ≡ leadBy (inSet rest c) l c ⌝ }
 {
-    if l == UNREACHED {
+    if state::member(rest, c) {
+        (64 + c) as u16
+    } else if l == UNREACHED {
         c as u16
     } else {
         (l % 65536) as u16
     }
 }
 
-// The row of leads to d.
-fn towards(task: &[u16], ever: &[u64; 64], row: &mut [u16], v: usize, d: usize)
-    requires { ⌜ Prepared (now task) × T (black (taskIn (now task)) v) × (length (now row) ≡ 64) × (d < count (taskIn (now task)) v) ⌝ }
-    ensures { λ _. ⌜ Leads (taskIn (now (task .entry))) (setsOf (now (ever .entry))) v d (now (row .exit)) ⌝ }
+// The slot of a variable and a value. Other variables may have it; the factor keeps those apart whose numbers are close.
+fn slot(v: usize, d: usize) -> usize
+    requires { ⌜ (v < 64) × (d < 64) ⌝ }
+    ensures { λ r. ⌜ r ≡ slot v d ⌝ }
 {
-    let labels = settle(task, ever, v, d);
-    let n = task::count(task, v);
-    let mut c: usize = 0;
-    while c < n {
-        row[c] = lead(labels[c], c);
-        c += 1;
-    }
+    (39 * v + d) % 64
 }
 
-// The row of leads to d stands in the memo: it is searched for if it does not yet.
-fn prepare(task: &[u16], ever: &[u64; 64], memo: &mut [u16], v: usize, d: usize)
-    requires { ⌜ Prepared (now task) × T (black (taskIn (now task)) v) × (d < count (taskIn (now task)) v) ⌝ }
-    requires { ⌜ Memo (taskIn (now task)) (setsOf (now ever)) (now memo) ⌝ }
-    ensures { λ _. ⌜ Memo (taskIn (now (task .entry))) (setsOf (now (ever .entry))) (now (memo .exit)) × (getD (now (memo .exit)) d 0 ≡ v + 1) ⌝ }
+// The leads of v to d go to slot k: that of c is known, and where the whole is asked for, each is.
+fn towards(
+    task: &[u16],
+    ever: &[u64; 64],
+    memo: &mut [u16],
+    v: usize,
+    c: usize,
+    d: usize,
+    k: usize,
+    whole: bool,
+)
+    requires { ⌜ Prepared (now task) × T (black (taskIn (now task)) v) × (c < count (taskIn (now task)) v) × (d < count (taskIn (now task)) v) ⌝ }
+    requires { ⌜ (k ≡ slot v d) × Memo (taskIn (now task)) (setsOf (now ever)) (now memo) ⌝ }
+    ensures { λ _. ⌜ Memo (taskIn (now (task .entry))) (setsOf (now (ever .entry))) (now (memo .exit)) × Leading (now (memo .exit)) v c d ⌝ }
 {
-    if lists::wide(memo[d]) == v + 1 {
+    let mut labels = [UNREACHED; 64];
+    let rest = settle(task, ever, &mut labels, v, c, d, whole);
+    let n = task::count(task, v);
+    let mut x: usize = 0;
+    while x < n {
+        memo[64 * (x + 1) + k] = lead(labels[x], x, rest);
+        x += 1;
+    }
+    memo[k] = (v + 1) as u16;
+}
+
+// The lead of v from c to d stands in slot k of the memo: it is searched for if it does not yet, and where the slot has others to d, with all of
+// them.
+fn prepare(task: &[u16], ever: &[u64; 64], memo: &mut [u16], v: usize, c: usize, d: usize, k: usize)
+    requires { ⌜ Prepared (now task) × T (black (taskIn (now task)) v) × (c < count (taskIn (now task)) v) × (d < count (taskIn (now task)) v) ⌝ }
+    requires { ⌜ (k ≡ slot v d) × Memo (taskIn (now task)) (setsOf (now ever)) (now memo) ⌝ }
+    ensures { λ _. ⌜ Memo (taskIn (now (task .entry))) (setsOf (now (ever .entry))) (now (memo .exit)) × Leading (now (memo .exit)) v c d ⌝ }
+{
+    let begun = lists::wide(memo[k]) == v + 1;
+    if begun && lists::wide(memo[64 * (c + 1) + k]) != 64 + c {
         return;
     }
-    let from = 64 * (d + 1);
-    let to = from + 64;
-    towards(task, ever, &mut memo[from..to], v, d);
-    memo[d] = (v + 1) as u16;
+    towards(task, ever, memo, v, c, d, k, begun);
 }
 
 // The path of v from c to d (6.7), written into the list from place `at` on.
@@ -250,12 +283,11 @@ pub fn path(
     ensures { λ r. ⌜ Put (now (list .entry)) (now (list .exit)) at (pathsOf (taskIn (now (task .entry))) (setsOf (now (ever .entry))) v c d) r ⌝ }
     ensures { λ _. ⌜ Memo (taskIn (now (task .entry))) (setsOf (now (ever .entry))) (now (memo .exit)) ⌝ }
 {
-    prepare(task, ever, memo, v, d);
-    let from = 64 * (d + 1);
-    let row = &memo[from..];
+    let k = slot(v, d);
+    prepare(task, ever, memo, v, c, d, k);
     let mut x = c;
     let mut e = at;
-    let mut l = lists::wide(row[x]);
+    let mut l = lists::wide(memo[64 * (x + 1) + k]);
     while l % 64 != x {
         if e >= list.len() {
             return Written::Long;
@@ -263,7 +295,7 @@ pub fn path(
         list[e] = (l / 64) as u16;
         e += 1;
         x = l % 64;
-        l = lists::wide(row[x]);
+        l = lists::wide(memo[64 * (x + 1) + k]);
     }
     Written::Upto(e)
 }

@@ -416,8 +416,7 @@ fn walk(task: &[u16], list: &[u16], plan: &mut [u16], marks: &mut [u8], memo: &m
             let g = glide(task, old, plan, c, at, &plain);
             let newest = g.newest;
             c = g.counts;
-            let sets = s.sets;
-            s = State { sets, newest };
+            s.newest = newest;
             continue;
         }
         c = counted(task, &s.newest.values, i, c);

@@ -365,6 +365,21 @@ impl Newest {
     }
 }
 
+// The effects of action i put into the sets.
+fn add_effects(sets: &mut [u64; 64], task: &[u16], i: usize)
+    requires { ⌜ Loaded (now task) × (i < actions (taskIn (now task))) × (length (now sets) ≡ 64) ⌝ }
+    ensures { λ _. ⌜ setsOf (now (sets .exit)) ≡ step relaxed (act (taskIn (now (task .entry))) i) (setsOf (now (sets .entry))) ⌝ }
+{
+    let end = task::eff_end(task, i);
+    let mut k = task::eff_start(task, i);
+    while k < end {
+        let f = lists::wide(task[k]);
+        let v = f / 64;
+        sets[v] = sets[v] | single(f % 64);
+        k += 1;
+    }
+}
+
 // The relaxed state: every value that a variable has had.
 pub struct Relaxed {
     pub sets: [u64; 64],
@@ -376,14 +391,7 @@ impl Relaxed {
         requires { ⌜ Loaded (now task) × (i < actions (taskIn (now task))) ⌝ }
         ensures { λ r. ⌜ setsOf (r .sets) ≡ step relaxed (act (taskIn (now (task .entry))) i) (setsOf (self .sets)) ⌝ }
     {
-        let end = task::eff_end(task, i);
-        let mut k = task::eff_start(task, i);
-        while k < end {
-            let f = lists::wide(task[k]);
-            let v = f / 64;
-            self.sets[v] = self.sets[v] | single(f % 64);
-            k += 1;
-        }
+        add_effects(&mut self.sets, task, i);
         self
     }
 
@@ -429,17 +437,15 @@ impl State {
     }
 
     // The state after action i, whole. Beside the copies of the sets the newest values may be stored one by one.
-    pub fn step(self, task: &[u16], i: usize) -> State
+    pub fn step(mut self, task: &[u16], i: usize) -> State
         requires { ⌜ Loaded (now task) × (i < actions (taskIn (now task))) ⌝ }
         ensures { λ r. ⌜ setsOf (r .sets) ≡ step relaxed (act (taskIn (now (task .entry))) i) (setsOf (self .sets)) ⌝ }
         ensures { λ r. ⌜ valuesOf (r .newest .values) ≡ newer (act (taskIn (now (task .entry))) i) (valuesOf (self .newest .values)) ⌝ }
     {
-        let sets = self.sets;
-        let held = Relaxed { sets };
-        let next = held.step(task, i);
-        let sets = next.sets;
+        add_effects(&mut self.sets, task, i);
         let old = self.newest;
         let newest = old.stored(task, i);
-        State { sets, newest }
+        self.newest = newest;
+        self
     }
 }

@@ -92,11 +92,11 @@ loop-less c = search needs
 
 loop-again : tie.Need-loop-again Inv-loop μ-loop
 loop-again c =
-    let k = c .before .before .before .before in
+    let k = c .before .before .before in
     let j = k .before .before .before .before in
     let t = turn-of (j .before) in
-    let held = sym (k .knows-effects .ensures .0) ∙ c .before .before .before .if3 .taken in (
-      following-held _ _ (start-of t .pre .loaded .formed) _ _ _ _ (t .before .loop .inv .0) (omega arith) _ refl _ _ (j .before .further .ensures) (goes j) held (c .before .step .ensures),
+    let held = sym (k .knows-effects .ensures .0) ∙ c .before .before .if3 .taken in (
+      following-held _ _ (start-of t .pre .loaded .formed) _ _ _ _ (t .before .loop .inv .0) (omega arith) _ refl _ _ (j .before .further .ensures) (goes j) held (c .step .ensures),
       known-held _ _ _ _ held (k .knows-effects .ensures .1 .0),
     )
 

@@ -1,99 +1,88 @@
+-- Where the slot has the mark and the lead from c nothing is to be done; else the leads are written, and the mark.
 use borrow.Author.Needs.{needs}
-use mathlib.Core.List.{List}
-use mathlib.Core.Path.{_≡_, refl, sym, _∙_}
-use Prim.Native.Nat.{ℕ, _+_, _-_, _*_, _<_, _≤_}
+use mathlib.Core.Path.{sym, _∙_}
+use Prim.Native.Nat.{_+_, _*_, _<_}
 use native.Mathlib.Omega.{arith}
-use lib.ListN.{length, take, drop}
+use borrow.Author.Tests.{eqb-true, eqb-false, not-true}
+use lib.ListN.{length}
 use Rattle.planning.proofs.Painting.{black-inside}
-use Rattle.paths.proofs.Memos.{memo-filled, memo-row, part-long}
+use Rattle.task.specs.Task.{taskIn}
+use Rattle.paths.proofs.Memos.{memo-marks, memo-lead, slot-below, leading}
 use Rattle.paths.proofs.prepare.Statement.{statement}
 use Rattle.paths.proofs.prepare.Tie as tie
 
-small : (s : tie.Start) → s .args .d < 64
-small s = omega (arith, s .pre .0 .2, s .pre .0 .0 .loaded .formed .count-max (s .args .v))
+-- the numbers are small, and mark and lead lie in the memo
+record Small (s : tie.Start) : Type 0 where
+  pub variable : s .args .v < 64
+  pub from : s .args .c < 64
+  pub slotted : s .args .k < 64
+  pub mark-in : s .args .k < length (s .args .memo .now)
+  pub lead-in : 64 * (s .args .c + 1) + s .args .k < length (s .args .memo .now)
 
--- where the row of d stands; it lies in the memo, and is 64 entries long
-abbrev from-of : tie.Start → ℕ
-from-of s = 64 * (s .args .d + 1)
+small : (s : tie.Start) → Small s
+small s =
+    let p = s .pre .0 in
+    let F = p .0 .loaded .formed in
+    let b : s .args .k < 64 = omega (arith, s .pre .1 .0, slot-below (s .args .v) (s .args .d)) in
+    record {
+      variable = omega (arith, black-inside _ _ (p .1), F .variables-max);
+      from = omega (arith, p .2, F .count-max (s .args .v));
+      slotted = b;
+      mark-in = omega (arith, b, s .pre .1 .1 .long, memo-marks (taskIn (s .args .task .now)));
+      lead-in = omega (arith, s .pre .1 .1 .long, memo-lead (taskIn (s .args .task .now)) (s .args .v) (s .args .c) (s .args .k) (p .1) (p .2) (F .count-max (s .args .v)) b);
+    }
 
-fits : (s : tie.Start) → from-of s + 64 ≤ length (s .args .memo .now)
-fits s = omega (arith, s .pre .1 .long, memo-row _ _ _ (s .pre .0 .1) (s .pre .0 .2) (s .pre .0 .0 .loaded .formed .count-max (s .args .v)))
-
-row-long : (s : tie.Start) → length (take ((from-of s + 64) - from-of s) (drop (from-of s) (s .args .memo .now))) ≡ 64
-row-long s = part-long (s .args .memo .now) (from-of s) ((from-of s + 64) - from-of s) (omega arith) (fits s)
-
-near : (s : tie.Start) → s .args .v < 64
-near s = let F = s .pre .0 .0 .loaded .formed in omega (arith, black-inside _ _ (s .pre .0 .1), F .variables-max)
+-- the start, seen from the test of the mark
+abbrev start-of : tie.After-wide → tie.Start
+start-of c = c .before .before .before .before
 
 mul-wide : tie.Need-mul-wide
-mul-wide c = omega (arith, small (c .before .before))
+mul-wide c = let r = small (c .before .before) in omega (arith, r .slotted)
 
 slice-read-wide : tie.Need-slice-read-wide
-slice-read-wide c = let s = c .before .before .before in omega (arith, fits s)
+slice-read-wide c = small (c .before .before .before) .mark-in
 
 wide-requires : tie.Need-wide-requires
 wide-requires c κs = search needs
 
-add-if1 : tie.Need-add-if1
-add-if1 c = omega (arith, near (c .before .before .before .before))
+add-begun : tie.Need-add-begun
+add-begun c = let r = small (start-of c) in omega (arith, r .variable)
+
+add-wide : tie.Need-add-wide
+add-wide c = let r = small (start-of (c .before)) in omega (arith, r .from)
+
+mul-wide-2 : tie.Need-mul-wide-2
+mul-wide-2 c = let r = small (start-of (c .before)) in omega (arith, r .from)
+
+add-wide-2 : tie.Need-add-wide-2
+add-wide-2 c = let r = small (start-of (c .before)) in omega (arith, r .from, r .slotted)
+
+mul-wide-3 : tie.Need-mul-wide-3
+mul-wide-3 c = let r = small (start-of (c .before)) in omega (arith, r .from, r .slotted)
+
+slice-read-wide-2 : tie.Need-slice-read-wide-2
+slice-read-wide-2 c = small (start-of (c .before .before)) .lead-in
+
+wide-requires-2 : tie.Need-wide-requires-2
+wide-requires-2 c κs = search needs
+
+add-if2 : tie.Need-add-if2
+add-if2 c = let r = small (start-of (c .before .before .before)) in omega (arith, r .from)
 
 returns : tie.Need-returns
-returns c = let s = c .before .before .before .before .before in (s .pre .1, sym (c .before .wide .ensures) ∙ c .if1 .taken)
-
-add-from : tie.Need-add-from
-add-from c = omega (arith, small (c .before .before .before .before .before))
-
-mul-from : tie.Need-mul-from
-mul-from c = omega (arith, small (c .before .before .before .before .before))
-
-add-to : tie.Need-add-to
-add-to c = omega (arith, small (c .before .before .before .before .before))
-
-mul-towards : tie.Need-mul-towards
-mul-towards c = omega (arith, small (c .before .before .before .before .before))
-
-sub-towards : tie.Need-sub-towards
-sub-towards c = omega arith
-
-part-towards-start : tie.Need-part-towards-start
-part-towards-start c = omega arith
-
-part-towards-end : tie.Need-part-towards-end
-part-towards-end c = let s = c .before .before .before .before .before in omega (arith, fits s)
+returns c =
+    let t = c .before .before .before in
+    let s = start-of (t .before) in
+    (s .pre .1 .1, leading (s .args .memo .now) (s .args .v) (s .args .c) (s .args .d) (s .args .k) (s .pre .1 .0) (sym (t .before .wide .ensures) ∙ eqb-true _ _ (t .if1 .taken)) (λ q. eqb-false _ _ (not-true _ (c .if2 .taken)) (c .before .wide2 .ensures ∙ q)))
 
 towards-requires : tie.Need-towards-requires
-towards-requires c κs = let s = c .before .before .before .before .before .before in (s .pre .0 .0, s .pre .0 .1, row-long s, s .pre .0 .2)
-
-abbrev start-of : tie.After-slice-known3 → tie.Start
-start-of c = c .before .before .before .before .before .before .before .before .before
-
-add-memo : tie.Need-add-memo
-add-memo c = omega (arith, near (start-of c))
-
-cast-memo : tie.Need-cast-memo
-cast-memo c = omega (arith, near (start-of c))
-
-mul-memo : tie.Need-mul-memo
-mul-memo c = omega (arith, small (start-of c))
-
-slice-write-memo : tie.Need-slice-write-memo
-slice-write-memo c =
-    let s = start-of c in
-    omega (arith, c .before .memo .given .1, fits s)
+towards-requires c κs = let s = start-of (c .before .before) in (s .pre .0, s .pre .1)
 
 same-length : tie.Need-same-length
 same-length c = search needs
 
 returns-2 : tie.Need-returns-2
-returns-2 c =
-    let found = c .before .before in
-    let s = start-of c in
-    let a = s .args in
-    let F = s .pre .0 .0 .loaded .formed in
-    let row = found .towards .last .1 .1 .0 in
-    let z : length {A = ℕ} row ≡ length (take ((from-of s + 64) - from-of s) (drop (from-of s) (a .memo .now))) = c .before .memo .given .0 in
-    memo-filled _ _ (a .v) (a .d) (s .pre .0 .1) (s .pre .0 .2) (F .count-max (a .v)) (a .memo .now) row (s .pre .1) (z ∙ row-long s) (found .towards .ensures) (F .count-max)
-    ((from-of s + 64) - from-of s) _ (omega arith) refl
+returns-2 c = c .before .before .towards .ensures
 
 pub prepare-spec : {M : Type 1} → statement M
 prepare-spec =
@@ -102,19 +91,15 @@ prepare-spec =
     mul-wide
     slice-read-wide
     wide-requires
-    add-if1
+    add-begun
+    add-wide
+    mul-wide-2
+    add-wide-2
+    mul-wide-3
+    slice-read-wide-2
+    wide-requires-2
+    add-if2
     returns
-    add-from
-    mul-from
-    add-to
-    mul-towards
-    sub-towards
-    part-towards-start
-    part-towards-end
     towards-requires
-    add-memo
-    cast-memo
-    mul-memo
-    slice-write-memo
     same-length
     returns-2)

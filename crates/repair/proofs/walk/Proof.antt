@@ -242,13 +242,13 @@ glide-requires c κs =
 
 loop-less-2 : tie.Need-loop-less-2 Inv-loop μ-loop
 loop-less-2 c =
-    let g = c .before .before .before in
+    let g = c .before .before in
     let E = g .glide .ensures in
     steps-fewer _ _ _ _ (less (wide-of (held-of g .before))) (omega (arith, E .onward .steps, E .more .steps))
 
 loop-again-2 : tie.Need-loop-again-2 Inv-loop μ-loop
 loop-again-2 c =
-    let g = c .before .before .before in
+    let g = c .before .before in
     let e = held-of g .before in
     let w = wide-of e in
     let h = head-of w in

@@ -6,14 +6,14 @@ use native.Mathlib.Omega.{arith}
 use Rattle.state.proofs.Listed.{Listed}
 use Rattle.state.proofs.Listing.{loaded-listed}
 use Rattle.state.proofs.Effects.{Walking, walking-start, walking-inside, walking-small, walking-turn, Putting, putting-start, putting-turn, putting-end}
-use Rattle.state.proofs.Relaxed.step.Statement.{statement}
-use Rattle.state.proofs.Relaxed.step.Tie as tie
+use Rattle.state.proofs.add_effects.Statement.{statement}
+use Rattle.state.proofs.add_effects.Tie as tie
 
 abbrev Inv-loop : tie.InvT-loop
-Inv-loop task i self₀ end k₀ self k = Walking task i end k × Putting task i (self₀ .sets) (self .sets) k
+Inv-loop sets₀ task i end k₀ sets k = Walking task i end k × Putting task i sets₀ sets k
 
 abbrev μ-loop : tie.MeasureT-loop
-μ-loop task i self₀ end k₀ self k = end - k
+μ-loop sets₀ task i end k₀ sets k = end - k
 
 listed : (s : tie.Start Inv-loop μ-loop) → Listed (s .args .task .now) (s .args .i)
 listed s = loaded-listed _ (s .pre .0) _ (s .pre .1)
@@ -47,20 +47,20 @@ small c =
     let h = c .before .before .before in
     omega (arith, c .wide .ensures, walking-small _ _ (listed (start-of h)) _ _ (h .loop .inv .0) (omega arith))
 
-mul-self : tie.Need-mul-self Inv-loop μ-loop
-mul-self c = search needs
+mul-sets : tie.Need-mul-sets Inv-loop μ-loop
+mul-sets c = search needs
 
-element-copy-out-self : tie.Need-element-copy-out-self Inv-loop μ-loop
-element-copy-out-self c = omega (arith, small c)
+element-copy-out-sets : tie.Need-element-copy-out-sets Inv-loop μ-loop
+element-copy-out-sets c = omega (arith, small c)
 
 single-requires : tie.Need-single-requires Inv-loop μ-loop
 single-requires c κs = search needs
 
-mul-self-2 : tie.Need-mul-self-2 Inv-loop μ-loop
-mul-self-2 c = search needs
+mul-sets-2 : tie.Need-mul-sets-2 Inv-loop μ-loop
+mul-sets-2 c = search needs
 
-element-write-self : tie.Need-element-write-self Inv-loop μ-loop
-element-write-self c = omega (arith, small (c .before .before))
+element-write-sets : tie.Need-element-write-sets Inv-loop μ-loop
+element-write-sets c = omega (arith, small (c .before .before))
 
 add-k : tie.Need-add-k Inv-loop μ-loop
 add-k c = search needs
@@ -82,8 +82,8 @@ returns c =
     let h = c .before in
     putting-end _ _ (listed (start-of h)) _ _ _ _ (h .loop .inv .0) (h .loop .inv .1) (omega arith)
 
-pub step-spec : {M : Type 1} → statement M
-step-spec =
+pub add-effects-spec : {M : Type 1} → statement M
+add-effects-spec =
     tie.close
     (tie.spec
     Inv-loop
@@ -94,11 +94,11 @@ step-spec =
     mul-wide
     shared-slice-read-wide
     wide-requires
-    mul-self
-    element-copy-out-self
+    mul-sets
+    element-copy-out-sets
     single-requires
-    mul-self-2
-    element-write-self
+    mul-sets-2
+    element-write-sets
     add-k
     loop-less
     loop-again
