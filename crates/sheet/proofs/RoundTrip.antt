@@ -286,11 +286,6 @@ bitsFrom : List ℕ → ℕ → ℕ → List ℕ
 bitsFrom s p zero = []
 bitsFrom s p (suc w) = bitAt s p ∷ bitsFrom s (p + 1) w
 
-length-bitsFrom : (s : List ℕ) (p w : ℕ) → length (bitsFrom s p w) ≡ w
-unfolding bitsFrom
-length-bitsFrom s p zero = refl
-length-bitsFrom s p (suc w) = ap suc (length-bitsFrom s (p + 1) w)
-
 bitsFrom-add : (s : List ℕ) (p n m : ℕ) → bitsFrom s p (n + m) ≡ bitsFrom s p n ++ bitsFrom s (p + n) m
 unfolding bitsFrom
 bitsFrom-add s p zero m = rw (zero-add, add-zero) refl
