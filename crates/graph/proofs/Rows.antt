@@ -8,7 +8,7 @@ use native.Mathlib.Numerals.{add-one}
 use native.Mathlib.Omega.{arith}
 use native.Mathlib.Decide.{ℕ-discrete}
 use borrow.Author.Tests.{eq-eqb, ne-eqb}
-use lib.Bits.{bitAnd, bitOr, bitXor}
+use lib.Bits.{bitOr, bitXor}
 use lib.Dec.{T, T-not, eqb}
 use lib.ListN.{length, getD, set, replicate, length-set}
 use lib.Seq.{getD-set-same, getD-set-other}
@@ -21,7 +21,7 @@ use Rattle.planning.proofs.Facts.{has→touches, touches→has}
 use Rattle.planning.proofs.Arcs.{reduced-elim, unchanged}
 use Rattle.task.specs.Task.{factOf, factsIn, preAt, effAt, endAt, actionIn, taskIn}
 use Rattle.state.specs.Sets.{inSet, setsOf, modeOf, Facts}
-use Rattle.state.proofs.Members.{inSet-single, inSet-empty, inSet-or, inSet-and}
+use Rattle.state.proofs.Members.{inSet-single, inSet-empty, inSet-or}
 use Rattle.state.proofs.Effects.{factsIn-cons, factsIn-none}
 use Rattle.state.proofs.Listed.{Listed}
 use Rattle.graph.specs.Graph.{Rows, withAction}
