@@ -12,12 +12,12 @@ use Rattle.planning.specs.Basics.{Check, refuse, check, andThen, inOrder, Answe
 use Rattle.planning.specs.Record.{Task, taskOf, recordCheck}
 use Rattle.planning.specs.Runs.{actions, isPlan}
 use Rattle.planning.specs.Relaxed.{reachesGoals, relaxedPlan}
-use Rattle.planning.specs.Painting.{cyclic, unreturned, acyclicCheck, returnCheck}
+use Rattle.planning.specs.Painting.{acyclicCheck, returnCheck}
 use Rattle.planning.specs.Repair.{repaired, marks}
 use Rattle.planning.specs.Calls.{capacityOf, roomCheck, goalsCheck, Planned as Result, lengthCheck, relaxedCheck, planned, planOf, planCall, repairCall}
 use Rattle.planning.proofs.Steps.{All}
 use Rattle.planning.proofs.Plans.{isPlan-elim}
-use Rattle.planning.proofs.Checks.{check-none, andThen-last, andThen-none, andThen-assoc, refuseAt-none, inOrder-pass, inOrder-++}
+use Rattle.planning.proofs.Checks.{check-none, andThen-last, andThen-assoc, inOrder-pass, inOrder-++}
 use Rattle.answers.specs.declared.Refusal.{Refusal}
 use Rattle.answers.proofs.Stages.{answer-done}
 use Rattle.relax.specs.Keeping.{Unfound}
@@ -101,13 +101,6 @@ unfound-check t f U = rw (U .unsolved, U .number′, U .place′) refl
 pub found-check : (t : Task) → reachesGoals t ≡ true → goalsCheck t ≡ none
 unfolding goalsCheck check
 found-check t e = rw e refl
-
--- a painting that passes
-pub painting-passes : (t : Task) → paintingCheck t ≡ none → (cyclic t ≡ none) × (unreturned t ≡ none)
-unfolding paintingCheck acyclicCheck returnCheck
-painting-passes t e =
-    let h = andThen-none (acyclicCheck t) (returnCheck t) e in
-    (refuseAt-none 7 (cyclic t) (h .0), refuseAt-none 8 (unreturned t) (h .1))
 
 -- the same task behind its painting, and behind its record
 module _ (g : Bool) (t u : Task) (e : u ≡ t) (l : List ℕ) (room : ℕ) (plan area : List ℕ) (r : Planned) where
