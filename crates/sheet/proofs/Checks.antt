@@ -96,42 +96,23 @@ module _ (s : List ℕ) where
           rw (le-leb 4 (8 * length s) (omega arith), edition-known (editionIn s) least most, le-leb 5 (8 * length s) (omega arith), lt-leb 21 (8 * length s) (omega arith)) refl
 
       module _ (three : 3 ≤ length s) where
+        -- the checks that are left once the count of steps is there
+        counted : sheetCheck s ≡ andThen (check (leb (stepsIn s) 32768) 12 5) (andThen (sheetField s 21 32) (endCheck s))
+        unfolding sheetCheck sheetChecks inOrder andThen sheetField holdsField check endCheck
+        counted =
+            rw (le-leb 4 (8 * length s) (omega arith), edition-known (editionIn s) least most, le-leb 5 (8 * length s) (omega arith), le-leb 21 (8 * length s) (omega arith)) refl
+
         pub too-many-steps : 32768 < stepsIn s → sheetCheck s ≡ refuse 12 5
-        unfolding sheetCheck sheetChecks inOrder andThen sheetField holdsField check
-        too-many-steps h =
-            rw (
-              le-leb 4 (8 * length s) (omega arith),
-              edition-known (editionIn s) least most,
-              le-leb 5 (8 * length s) (omega arith),
-              le-leb 21 (8 * length s) (omega arith),
-              lt-leb (stepsIn s) 32768 h,
-            ) refl
+        unfolding andThen check
+        too-many-steps h = rw (counted, lt-leb (stepsIn s) 32768 h) refl
 
         pub cut-before-cost : stepsIn s ≤ 32768 → length s < 7 → sheetCheck s ≡ refuse 12 21
-        unfolding sheetCheck sheetChecks inOrder andThen sheetField holdsField check
-        cut-before-cost h l =
-            rw (
-              le-leb 4 (8 * length s) (omega arith),
-              edition-known (editionIn s) least most,
-              le-leb 5 (8 * length s) (omega arith),
-              le-leb 21 (8 * length s)
-                  (omega arith),
-              le-leb (stepsIn s) 32768 h,
-              lt-leb 53 (8 * length s) (omega arith),
-            ) refl
+        unfolding andThen sheetField holdsField check
+        cut-before-cost h l = rw (counted, le-leb (stepsIn s) 32768 h, lt-leb 53 (8 * length s) (omega arith)) refl
 
         pub front-passed : stepsIn s ≤ 32768 → 7 ≤ length s → sheetCheck s ≡ endCheck s
-        unfolding sheetCheck sheetChecks inOrder andThen sheetField holdsField check endCheck
-        front-passed h l =
-            rw (
-              le-leb 4 (8 * length s) (omega arith),
-              edition-known (editionIn s) least most,
-              le-leb 5 (8 * length s) (omega arith),
-              le-leb 21 (8 * length s)
-                  (omega arith),
-              le-leb (stepsIn s) 32768 h,
-              le-leb 53 (8 * length s) (omega arith),
-            ) refl
+        unfolding andThen sheetField holdsField check
+        front-passed h l = rw (counted, le-leb (stepsIn s) 32768 h, le-leb 53 (8 * length s) (omega arith)) refl
 
 -- The marks and the steps: all are there, or the first that is cut short refuses.
 pub steps-held : (s : List ℕ) (w p n : ℕ) (cs : List Check) → p + (w + 10) * n ≤ 8 * length s → inOrder (stepsChecks s w p n ++ cs) ≡ inOrder cs
