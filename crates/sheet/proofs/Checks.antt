@@ -13,6 +13,7 @@ use Rattle.planning.specs.Basics.{Check, check, refuse, andThen, inOrder, refus
 use Rattle.planning.specs.Calls.{Read, lengthCheck, roomCheck, notBelow, capacity, writeCall, readCall}
 use Rattle.planning.specs.Record.{endsAt}
 use Rattle.planning.specs.Sheet.{Sheet, markWidth, sheetSize, sheetEnd, sheetField, stepsChecks, sheetChecks, sheetCheck, editionIn, stepsIn}
+use Rattle.planning.proofs.Checks.{andThen-none}
 use Rattle.sheet.specs.Answers.{endCheck, headingOf}
 use Rattle.sheet.specs.Fields.{cutIn}
 use Rattle.sheet.proofs.Fields.{markWidth-le}
@@ -193,18 +194,13 @@ unfolding check
 check-true true n p e = refl
 check-true false n p e = let u : _≡_ {A = ℕ} 0 1 = cc in absurd (omega arith)
 
-first-none : (k d : Check) → andThen k d ≡ none → (k ≡ none) × (d ≡ none)
-unfolding andThen
-first-none none d e = (refl, e)
-first-none (some f) d e = let u : _≡_ {A = ℕ} 0 1 = cc in absurd (omega arith)
-
 head-none : (k : Check) (ks : List Check) → inOrder (k ∷ ks) ≡ none → k ≡ none
 unfolding inOrder
-head-none k ks e = first-none k (inOrder ks) e .0
+head-none k ks e = andThen-none k (inOrder ks) e .0
 
 tail-none : (k : Check) (ks : List Check) → inOrder (k ∷ ks) ≡ none → inOrder ks ≡ none
 unfolding inOrder
-tail-none k ks e = first-none k (inOrder ks) e .1
+tail-none k ks e = andThen-none k (inOrder ks) e .1
 
 rest-none : (ks ls : List Check) → inOrder (ks ++ ls) ≡ none → inOrder ls ≡ none
 rest-none [] ls e = e
