@@ -18,7 +18,7 @@ use Rattle.planning.specs.Record.{Task}
 use Rattle.planning.specs.Runs.{variables, black}
 use Rattle.planning.specs.Painting.{blackArc}
 use Rattle.planning.specs.Repair.{ready, clientsFirst, order}
-use Rattle.planning.proofs.Tests.{T→true, true→T, F→false, and-l, and-r, and-i}
+use Rattle.planning.proofs.Tests.{T→true, true→T, F→false, bool-same, and-l, and-r, and-i}
 use Rattle.planning.proofs.Below.{First?, first-is, some-intro, some-elim}
 use Rattle.planning.proofs.Painting.{black-inside}
 use Rattle.state.specs.Sets.{inSet, setsOf, modeOf}
@@ -27,7 +27,7 @@ use Rattle.task.specs.Task.{cell, taskIn}
 use Rattle.task.specs.Links.{orderIn}
 use Rattle.graph.specs.Graph.{Filled, Ordered}
 use Rattle.graph.proofs.Bits.{empty-is}
-use Rattle.graph.proofs.Searches.{both, false-not, first-same, some-lacks}
+use Rattle.graph.proofs.Searches.{false-not, first-same, some-lacks}
 
 -- one variable's test
 module _ (row left v : ℕ) (small : row < 2 ^ 64) (small′ : left < 2 ^ 64) where
@@ -84,7 +84,7 @@ module _ (t : Task) (rows : List ℕ) (n : ℕ) (arcs : setsOf rows ≡ blackArc
       → (inSet left v && not (someBelow 64 (λ u. inSet left u && setsOf rows v u))) ≡ ready n (blackArc t) (black t) taken v
   unfolding ready
   ready-same left taken s b v = rw (arcs, s v) (ap (λ (x : Bool). (black t v && not (taken v)) && not x)
-      (both (someBelow 64 (λ u. inSet left u && blackArc t v u)) (someBelow n (λ u. not (taken u) && blackArc t v u)) there back))
+      (bool-same (someBelow 64 (λ u. inSet left u && blackArc t v u)) (someBelow n (λ u. not (taken u) && blackArc t v u)) there back))
     where
       there : T (someBelow 64 (λ u. inSet left u && blackArc t v u)) → T (someBelow n (λ u. not (taken u) && blackArc t v u))
       there h =

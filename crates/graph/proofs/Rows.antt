@@ -8,7 +8,7 @@ use native.Mathlib.Numerals.{add-one}
 use native.Mathlib.Omega.{arith}
 use native.Mathlib.Decide.{ℕ-discrete}
 use borrow.Author.Tests.{eq-eqb, ne-eqb}
-use lib.Bits.{bitAnd, bitOr, bitXor}
+use lib.Bits.{bitOr, bitXor}
 use lib.Dec.{T, T-not, eqb}
 use lib.ListN.{length, getD, set, replicate, length-set}
 use lib.Seq.{getD-set-same, getD-set-other}
@@ -16,17 +16,16 @@ use Rattle.planning.specs.Basics.{someBelow}
 use Rattle.planning.specs.Record.{Fact, Action, Task}
 use Rattle.planning.specs.Runs.{has, touches, actions, act, black}
 use Rattle.planning.specs.Painting.{without, reducedEffects, causalArc, blackArc}
-use Rattle.planning.proofs.Tests.{T→true, or-l, or-r, or-cases, and-l, and-r, and-i, T-cases}
+use Rattle.planning.proofs.Tests.{T→true, bool-same, or-l, or-r, or-cases, and-l, and-r, and-i, T-cases}
 use Rattle.planning.proofs.Facts.{has→touches, touches→has}
 use Rattle.planning.proofs.Arcs.{reduced-elim, unchanged}
 use Rattle.task.specs.Task.{factOf, factsIn, preAt, effAt, endAt, actionIn, taskIn}
 use Rattle.state.specs.Sets.{inSet, setsOf, modeOf, Facts}
-use Rattle.state.proofs.Members.{inSet-single, inSet-empty, inSet-or, inSet-and}
+use Rattle.state.proofs.Members.{inSet-single, inSet-empty, inSet-or}
 use Rattle.state.proofs.Effects.{factsIn-cons, factsIn-none}
 use Rattle.state.proofs.Listed.{Listed}
 use Rattle.graph.specs.Graph.{Rows, withAction}
 use Rattle.graph.proofs.Bits.{inSet-without}
-use Rattle.graph.proofs.Searches.{both}
 
 -- facts of the places from a up to b and from b up to c
 pub factsIn-split : (l : List ℕ) (n a b c : ℕ) → a + n ≡ b → b ≤ c → c ≤ length l → factsIn l a c ≡ factsIn l a b ++ factsIn l b c
@@ -223,7 +222,7 @@ module _ (task : List ℕ) (a b changed paint : ℕ) (rows₀ : List ℕ) (F : F
 
 -- of what an action mentions, effects that it needs add nothing
 touches-reduced : (a : Action) (u : ℕ) → (touches (a .pre) u || touches (a .eff) u) ≡ (touches (a .pre) u || touches (reducedEffects a) u)
-touches-reduced a u = both (touches (a .pre) u || touches (a .eff) u) (touches (a .pre) u || touches (reducedEffects a) u) there back
+touches-reduced a u = bool-same (touches (a .pre) u || touches (a .eff) u) (touches (a .pre) u || touches (reducedEffects a) u) there back
   where
     there : T (touches (a .pre) u || touches (a .eff) u) → T (touches (a .pre) u || touches (reducedEffects a) u)
     there h = elim (or-cases (touches (a .pre) u) (touches (a .eff) u) h) [
@@ -254,7 +253,7 @@ module _ (task : List ℕ) (i paint : ℕ) (s : ℕ → ℕ → Bool) (L : Liste
   action = act (taskIn task) i
 
   regroup : (r t : Bool) (mu ne tv mv : Bool) → r ≡ t → (r && ((mu && ne) && (mv && tv))) ≡ ((mu && mv) && (ne && (tv && t)))
-  regroup r t mu ne tv mv e = both (r && ((mu && ne) && (mv && tv))) ((mu && mv) && (ne && (tv && t)))
+  regroup r t mu ne tv mv e = bool-same (r && ((mu && ne) && (mv && tv))) ((mu && mv) && (ne && (tv && t)))
       (λ h. let z : T t = subst T e (search and-l) in search (and-i, and-l, and-r))
       (λ h. let z : T r = subst T (sym e) (search and-r) in search (and-i, and-l, and-r))
 

@@ -4,49 +4,23 @@ use mathlib.Core.Bool.{Bool, true, false}
 use mathlib.Core.Option.{Option, none, some}
 use Prim.Native.Nat.{ℕ, zero, suc, _+_, _<_, _≤_}
 use native.Mathlib.Omega.{arith}
-use native.Mathlib.Decide.{ℕ-discrete, decLt}
+use native.Mathlib.Decide.{ℕ-discrete}
 use lib.Dec.{T}
 use Rattle.planning.specs.Basics.{someBelow, first}
 use Rattle.planning.proofs.Tests.{T→true, true→T, F→false}
-use Rattle.planning.proofs.Below.{First, First?, first-is, some-intro, some-elim}
-
--- two tests that pass together are the same
-pub both : (a b : Bool) → (T a → T b) → (T b → T a) → a ≡ b
-both true true f g = refl
-both true false f g = absurd (f tt)
-both false true f g = absurd (g tt)
-both false false f g = refl
+use Rattle.planning.proofs.Below.{First?, first-is, first-some-is, first-none-is, some-intro, some-elim}
 
 pub false-not : (b : Bool) → b ≡ false → T b → ⊥
 false-not b e t = rw e at t
-
-pub first-found : (n : ℕ) (p : ℕ → Bool) (i : ℕ) → First n p i → first n p ≡ some i
-first-found n p i F = go (first n p) (first-is n p)
-  where
-    pick : (j : ℕ) → First n p j → Dec (i ≡ j) → Dec (i < j) → _≡_ {A = Option ℕ} (some j) (some i)
-    pick j G (yes e) d = rw e refl
-    pick j G (no e) (yes l) = absurd (G .least i l (F .passes))
-    pick j G (no e) (no l) = absurd (F .least j (omega arith) (G .passes))
-
-    go : (o : Option ℕ) → First? n p o → o ≡ some i
-    go none h = absurd (h i (F .below) (F .passes))
-    go (some j) G = pick j G (ℕ-discrete i j) (decLt i j)
-
-pub first-lacks : (n : ℕ) (p : ℕ → Bool) → ((i : ℕ) → i < n → p i ≡ false) → first n p ≡ none
-first-lacks n p f = go (first n p) (first-is n p)
-  where
-    go : (o : Option ℕ) → First? n p o → o ≡ none
-    go none h = refl
-    go (some j) G = absurd (false-not (p j) (f j (G .below)) (G .passes))
 
 pub first-same : (n : ℕ) (p q : ℕ → Bool) → ((i : ℕ) → i < n → p i ≡ q i) → first n p ≡ first n q
 first-same n p q h = go (first n q) (first-is n q)
   where
     go : (o : Option ℕ) → First? n q o → first n p ≡ o
-    go none f = first-lacks n p (λ i b. F→false (p i) (λ t. f i b (subst T (h i b) t)))
+    go none f = first-none-is n p (λ i b t. f i b (subst T (h i b) t))
     go (some i) F =
         let b : i < n = F .below in
-        first-found n p i (record { below = b; passes = subst T (sym (h i b)) (F .passes); least = λ j l t. F .least j l (subst T (h j (omega arith)) t) })
+        first-some-is n p i (record { below = b; passes = subst T (sym (h i b)) (F .passes); least = λ j l t. F .least j l (subst T (h j (omega arith)) t) })
 
 pub some-same : (n : ℕ) (p q : ℕ → Bool) → ((i : ℕ) → i < n → p i ≡ q i) → someBelow n p ≡ someBelow n q
 unfolding someBelow
@@ -76,7 +50,7 @@ module _ (n : ℕ) (p : ℕ → Bool) (v : ℕ) (S : Searched n p v) where
       go j (no q) l = S .passed j (omega arith)
 
   pub searched-hit : v < n → p v ≡ true → some v ≡ first n p
-  searched-hit h e = sym (first-found n p v (record { below = h; passes = true→T (p v) e; least = λ j l. false-not (p j) (S .passed j l) }))
+  searched-hit h e = sym (first-some-is n p v (record { below = h; passes = true→T (p v) e; least = λ j l. false-not (p j) (S .passed j l) }))
 
   pub searched-end : n ≤ v → none ≡ first n p
-  searched-end h = sym (first-lacks n p (λ i b. S .passed i (omega arith)))
+  searched-end h = sym (first-none-is n p (λ i b. false-not (p i) (S .passed i (omega arith))))

@@ -17,14 +17,14 @@ use Rattle.planning.specs.Basics.{someBelow, first, reach}
 use Rattle.planning.specs.Record.{Task}
 use Rattle.planning.specs.Runs.{variables}
 use Rattle.planning.specs.Painting.{blackArc, onCycle, cyclic}
-use Rattle.planning.proofs.Tests.{T→true, true→T, F→false, or-l, or-r, or-cases, and-l, and-r, and-i}
+use Rattle.planning.proofs.Tests.{T→true, true→T, F→false, bool-same, or-l, or-r, or-cases, and-l, and-r, and-i}
 use Rattle.planning.proofs.Below.{below-cases, some-intro, some-elim}
 use Rattle.planning.proofs.Graph.{reach-here, reach-move, reach-cases, reach-zero, reach-bound}
 use Rattle.planning.proofs.Painting.{black-inside}
 use Rattle.state.specs.Sets.{inSet, setsOf, modeOf}
 use Rattle.state.proofs.Members.{inSet-or}
 use Rattle.graph.specs.Graph.{Rows, through, via, StartBelow}
-use Rattle.graph.proofs.Searches.{both, first-same}
+use Rattle.graph.proofs.Searches.{first-same}
 
 -- one row
 pub extended-row : (row k onward : ℕ) → inSet row k ≡ true → modeOf (bitOr row onward) ≡ (λ v. inSet row v || (inSet row k && inSet onward v))
@@ -184,7 +184,7 @@ module _ (s : ℕ → ℕ → Bool) where
 
     pub via-cycle : (v : ℕ) → v < n → via s n v v ≡ onCycle n s v
     unfolding onCycle
-    via-cycle v b = both (via s n v v) (someBelow n (λ u. s v u && reach n s (pred n) u v)) there back
+    via-cycle v b = bool-same (via s n v v) (someBelow n (λ u. s v u && reach n s (pred n) u v)) there back
       where
         there : T (via s n v v) → T (someBelow n (λ u. s v u && reach n s (pred n) u v))
         there t =

@@ -1,11 +1,11 @@
 -- The entry point's checks in their order, and its answer.
-use mathlib.Core.Path.{_≡_, refl, sym, ap, _∙_}
+use mathlib.Core.Path.{_≡_, refl}
 use mathlib.Core.List.{List, [], _∷_}
 use mathlib.Core.Option.{none}
 use Prim.Native.Nat.{ℕ, _≤_}
 use lib.Dec.{leb→le}
 use lib.ListN.{length}
-use Rattle.planning.specs.Basics.{Check, refuse, andThen, inOrder, answer, refused, done}
+use Rattle.planning.specs.Basics.{refuse, andThen, inOrder, answer, refused, done}
 use Rattle.planning.specs.Record.{Task, taskOf, recordCheck}
 use Rattle.planning.specs.Runs.{Judgement, judgement}
 use Rattle.planning.specs.Calls.{lengthCheck, entriesCheck, judgeCall}

@@ -8,11 +8,10 @@ use Prim.Native.Nat.{ℕ, suc, _+_, _<_, _≤_}
 use native.Mathlib.Numerals.{add-one}
 use native.Mathlib.Omega.{arith}
 use native.Mathlib.Decide.{ℕ-discrete}
-use lib.Dec.{T}
 use lib.ListN.{length, getD, take, drop, take-append-drop}
 use lib.Seq.{drop-cons, take-suc, length-take-le, take-all}
 use Rattle.planning.specs.Record.{Task}
-use Rattle.planning.specs.Runs.{State, Mode, has, holds, step, variables, actions, act, count, relaxed, real, black, initial, goals, run, stepsRun, judged, runBy, stepsBy}
+use Rattle.planning.specs.Runs.{State, Mode, holds, step, variables, actions, act, count, relaxed, real, black, initial, goals, run, stepsRun, judged, runBy, stepsBy}
 use Rattle.planning.specs.Newest.{Values, initialValues, newer, tracked, alone, redBlackSteps, stopsIn}
 use Rattle.planning.proofs.Tests.{T→true, true→T}
 use Rattle.planning.proofs.Facts.{holds→sub, sub→holds}

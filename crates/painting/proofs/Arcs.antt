@@ -12,6 +12,7 @@ use Rattle.planning.specs.Record.{Fact, Task}
 use Rattle.planning.specs.Runs.{State, has, look, variables, actions, act, black, count}
 use Rattle.planning.specs.Painting.{reducedEffects, blackArc, onCycle, cyclic, lacksReturn, unreturned, acyclicCheck, returnCheck}
 use Rattle.planning.proofs.Below.{First?, first-is}
+use Rattle.planning.proofs.Checks.{refuseAt-none}
 use Rattle.planning.proofs.Arcs.{reduced-elim}
 use Rattle.planning.proofs.Formed.{Formed}
 use Rattle.task.specs.Task.{taskIn}
@@ -157,11 +158,6 @@ unfolding unreturned
 unreturned-below t F o e p q = omega (arith, F .actions-max, first-below (actions t) (λ i. someBelow (variables t) (λ v. someBelow (count t v) (lacksReturn t i v))) p (sym e ∙ q))
 
 -- the two checks
-refuseAt-none : (n : ℕ) (o : Option ℕ) → refuseAt n o ≡ none → o ≡ none
-unfolding refuseAt
-refuseAt-none n none e = refl
-refuseAt-none n (some p) e = let z : _≡_ {A = ℕ} 0 1 = cc in absurd (omega arith)
-
 pub seven-passes : (t : Task) (c : Check) (o : Option ℕ) → c ≡ refuseAt 7 o → o ≡ cyclic t → c ≡ none → cyclic t ≡ none
 seven-passes t c o e q z = sym q ∙ refuseAt-none 7 o (sym e ∙ z)
 

@@ -14,7 +14,7 @@ use Rattle.planning.specs.Basics.{someBelow}
 use Rattle.planning.specs.Record.{Fact, Task}
 use Rattle.planning.specs.Runs.{State, has, look, holds, variables, actions, act, black, count}
 use Rattle.planning.specs.Painting.{reducedEffects, arcFrom, target, orZero, outside, returnBy, lacksReturn, cyclic}
-use Rattle.planning.proofs.Tests.{T→true, true→T, F→false, T-cases, and-l, and-r, and-i}
+use Rattle.planning.proofs.Tests.{T→true, true→T, F→false, bool-same, T-cases, and-l, and-r, and-i}
 use Rattle.planning.proofs.Below.{some-intro, some-elim}
 use Rattle.planning.proofs.Facts.{has-cases, has-here, has-there, has-nil, has-++, holds→sub, sub→holds, has→touches, look-some, look-none, look-is}
 use Rattle.planning.proofs.Arcs.{Arc, reduced-intro, reduced-elim, reduced-func, arc-reduced, arcFrom-elim, arcFrom-intro}
@@ -23,7 +23,7 @@ use Rattle.planning.proofs.Painting.{black-inside, has-outside, outside-has, on
 use Rattle.task.specs.Task.{taskIn}
 use Rattle.task.specs.Links.{headAt, nextAt, Next, Changes}
 use Rattle.state.specs.Sets.{Asked}
-use Rattle.graph.proofs.Searches.{both, false-not, some-same, some-found, some-lacks}
+use Rattle.graph.proofs.Searches.{false-not, some-same, some-found, some-lacks}
 use Rattle.painting.specs.Returns.{returnsBy, returned, unreturnedFrom, arcsBy, lacksBy, lacks, OnChain, InChain, Serves, Complete}
 use Rattle.painting.proofs.Chains.{NoMove}
 use Rattle.painting.proofs.Marks.{Small, Allows}
@@ -116,7 +116,7 @@ module _ (t : Task) (F : Formed t) where
     -- what returns is what changes v to d and needs marked facts alone
     return-is : (d : ℕ) → d ≢ e → (j : ℕ) → returnBy t v d i j ≡ (has (reducedEffects (act t j)) v d && holds m (act t j .pre))
     unfolding returnBy union
-    return-is d n j = both (returnBy t v d i j) (has (reducedEffects (act t j)) v d && holds m (act t j .pre)) there back
+    return-is d n j = bool-same (returnBy t v d i j) (has (reducedEffects (act t j)) v d && holds m (act t j .pre)) there back
       where
         there : T ((arcFrom (act t) v (target (act t) v i) j && eqb (target (act t) v j) d) && holds (has (outside v (act t i .pre) ++ outside v (act t i .eff))) (outside v (act t j .pre)))
             → T (has (reducedEffects (act t j)) v d && holds m (act t j .pre))
@@ -195,7 +195,7 @@ module _ (t : Task) (F : Formed t) where
 
       pub lacks-is : lacksBy t m i v e ≡ lacks t i
       unfolding lacksBy lacks
-      lacks-is = both (arcsBy (look (act t i .pre) v) t m v e) (someBelow (variables t) (λ v. someBelow (count t v) (lacksReturn t i v))) (there (look (act t i .pre) v) refl) back
+      lacks-is = bool-same (arcsBy (look (act t i .pre) v) t m v e) (someBelow (variables t) (λ v. someBelow (count t v) (lacksReturn t i v))) (there (look (act t i .pre) v) refl) back
         where
           at-v : (d : ℕ) → d < count t v → T (lacksReturn t i v d) → T (someBelow (variables t) (λ v. someBelow (count t v) (lacksReturn t i v)))
           at-v d b h = some-intro (variables t) (λ v. someBelow (count t v) (lacksReturn t i v)) v vb (some-intro (count t v) (lacksReturn t i v) d b h)

@@ -4,24 +4,24 @@ use mathlib.Core.Path.{_≡_, refl, sym, ap, _∙_, subst}
 use mathlib.Core.Bool.{Bool, true, false}
 use mathlib.Core.List.{List, [], _∷_, _++_}
 use mathlib.Core.Option.{none}
-use Prim.Native.Nat.{ℕ, zero, suc, _<_, _≤_}
+use Prim.Native.Nat.{ℕ, _≤_}
 use native.Mathlib.Omega.{arith}
 use lib.Dec.{leb, leb→le}
-use lib.ListN.{length, getD, take}
+use lib.ListN.{length, take}
 use Rattle.planning.specs.Basics.{Check, refuse, check, andThen, inOrder, Answer, answer, done}
 use Rattle.planning.specs.Record.{Task, taskOf, recordCheck}
 use Rattle.planning.specs.Runs.{actions, isPlan}
 use Rattle.planning.specs.Relaxed.{reachesGoals, relaxedPlan}
-use Rattle.planning.specs.Painting.{cyclic, unreturned, acyclicCheck, returnCheck}
+use Rattle.planning.specs.Painting.{acyclicCheck, returnCheck}
 use Rattle.planning.specs.Repair.{repaired, marks}
 use Rattle.planning.specs.Calls.{capacityOf, roomCheck, goalsCheck, Planned as Result, lengthCheck, relaxedCheck, planned, planOf, planCall, repairCall}
-use Rattle.planning.proofs.Steps.{All}
 use Rattle.planning.proofs.Plans.{isPlan-elim}
-use Rattle.planning.proofs.Checks.{check-none, andThen-last, andThen-none, andThen-assoc, refuseAt-none, inOrder-pass, inOrder-++}
+use Rattle.planning.proofs.Checks.{check-none, andThen-last, andThen-assoc, inOrder-pass, inOrder-++}
 use Rattle.answers.specs.declared.Refusal.{Refusal}
 use Rattle.answers.proofs.Stages.{answer-done}
 use Rattle.relax.specs.Keeping.{Unfound}
 use Rattle.repair.specs.Answers.{Held}
+use Rattle.repair.proofs.Below.{all-entries}
 use Rattle.judge.specs.Answers.{Entries, callerCheck}
 use Rattle.answers.specs.declared.Planned.{Planned}
 use Rattle.answers.specs.declared.Planned.the-variants.{Plan, Refused}
@@ -29,11 +29,6 @@ use Rattle.answers.specs.Plans.{answerOf}
 use Rattle.planner.specs.Drafts.{source, sourceCheck, paintingCheck, InFront, Drafted, Sourced, Painted, Called}
 
 -- entries of a plan are actions
-all-entries : (n : ℕ) (l : List ℕ) → All (λ i. i < n) l → (k : ℕ) → k < length l → getD l k 0 < n
-all-entries n [] h k b = absurd (omega arith)
-all-entries n (i ∷ l) h zero b = h .0
-all-entries n (i ∷ l) h (suc k) b = all-entries n l (h .1) k (omega arith)
-
 pub plan-entries : (t : Task) (m : ℕ → Bool) (l : List ℕ) → isPlan t m l ≡ true → Entries t l
 plan-entries t m l p = all-entries (actions t) l (isPlan-elim t m l p .below)
 
@@ -101,13 +96,6 @@ unfound-check t f U = rw (U .unsolved, U .number′, U .place′) refl
 pub found-check : (t : Task) → reachesGoals t ≡ true → goalsCheck t ≡ none
 unfolding goalsCheck check
 found-check t e = rw e refl
-
--- a painting that passes
-pub painting-passes : (t : Task) → paintingCheck t ≡ none → (cyclic t ≡ none) × (unreturned t ≡ none)
-unfolding paintingCheck acyclicCheck returnCheck
-painting-passes t e =
-    let h = andThen-none (acyclicCheck t) (returnCheck t) e in
-    (refuseAt-none 7 (cyclic t) (h .0), refuseAt-none 8 (unreturned t) (h .1))
 
 -- the same task behind its painting, and behind its record
 module _ (g : Bool) (t u : Task) (e : u ≡ t) (l : List ℕ) (room : ℕ) (plan area : List ℕ) (r : Planned) where

@@ -183,7 +183,3 @@ module _ (t : Task) (F : Formed t) where
   pub relaxedPlan-length : length (relaxedPlan t) ≤ addable t
   unfolding relaxedPlan
   relaxedPlan-length = omega (arith, forwardRun-length t F, keep-length (act t) (firstAchiever (act t) (forwardRun t) (initial t)) (goals t) (forwardRun t))
-
-  -- with unsolvable-none: the forward run stops short of the goals exactly if no list is a relaxed plan
-  pub unsolvable-of : ((l : List ℕ) → isPlan t relaxed l ≡ true → ⊥) → reachesGoals t ≡ false
-  unsolvable-of h = F→false (reachesGoals t) (λ e. h (relaxedPlan t) (relaxedPlan-is-plan (T→true (reachesGoals t) e)))

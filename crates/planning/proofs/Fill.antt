@@ -14,7 +14,7 @@ use native.Mathlib.Nat.{mul-le-mul-right}
 use Rattle.planning.specs.Record.{Fact, Action}
 use Rattle.planning.specs.Runs.{State, has, touches, look, holds, Mode, step, run, runs, runBy, runsBy}
 use Rattle.planning.specs.Painting.{reducedEffects}
-use Rattle.planning.specs.Repair.{toward, after, pass, fill, moves, askedFor, passSearches, fillSearches}
+use Rattle.planning.specs.Repair.{toward, after, pass, fill, askedFor, passSearches, fillSearches}
 use Rattle.planning.proofs.Tests.{and-i}
 use Rattle.planning.proofs.Facts.{_⊆_, sub→holds, touches→has, Func, look-some}
 use Rattle.planning.proofs.Steps.{All, all-append, all-map}

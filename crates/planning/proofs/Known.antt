@@ -99,10 +99,3 @@ module _ (act : ℕ → Action) (m : Mode) where
       ≈-trans (run act relaxed l a) (run act relaxed l b) (known m (run act m l s′) (everAfter act m l s′ (union ever s′)))
       (run-mono act relaxed relaxed (λ v t. t) l a b (k .0), run-mono act relaxed relaxed (λ v t. t) l b a (k .1))
       (known-run l s′ (union ever s′) (union-new ever s′))
-
-  -- along a run from its first state
-  pub known-relaxed : (l : List ℕ) (s : State) → run act relaxed l s ≈ known m (run act m l s) (everAfter act m l s s)
-  known-relaxed l s =
-      let k = known-start m s in
-      ≈-trans (run act relaxed l s) (run act relaxed l (known m s s)) (known m (run act m l s) (everAfter act m l s s))
-      (run-mono act relaxed relaxed (λ v t. t) l s (known m s s) (k .0), run-mono act relaxed relaxed (λ v t. t) l (known m s s) s (k .1)) (known-run l s s (λ v d h. h))

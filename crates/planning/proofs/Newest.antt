@@ -2,17 +2,16 @@
 -- is the only one of a variable that acts as black (`set-alone`). They do not depend on the painting (`newest-any`). In a real run all
 -- variables act as black, so that the newest values are the real state (`real-state`); hence one run of any semantics tells how many steps
 -- run for real, tested on its newest values (`real-steps`), and that state after each of them.
-use Prim.Native.Nat.{ℕ, zero, suc, _+_, _<_}
+use Prim.Native.Nat.{ℕ, zero, suc, _<_}
 use mathlib.Core.Path.{_≡_, refl, sym, ap, _∙_}
 use mathlib.Core.Logic.{_⊎_, inl, inr}
-use mathlib.Core.Bool.{Bool, true, false, not}
+use mathlib.Core.Bool.{Bool, true, false}
 use mathlib.Core.List.{List, [], _∷_, _++_}
 use mathlib.Core.Option.{Option, none, some}
 use lib.Dec.{T, eqb, eqb→eq, eqb-refl, ltb, lt→ltb}
-use lib.ListN.{length, getD}
-use native.Mathlib.Omega.{arith}
+use lib.ListN.{length}
 use Rattle.planning.specs.Record.{Fact, Action, Task}
-use Rattle.planning.specs.Runs.{State, Mode, has, touches, look, holds, step, real, variables, variable, count, act, black, initial, run, stepsRun, runBy, stepsBy}
+use Rattle.planning.specs.Runs.{State, Mode, has, touches, look, holds, step, real, variables, variable, count, act, initial, run, stepsRun, runBy, stepsBy}
 use Rattle.planning.specs.Newest.{Values, initialValues, newer, Tracked, tracked, track, alone, tabulate}
 use Rattle.planning.proofs.Tests.{T→true, F→false, and-r, and-i}
 use Rattle.planning.proofs.Facts.{has-here, has-there, has→touches, touches→has, look-some, look-none, look-is, Func}
@@ -113,13 +112,6 @@ module _ (t : Task) (F : Formed t) where
       let e = set-alone (variables t) real (runBy (λ i. track real (act t i)) l (tracked t)) (fresh real l) v d h tt in
       rw (track-sets (act t) real l (tracked t), newest-any t real l) at e
 
-  -- in a red-black run so for black variables
-  pub black-state : (l : List ℕ) (v d : ℕ) → v < variables t → T (black t v) → run (act t) (black t) l (initial t) v d ≡ alone (newestAfter t l) v d
-  unfolding tracked
-  black-state l v d h b =
-      let e = set-alone (variables t) (black t) (runBy (λ i. track (black t) (act t i)) l (tracked t)) (fresh (black t) l) v d h b in
-      rw (track-sets (act t) (black t) l (tracked t), newest-any t (black t) l) at e
-
   pub real-holds : (l : List ℕ) (fs : List Fact) → ((v d : ℕ) → T (has fs v d) → v < variables t) → holds (run (act t) real l (initial t)) fs ≡ holds (alone (newestAfter t l)) fs
   real-holds l fs h = holds-same (run (act t) real l (initial t)) (alone (newestAfter t l)) fs (λ v d x. real-state l v d (h v d x))
 
@@ -162,9 +154,3 @@ pub tabulate-length : (n : ℕ) (f : ℕ → ℕ) → length (tabulate n f) ≡ 
 unfolding tabulate
 tabulate-length zero f = refl
 tabulate-length (suc n) f = ap suc (tabulate-length n (λ v. f (suc v)))
-
-pub tabulate-at : (n : ℕ) (f : ℕ → ℕ) (k : ℕ) → k < n → getD (tabulate n f) k 0 ≡ f k
-unfolding tabulate
-tabulate-at zero f k h = absurd (omega arith)
-tabulate-at (suc n) f zero h = refl
-tabulate-at (suc n) f (suc k) h = tabulate-at n (λ v. f (suc v)) k (omega arith)

@@ -14,7 +14,7 @@ use native.Mathlib.Omega.{arith}
 use Rattle.planning.specs.Record.{Fact, Action}
 use Rattle.planning.specs.Runs.{State, has, touches, look, Mode, step}
 use Rattle.planning.specs.Painting.{reducedEffects}
-use Rattle.planning.specs.Repair.{toward, after, pass, moves}
+use Rattle.planning.specs.Repair.{toward, after, pass}
 use Rattle.planning.proofs.Tests.{T-cases}
 use Rattle.planning.proofs.Facts.{touches→has, Func, look-some, look-none}
 use Rattle.planning.proofs.Steps.{step-eff, step-keep, step-at, All}

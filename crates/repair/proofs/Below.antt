@@ -23,7 +23,7 @@ use Rattle.passes.specs.Passes.{passOf, Entries}
 use Rattle.paths.specs.Paths.{pathsOf}
 use Rattle.repair.specs.Repairs.{fillFrom, filled, moved, stageOf, filledSearches, movedSearches, stageSearches}
 
-all-entries : (n : ℕ) (l : List ℕ) → All (λ i. i < n) l → (k : ℕ) → k < length l → getD l k 0 < n
+pub all-entries : (n : ℕ) (l : List ℕ) → All (λ i. i < n) l → (k : ℕ) → k < length l → getD l k 0 < n
 all-entries n [] a k h = absurd (omega arith)
 all-entries n (x ∷ l) a zero h = a .0
 all-entries n (x ∷ l) a (suc k) h = all-entries n l (a .1) k (omega arith)

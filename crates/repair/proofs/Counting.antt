@@ -9,7 +9,7 @@ use lib.Dec.{eqb}
 use lib.ListN.{length, length-append}
 use Rattle.planning.specs.Basics.{done}
 use Rattle.planning.specs.Record.{Task}
-use Rattle.planning.specs.Runs.{holds, step, real, actions, act, initial, goals, runBy, stepsBy, run, runs, stepsRun, isPlan, costBy, costOf, allBelow}
+use Rattle.planning.specs.Runs.{holds, step, real, actions, act, initial, goals, runBy, stepsBy, run, stepsRun, isPlan, costBy, costOf, allBelow}
 use Rattle.planning.specs.Newest.{Values, initialValues, newer, alone}
 use Rattle.planning.specs.Repair.{repaired, searches}
 use Rattle.planning.specs.Calls.{planned}

@@ -13,6 +13,7 @@ use Rattle.planning.specs.Basics.{Check, check, refuse, andThen, inOrder, refus
 use Rattle.planning.specs.Calls.{Read, lengthCheck, roomCheck, notBelow, capacity, writeCall, readCall}
 use Rattle.planning.specs.Record.{endsAt}
 use Rattle.planning.specs.Sheet.{Sheet, markWidth, sheetSize, sheetEnd, sheetField, stepsChecks, sheetChecks, sheetCheck, editionIn, stepsIn}
+use Rattle.planning.proofs.Checks.{andThen-none}
 use Rattle.sheet.specs.Answers.{endCheck, headingOf}
 use Rattle.sheet.specs.Fields.{cutIn}
 use Rattle.sheet.proofs.Fields.{markWidth-le}
@@ -96,42 +97,23 @@ module _ (s : List ℕ) where
           rw (le-leb 4 (8 * length s) (omega arith), edition-known (editionIn s) least most, le-leb 5 (8 * length s) (omega arith), lt-leb 21 (8 * length s) (omega arith)) refl
 
       module _ (three : 3 ≤ length s) where
+        -- the checks that are left once the count of steps is there
+        counted : sheetCheck s ≡ andThen (check (leb (stepsIn s) 32768) 12 5) (andThen (sheetField s 21 32) (endCheck s))
+        unfolding sheetCheck sheetChecks inOrder andThen sheetField holdsField check endCheck
+        counted =
+            rw (le-leb 4 (8 * length s) (omega arith), edition-known (editionIn s) least most, le-leb 5 (8 * length s) (omega arith), le-leb 21 (8 * length s) (omega arith)) refl
+
         pub too-many-steps : 32768 < stepsIn s → sheetCheck s ≡ refuse 12 5
-        unfolding sheetCheck sheetChecks inOrder andThen sheetField holdsField check
-        too-many-steps h =
-            rw (
-              le-leb 4 (8 * length s) (omega arith),
-              edition-known (editionIn s) least most,
-              le-leb 5 (8 * length s) (omega arith),
-              le-leb 21 (8 * length s) (omega arith),
-              lt-leb (stepsIn s) 32768 h,
-            ) refl
+        unfolding andThen check
+        too-many-steps h = rw (counted, lt-leb (stepsIn s) 32768 h) refl
 
         pub cut-before-cost : stepsIn s ≤ 32768 → length s < 7 → sheetCheck s ≡ refuse 12 21
-        unfolding sheetCheck sheetChecks inOrder andThen sheetField holdsField check
-        cut-before-cost h l =
-            rw (
-              le-leb 4 (8 * length s) (omega arith),
-              edition-known (editionIn s) least most,
-              le-leb 5 (8 * length s) (omega arith),
-              le-leb 21 (8 * length s)
-                  (omega arith),
-              le-leb (stepsIn s) 32768 h,
-              lt-leb 53 (8 * length s) (omega arith),
-            ) refl
+        unfolding andThen sheetField holdsField check
+        cut-before-cost h l = rw (counted, le-leb (stepsIn s) 32768 h, lt-leb 53 (8 * length s) (omega arith)) refl
 
         pub front-passed : stepsIn s ≤ 32768 → 7 ≤ length s → sheetCheck s ≡ endCheck s
-        unfolding sheetCheck sheetChecks inOrder andThen sheetField holdsField check endCheck
-        front-passed h l =
-            rw (
-              le-leb 4 (8 * length s) (omega arith),
-              edition-known (editionIn s) least most,
-              le-leb 5 (8 * length s) (omega arith),
-              le-leb 21 (8 * length s)
-                  (omega arith),
-              le-leb (stepsIn s) 32768 h,
-              le-leb 53 (8 * length s) (omega arith),
-            ) refl
+        unfolding andThen sheetField holdsField check
+        front-passed h l = rw (counted, le-leb (stepsIn s) 32768 h, le-leb 53 (8 * length s) (omega arith)) refl
 
 -- The marks and the steps: all are there, or the first that is cut short refuses.
 pub steps-held : (s : List ℕ) (w p n : ℕ) (cs : List Check) → p + (w + 10) * n ≤ 8 * length s → inOrder (stepsChecks s w p n ++ cs) ≡ inOrder cs
@@ -212,18 +194,13 @@ unfolding check
 check-true true n p e = refl
 check-true false n p e = let u : _≡_ {A = ℕ} 0 1 = cc in absurd (omega arith)
 
-first-none : (k d : Check) → andThen k d ≡ none → (k ≡ none) × (d ≡ none)
-unfolding andThen
-first-none none d e = (refl, e)
-first-none (some f) d e = let u : _≡_ {A = ℕ} 0 1 = cc in absurd (omega arith)
-
 head-none : (k : Check) (ks : List Check) → inOrder (k ∷ ks) ≡ none → k ≡ none
 unfolding inOrder
-head-none k ks e = first-none k (inOrder ks) e .0
+head-none k ks e = andThen-none k (inOrder ks) e .0
 
 tail-none : (k : Check) (ks : List Check) → inOrder (k ∷ ks) ≡ none → inOrder ks ≡ none
 unfolding inOrder
-tail-none k ks e = first-none k (inOrder ks) e .1
+tail-none k ks e = andThen-none k (inOrder ks) e .1
 
 rest-none : (ks ls : List Check) → inOrder (ks ++ ls) ≡ none → inOrder ls ≡ none
 rest-none [] ls e = e

@@ -48,16 +48,6 @@ all-below n k (x ∷ l) p e i = go (ltb x n) refl (sym (notBelow-cons n k x l (l
     go true t f r (suc i) = r f i
     go false t f r i = let z : _≡_ {A = ℕ} 0 1 = cc in absurd (omega arith)
 
--- an entry that was found is one of the list's
-pub found-lt : (n k : ℕ) (l : List ℕ) (i : ℕ) → notBelow n k l ≡ some i → i < k + length l
-unfolding picked
-found-lt n k [] i e = let z : _≡_ {A = ℕ} 0 1 = cc (notBelow-nil n k) in absurd (omega arith)
-found-lt n k (x ∷ l) i e = go (ltb x n) (sym (notBelow-cons n k x l (ltb x n) refl) ∙ e) (found-lt n (suc k) l i)
-  where
-    go : (b : Bool) → picked n k l b ≡ some i → (notBelow n (suc k) l ≡ some i → i < suc k + length l) → i < k + suc (length l)
-    go true f r = omega (arith, r f)
-    go false f r = let z : k ≡ i = cc in omega arith
-
 -- a list whose entries are below the bound
 pub none-over : (n k : ℕ) (l : List ℕ) → ((i : ℕ) → getD l i 0 < n) → notBelow n k l ≡ none
 unfolding picked

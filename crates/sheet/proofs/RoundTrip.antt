@@ -19,6 +19,7 @@ use Rattle.planning.specs.Calls.{notBelow, lent, lentBytes, readCall, readList,
 use Rattle.planning.specs.Record.{endsAt}
 use Rattle.planning.specs.Sheet.{Sheet, bitsOf, markWidth, editionOf, markOf, marksOf, stepBits, sheetBits, numberIn, packed, sheetEnd, sheetSize, sheetBytes}
 use Rattle.planning.specs.Sheet.{stepsAt, marksAt, editionIn, stepsIn, sheetOf, sheetCheck}
+use Rattle.planning.proofs.Fields.{bitAt-below}
 use Rattle.bits.proofs.Pack.{length-bitsOf, length-packed, packed-none, packed-byte, bitsOf-add, drop-bitsOf, numberIn-bitsOf, packed-same, Same, same-prefix, same-zeros}
 use Rattle.bits.proofs.Window.{bitsAt-lt, bitsAt-whole}
 use Rattle.sheet.proofs.Checks.{accepted, front-passed, end-passes, reads, writes}
@@ -286,11 +287,6 @@ bitsFrom : List ℕ → ℕ → ℕ → List ℕ
 bitsFrom s p zero = []
 bitsFrom s p (suc w) = bitAt s p ∷ bitsFrom s (p + 1) w
 
-length-bitsFrom : (s : List ℕ) (p w : ℕ) → length (bitsFrom s p w) ≡ w
-unfolding bitsFrom
-length-bitsFrom s p zero = refl
-length-bitsFrom s p (suc w) = ap suc (length-bitsFrom s (p + 1) w)
-
 bitsFrom-add : (s : List ℕ) (p n m : ℕ) → bitsFrom s p (n + m) ≡ bitsFrom s p n ++ bitsFrom s (p + n) m
 unfolding bitsFrom
 bitsFrom-add s p zero m = rw (zero-add, add-zero) refl
@@ -310,10 +306,6 @@ bitsAt-suc : (s : List ℕ) (p w : ℕ) → bitsAt s p (suc w) ≡ bitsAt s p w 
 unfolding bitsAt
 bitsAt-suc s p w = refl
 
-bit-lt : (s : List ℕ) (p : ℕ) → bitAt s p < 2
-unfolding bitAt
-bit-lt s p = omega arith
-
 -- the bits of the number in a field are the field's
 bitsOf-bitsAt : (s : List ℕ) (p w : ℕ) → bitsOf w (bitsAt s p w) ≡ bitsFrom s p w
 unfolding bitsFrom bitsOf
@@ -321,7 +313,7 @@ bitsOf-bitsAt s p zero = refl
 bitsOf-bitsAt s p (suc w) =
     ap (bitsOf (suc w)) (bitsAt-suc s p w)
     ∙ ap (λ (k : ℕ). bitsOf k (bitsAt s p w * 2 + bitAt s (p + w))) (sym (add-one w))
-    ∙ bitsOf-add w 1 (bitsAt s p w) (bitAt s (p + w)) (bit-lt s (p + w))
+    ∙ bitsOf-add w 1 (bitsAt s p w) (bitAt s (p + w)) (bitAt-below s (p + w))
     ∙ rw (bitsOf-bitsAt s p w, one-bit s (p + w)) (sym (bitsFrom-add s p w 1))
     ∙ ap (bitsFrom s p) (add-one w)
 

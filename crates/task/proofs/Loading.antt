@@ -21,7 +21,7 @@ use Rattle.planning.proofs.Formed.{formed-of}
 use Rattle.bits.specs.Windows.{Leading}
 use Rattle.bits.proofs.Window.{bitsAt-add}
 use Rattle.record.proofs.Laws.{false-not, leading-fact, Run, run-start}
-use Rattle.task.specs.Task.{cell, headsAt, factsIn, variableIn, actionIn, each, taskIn, Row, Loaded}
+use Rattle.task.specs.Task.{cell, headsAt, factsIn, variableIn, actionIn, taskIn, Row, Loaded}
 use Rattle.task.specs.Size.{factsOf, factsFrom, taskSize}
 use Rattle.task.specs.Loading.{RowWritten, FactsLoaded, Placed, ActionLoaded, ActionRead, VariablePlaced, VariableLoaded, Headed, RecordRead}
 use Rattle.task.proofs.Cut.{factOf-bits, factsOf-le, variable-cut}

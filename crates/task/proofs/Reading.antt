@@ -2,14 +2,14 @@
 use mathlib.Core.Path.{_≡_, refl, sym, ap, _∙_}
 use mathlib.Core.List.{List}
 use mathlib.Core.Option.{none, some}
-use Prim.Native.Nat.{ℕ, zero, suc, _+_, _-_, _*_, _/_, _%_, _<_, _≤_}
+use Prim.Native.Nat.{ℕ, zero, suc, _+_, _-_, _/_, _%_, _<_, _≤_}
 use native.Mathlib.Omega.{arith}
 use lib.Dec.{eqb}
 use lib.ListN.{length, getD, take}
 use lib.Seq.{length-slice, getD-take, getD-drop}
 use Rattle.planning.specs.Record.{Variable, goalOf}
 use Rattle.planning.specs.Runs.{noVariable, noAction, variables, actions, variable, act, count, black}
-use Rattle.task.specs.Task.{cell, variableIn, actionIn, each, taskIn, Loaded}
+use Rattle.task.specs.Task.{cell, variableIn, actionIn, each, taskIn}
 use Rattle.task.specs.Links.{orderIn, Prepared}
 
 module _ {A : Type 0} (f : ℕ → A) where
@@ -66,10 +66,6 @@ module _ (task : List ℕ) where
     pub goal-value : 64 ≤ cell task (1 + v) 3 → some (cell task (1 + v) 3 % 64) ≡ variable (taskIn task) v .goal
     unfolding goalOf
     goal-value l = let z : cell task (1 + v) 3 / 64 ≡ suc (cell task (1 + v) 3 / 64 - 1) = omega arith in sym (sym goal-is ∙ rw z refl)
-
-    -- its row is there
-    pub variable-room : Loaded task → 4 * (1 + v) + 4 ≤ length task
-    variable-room L = omega (arith, L .formed .variables-max, L .head)
 
 -- the order, entry by entry
 module _ (task : List ℕ) (P : Prepared task) where

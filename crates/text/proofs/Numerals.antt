@@ -6,7 +6,6 @@ use native.Mathlib.Omega.{arith}
 use native.Mathlib.Decide.{decLe}
 use native.Mathlib.Nat.{pow-suc, pow-le-pow-right, mod-eq-of-lt}
 use borrow.Author.Tests.{lt-ltb, le-ltb}
-use lib.ListN.{length, length-append}
 use Rattle.io.specs.Digits.{glyph, digits, Fewest}
 use Rattle.planning.specs.Listing.{digitsUpto, decimal}
 
@@ -17,10 +16,6 @@ digits-few d n k m h F = go (decLe k d)
     go : Dec (k ≤ d) → k ≤ d
     go (yes l) = l
     go (no l) = let z : 10 ^ d ≤ 10 ^ (k - 1) = pow-le-pow-right (omega arith) {i = d} {j = k - 1} (omega arith) in absurd (omega (arith, z, F .2 (omega arith)))
-
-pub digits-length : (k n : ℕ) → length (digits 10 k n) ≡ k
-digits-length zero n = refl
-digits-length (suc k) n = length-append (digits 10 k (n / 10)) (glyph (n % 10) ∷ []) ∙ omega (arith, digits-length k (n / 10))
 
 glyph-digit : (d : ℕ) → d < 10 → glyph d ≡ 48 + d
 glyph-digit d h = rw (lt-ltb d 10 h) refl

@@ -1,3 +1,5 @@
+-- In each turn the effects of the action taken last wake what waits for them, and the action of lowest rank leaves the ready ones. If it
+-- adds a fact it is the definition's next action: it is taken, and the state grows. If not, it never will add one. Either way less is left.
 use borrow.Author.Needs.{needs}
 use mathlib.Core.Path.{_≡_, refl, sym, _∙_}
 use mathlib.Core.Logic.{inl, inr}
@@ -13,8 +15,6 @@ use Rattle.forward.proofs.Looping.{Looping, left, looping-start, loopin
 use Rattle.forward.proofs.run_ranked.Statement.{statement}
 use Rattle.forward.proofs.run_ranked.Tie as tie
 
--- In each turn the effects of the action taken last wake what waits for them, and the action of lowest rank leaves the ready ones. If it
--- adds a fact it is the definition's next action: it is taken, and the state grows. If not, it never will add one. Either way less is left.
 abbrev Inv-loop : tie.InvT-loop
 Inv-loop task order work₀ plan₀ goals count s₀ ready₀ steps₀ g₀ from₀ to₀ work plan s ready steps g from to =
     Looping task order goals plan (s .sets) work ready steps g from to × (length work ≡ length work₀)
@@ -24,11 +24,17 @@ abbrev μ-loop : tie.MeasureT-loop
     left task (s .sets) ready from to
 
 -- the points of the code, from the last to the first
+abbrev initial-to-start : tie.After-initial Inv-loop μ-loop → tie.Start Inv-loop μ-loop
+initial-to-start c = c .before .before .before .before
+
+abbrev ready-to-initial : tie.After-ready Inv-loop μ-loop → tie.After-initial Inv-loop μ-loop
+ready-to-initial c = c .before .before .before .before .before
+
 abbrev settle-each-to-initial : tie.After-settle-each Inv-loop μ-loop → tie.After-initial Inv-loop μ-loop
-settle-each-to-initial c = c .before .before .before .before .before .before
+settle-each-to-initial c = ready-to-initial (c .before)
 
 abbrev start : tie.At-loop Inv-loop μ-loop → tie.Start Inv-loop μ-loop
-start c = settle-each-to-initial (c .before .before .before) .before .before .before .before
+start c = initial-to-start (settle-each-to-initial (c .before .before .before))
 
 abbrev wake-to-head : tie.After-wake Inv-loop μ-loop → tie.At-loop Inv-loop μ-loop
 wake-to-head c = c .before .before .before .before .before
@@ -65,7 +71,7 @@ initial-requires c κs = search needs
 
 settle-each-requires : tie.Need-settle-each-requires Inv-loop μ-loop
 settle-each-requires c κs =
-    let p = c .before .before .before .before .before .before .before .before .before .pre in
+    let p = initial-to-start (ready-to-initial c) .pre in
     (p .0, p .1, p .2, refl)
 
 goals-long : (c : tie.After-load Inv-loop μ-loop) → length (c .load .result .facts) ≡ 64
@@ -75,7 +81,7 @@ loop-holds : tie.Need-loop-holds Inv-loop μ-loop
 loop-holds c =
     let at-settle-each = c .before .before in
     let at-initial = settle-each-to-initial at-settle-each in
-    let p = at-initial .before .before .before .before .pre in
+    let p = initial-to-start at-initial .pre in
     (looping-start (p .0) (p .1) (at-initial .before .load .ensures) (goals-long (at-initial .before)) (p .3) (at-initial .initial .ensures .0) (at-settle-each .settle-each .ensures), refl)
 
 wake-requires : tie.Need-wake-requires Inv-loop μ-loop

@@ -1,3 +1,4 @@
+-- Each turn takes the front action off the chain that is left and settles it; a chain has at most 1,024 actions.
 use borrow.Author.Needs.{needs}
 use mathlib.Core.Path.{_≡_, refl, _∙_}
 use native.Mathlib.Omega.{arith}
@@ -10,7 +11,6 @@ use Rattle.forward.proofs.Chains.{sites-ended, sites-spent, front, site
 use Rattle.forward.proofs.settle_all.Statement.{statement}
 use Rattle.forward.proofs.settle_all.Tie as tie
 
--- Each turn takes the front action off the chain that is left and settles it; a chain has at most 1,024 actions.
 abbrev Inv-loop : tie.InvT-loop
 Inv-loop sets task order work₀ ready₀ h from to j₀ left₀ work ready j left =
     Sites task order (actions (taskIn task)) (setsOf sets) (has (factsIn task from to)) work ready j left × (length work ≡ length work₀)

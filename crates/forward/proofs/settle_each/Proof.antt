@@ -1,3 +1,4 @@
+-- The actions of ranks below j are settled; the next one is on no chain, so it can be put in front of what is left to settle.
 use borrow.Author.Needs.{needs}
 use mathlib.Core.Path.{_≡_, refl, ap, _∙_}
 use mathlib.Core.List.{[]}
@@ -13,7 +14,6 @@ use Rattle.forward.proofs.Chains.{Entered, entered-start, entered-place
 use Rattle.forward.proofs.settle_each.Statement.{statement}
 use Rattle.forward.proofs.settle_each.Tie as tie
 
--- The actions of ranks below j are settled; the next one is on no chain, so it can be put in front of what is left to settle.
 abbrev Inv-loop : tie.InvT-loop
 Inv-loop sets task order work₀ ready₀ n j₀ work ready j = (n ≡ actions (taskIn task)) × (j ≤ n) × Entered task order (setsOf sets) (has []) work ready j × (length work ≡ length work₀)
 

@@ -1,3 +1,4 @@
+-- Each fact before place k is in the state.
 use borrow.Author.Tests.{not-true, not-false}
 use Rattle.state.specs.Sets.{setsOf}
 use Rattle.forward.specs.Waiting.{Passing}
@@ -9,7 +10,6 @@ use native.Mathlib.Omega.{arith}
 use Rattle.forward.proofs.unmet.Statement.{statement}
 use Rattle.forward.proofs.unmet.Tie as tie
 
--- Each fact before place k is in the state.
 abbrev Inv-loop : tie.InvT-loop
 Inv-loop sets facts from to k₀ k = Passing (setsOf sets) facts from to k
 

@@ -1,3 +1,4 @@
+-- The chains of the facts from place k on are still owed; a turn takes one of them off and settles its actions.
 use borrow.Author.Needs.{needs}
 use mathlib.Core.Path.{_≡_, refl, _∙_}
 use Prim.Native.Nat.{_+_, _-_, _≤_, _<_}
@@ -13,7 +14,6 @@ use Rattle.forward.proofs.Chains.{sites-off}
 use Rattle.forward.proofs.wake.Statement.{statement}
 use Rattle.forward.proofs.wake.Tie as tie
 
--- The chains of the facts from place k on are still owed; a turn takes one of them off and settles its actions.
 abbrev Inv-loop : tie.InvT-loop
 Inv-loop sets task order work₀ ready₀ from to k₀ work ready k =
     (from ≤ k) × (k ≤ to) × Settled task order (setsOf sets) (has (factsIn task k to)) work ready × (to ≤ from → ready ≡ ready₀) × (length work ≡ length work₀)

@@ -1,3 +1,4 @@
+-- The rows so far with the arcs from the facts still to come are the rows at the end.
 use Rattle.graph.proofs.Rows.{Adding, adding-end, adding-start, adding-turn, fact-variable}
 use borrow.Author.Needs.{needs}
 use mathlib.Core.Path.{refl}
@@ -6,7 +7,6 @@ use native.Mathlib.Omega.{arith}
 use Rattle.graph.proofs.add_arcs.Statement.{statement}
 use Rattle.graph.proofs.add_arcs.Tie as tie
 
--- The rows so far with the arcs from the facts still to come are the rows at the end.
 abbrev Inv-loop : tie.InvT-loop
 Inv-loop rows₀ table from to targets paint k₀ rows k = Adding table from to targets paint rows₀ rows k
 

@@ -1,3 +1,4 @@
+-- The set so far with the black variables that the effects still to come change are those that all of them change.
 use mathlib.Core.Path.{refl, ap, _∙_}
 use mathlib.Core.Logic.{inl, inr}
 use mathlib.Core.Bool.{_&&_}
@@ -14,7 +15,6 @@ use borrow.Author.Needs.{needs}
 use Rattle.graph.proofs.changed.Statement.{statement}
 use Rattle.graph.proofs.changed.Tie as tie
 
--- The set so far with the black variables that the effects still to come change are those that all of them change.
 abbrev Inv-loop : tie.InvT-loop
 Inv-loop task i paint end set₀ k₀ set k = Changing task (act (taskIn task) i .pre) paint (effAt task i) end set k
 

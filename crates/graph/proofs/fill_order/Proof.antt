@@ -1,3 +1,4 @@
+-- The first k places are taken, `left` has the black variables that are not, and the places with what the definition still takes are the order.
 use mathlib.Core.Path.{refl, sym, ap, _∙_}
 use Prim.Native.Nat.{_-_, _<_}
 use native.Mathlib.Omega.{arith}
@@ -8,7 +9,6 @@ use borrow.Author.Needs.{needs}
 use Rattle.graph.proofs.fill_order.Statement.{statement}
 use Rattle.graph.proofs.fill_order.Tie as tie
 
--- The first k places are taken, `left` has the black variables that are not, and the places with what the definition still takes are the order.
 abbrev Inv-loop : tie.InvT-loop
 Inv-loop task₀ rows paint n left₀ k₀ task left k = Taking (taskIn task₀) n task₀ task left k
 

@@ -1,3 +1,4 @@
+-- The rows at action i hold the arcs of the actions below i.
 use Prim.Native.Nat.{_-_}
 use native.Mathlib.Omega.{arith}
 use Rattle.task.specs.Task.{taskIn}
@@ -6,7 +7,6 @@ use borrow.Author.Needs.{needs}
 use Rattle.graph.proofs.graph.Statement.{statement}
 use Rattle.graph.proofs.graph.Tie as tie
 
--- The rows at action i hold the arcs of the actions below i.
 abbrev Inv-loop : tie.InvT-loop
 Inv-loop task paint n rows₀ i₀ rows i = Drawing (taskIn task) n rows i
 

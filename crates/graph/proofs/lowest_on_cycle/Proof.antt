@@ -1,3 +1,4 @@
+-- No variable below v has a way to itself.
 use mathlib.Core.Path.{sym, _∙_}
 use Prim.Native.Nat.{_-_}
 use native.Mathlib.Omega.{arith}
@@ -7,7 +8,6 @@ use borrow.Author.Needs.{needs}
 use Rattle.graph.proofs.lowest_on_cycle.Statement.{statement}
 use Rattle.graph.proofs.lowest_on_cycle.Tie as tie
 
--- No variable below v has a way to itself.
 abbrev Inv-loop : tie.InvT-loop
 Inv-loop rows n v₀ v = Searched n (λ u. setsOf rows u u) v
 

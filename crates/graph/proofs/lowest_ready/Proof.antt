@@ -1,3 +1,4 @@
+-- No variable below v is ready.
 use mathlib.Core.Bool.{_&&_, not}
 use Rattle.planning.specs.Basics.{someBelow}
 use Rattle.state.specs.Sets.{inSet, setsOf}
@@ -9,7 +10,6 @@ use native.Mathlib.Omega.{arith}
 use Rattle.graph.proofs.lowest_ready.Statement.{statement}
 use Rattle.graph.proofs.lowest_ready.Tie as tie
 
--- No variable below v is ready.
 abbrev Inv-loop : tie.InvT-loop
 Inv-loop rows left n v₀ v = Searched n (λ w. inSet left w && not (someBelow 64 (λ u. inSet left u && setsOf rows w u))) v
 

@@ -16,8 +16,7 @@ returns : tie.Need-returns
 returns c = judgement-plan _ _ _ _ (c .before .before .before .before .judge-red-black .ensures) (c .before .judge-real .ensures) (c .if1 .taken)
 
 judge-relaxed-requires : tie.Need-judge-relaxed-requires
-judge-relaxed-requires c κs =
-    (c .before .before .before .before .before .before .before .before .before .pre, c .before .before .before .before .before .before .follow .ensures .relaxed′)
+judge-relaxed-requires c κs = let at-follow = c .before .before .before .before .before .before in (at-follow .before .before .before .pre, at-follow .follow .ensures .relaxed′)
 
 returns-2 : tie.Need-returns-2
 returns-2 c = judgement-of _ _ _ _ _ (c .judge-relaxed .ensures) (c .before .before .before .before .before .judge-red-black .ensures) (c .before .before .judge-real .ensures)

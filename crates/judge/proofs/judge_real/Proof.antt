@@ -1,5 +1,5 @@
 use borrow.Author.Needs.{needs}
-use mathlib.Core.Path.{_≡_, ap, _∙_}
+use mathlib.Core.Path.{ap, _∙_}
 use native.Mathlib.Omega.{arith}
 use Rattle.planning.specs.Runs.{holds}
 use Rattle.judge.proofs.Tracing.{real-short, real-whole, runs-few}
@@ -23,8 +23,9 @@ all-newest-requires c κs = let G = c .before .before .before .load .ensures in 
 
 returns-2 : tie.Need-returns-2
 returns-2 c =
-    let P = c .before .before .before .before .before .before .before .before .pre in
-    real-whole _ (P .0 .loaded .formed) _ (P .0 .entries) _ _ (P .1) (omega arith) _ (c .all-newest .ensures ∙ ap (holds _) (c .before .before .before .before .load .ensures .are))
+    let at-load = c .before .before .before .before in
+    let P = at-load .before .before .before .before .pre in
+    real-whole _ (P .0 .loaded .formed) _ (P .0 .entries) _ _ (P .1) (omega arith) _ (c .all-newest .ensures ∙ ap (holds _) (at-load .load .ensures .are))
 
 pub judge-real-spec : {M : Type 1} → statement M
 judge-real-spec = tie.close (tie.spec cast-t9 returns load-requires cast-t11 all-newest-requires returns-2)

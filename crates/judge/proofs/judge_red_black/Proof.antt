@@ -1,5 +1,5 @@
 use borrow.Author.Needs.{needs}
-use mathlib.Core.Path.{_≡_, ap, _∙_}
+use mathlib.Core.Path.{ap, _∙_}
 use native.Mathlib.Omega.{arith}
 use Rattle.planning.specs.Runs.{holds}
 use Rattle.judge.proofs.Tracing.{painted-short, painted-whole, stops-few}

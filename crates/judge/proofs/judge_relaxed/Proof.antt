@@ -96,9 +96,10 @@ all-hold-requires c κs = let G = c .before .before .before .before .before .loa
 
 returns-2 : tie.Need-returns-2 Inv-loop μ-loop
 returns-2 c =
-    let h = c .before .before .before .before .before .before .before .before in
+    let at-load = c .before .before .before .before .before .before in
+    let h = at-load .before .before in
     going-end _ _ _ _ _ (h .loop .inv) (omega arith) (h .before .before .before .pre .0 .entries) _
-    (c .all-hold .ensures ∙ ap (holds _) (c .before .before .before .before .before .before .load .ensures .are))
+    (c .all-hold .ensures ∙ ap (holds _) (at-load .load .ensures .are))
 
 pub judge-relaxed-spec : {M : Type 1} → statement M
 judge-relaxed-spec =

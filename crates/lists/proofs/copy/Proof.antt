@@ -1,3 +1,4 @@
+-- The first k entries are copied, and the rest is as it was.
 use mathlib.Core.List.{_++_}
 use Rattle.lists.proofs.Laying.{copy-turn, copy-end}
 use lib.ListN.{length-set}
@@ -8,7 +9,6 @@ use lib.ListN.{length, take, drop}
 use Rattle.lists.proofs.copy.Statement.{statement}
 use Rattle.lists.proofs.copy.Tie as tie
 
--- The first k entries are copied, and the rest is as it was.
 abbrev Inv-loop : tie.InvT-loop
 Inv-loop from to₀ k₀ to k = (k ≤ length from) × (length to ≡ length to₀) × (to ≡ take k from ++ drop k to₀)
 

@@ -1,14 +1,13 @@
 -- The first v entries are the newest values, and the rest is as it was.
 use borrow.Author.Needs.{needs}
 use mathlib.Core.List.{_++_}
-use lib.ListN.{length-set}
 use Rattle.planning.specs.Newest.{tabulate}
 use Rattle.state.specs.Sets.{valuesOf}
 use Rattle.newest.proofs.Boards.{value-at, put-start, put-turn, put-end}
-use mathlib.Core.Path.{_≡_, refl, sym, ap, _∙_}
-use Prim.Native.Nat.{ℕ, _+_, _*_, _/_, _^_, _-_, _≤_, _<_}
+use mathlib.Core.Path.{_≡_, refl, _∙_}
+use Prim.Native.Nat.{_-_, _≤_}
 use native.Mathlib.Omega.{arith}
-use lib.ListN.{length, getD, take, drop, set, replicate}
+use lib.ListN.{length, drop, length-set}
 use Rattle.newest.proofs.put.Statement.{statement}
 use Rattle.newest.proofs.put.Tie as tie
 

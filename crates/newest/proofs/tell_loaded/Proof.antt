@@ -1,10 +1,7 @@
 use borrow.Author.Needs.{needs}
-use mathlib.Core.Path.{_≡_, refl, sym, ap, _∙_, subst}
-use mathlib.Core.Option.{none}
+use mathlib.Core.Path.{refl, sym, subst}
 use native.Mathlib.Omega.{arith}
 use Rattle.answers.proofs.Stages.{passed, handed-on}
-use Rattle.task.specs.Task.{taskIn}
-use Rattle.judge.specs.Answers.{listCheck}
 use Rattle.judge.proofs.Entry.{list-ready}
 use Rattle.judge.proofs.Tracing.{stops-few, runs-few}
 use Rattle.newest.specs.Answers.{Tells}

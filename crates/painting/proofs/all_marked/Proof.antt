@@ -3,7 +3,7 @@ use mathlib.Core.Path.{refl, sym, ap, _∙_}
 use Prim.Native.Nat.{_+_, _<_}
 use native.Mathlib.Omega.{arith}
 use lib.ListN.{length}
-use Rattle.planning.specs.Runs.{act, holds}
+use Rattle.planning.specs.Runs.{holds}
 use Rattle.state.proofs.Listing.{loaded-listed}
 use Rattle.state.specs.Sets.{Facts}
 use Rattle.graph.proofs.Rows.{listed-preconditions}
@@ -14,16 +14,19 @@ use borrow.Author.Tests.{eq-eqb, ne-eqb}
 use Rattle.painting.proofs.all_marked.Statement.{statement}
 use Rattle.painting.proofs.all_marked.Tie as tie
 
-front : (e : tie.After-eff-start) → Facts (e .before .before .before .before .args .task .now) (e .before .pre-start .result) (e .eff-start .result)
+abbrev start-of : tie.After-eff-start → tie.Start
+start-of e = e .before .before .before .before
+
+front : (e : tie.After-eff-start) → Facts (start-of e .args .task .now) (e .before .pre-start .result) (e .eff-start .result)
 front e =
-    let p = e .before .before .before .before .pre in
+    let p = start-of e .pre in
     listed-preconditions _ _ (loaded-listed _ (p .0) _ (p .1)) _ _ (e .before .pre-start .ensures) (e .eff-start .ensures)
 
-seen-inside : (c : tie.After-wide2) → c .wide2 .result < length (c .before .before .before .before .before .before .before .before .before .args .marks .now)
+seen-inside : (c : tie.After-wide2) → c .wide2 .result < length (start-of (c .before .before .before .before .before) .args .marks .now)
 seen-inside c =
     let e = c .before .before .before .before .before in
     let s = e .before in
-    let z = s .before .before .before in
+    let z = start-of e in
     let p = z .pre in
     let k = s .pre-start .result + c .before .before .before .wide .result in
     omega (arith, c .wide2 .ensures, need-inside _ (z .args .marks .now) (p .0) _ (p .1) (p .2) _ _ (s .pre-start .ensures) (e .eff-start .ensures) k (omega arith) (omega arith))
@@ -68,8 +71,8 @@ returns : tie.Need-returns
 returns c =
     let w = c .before .before in
     let e = w .before .before .before .before .before in
-    let p = e .before .before .before .before .pre in
-    let a = e .before .before .before .before .args in
+    let p = start-of e .pre in
+    let a = start-of e .args in
     let L = loaded-listed _ (p .0) _ (p .1) in
     let u = unmarked-at (a .task .now) (a .marks .now) (a .i) (w .before .before .before .wide .result)
     (e .before .pre-start .result) (e .eff-start .result) _

@@ -1,3 +1,4 @@
+-- No action from j up to k returns: those that set f stand in the chain, and the chain rises.
 use mathlib.Core.Path.{sym, _∙_}
 use Prim.Native.Nat.{_/_, _%_, _-_}
 use native.Mathlib.Omega.{arith}
@@ -7,7 +8,6 @@ use Rattle.painting.proofs.Returns.{Chasing, chasing-start, chasing-at,
 use Rattle.painting.proofs.first_return.Statement.{statement}
 use Rattle.painting.proofs.first_return.Tie as tie
 
--- No action from j up to k returns: those that set f stand in the chain, and the chain rises.
 abbrev Inv-loop : tie.InvT-loop
 Inv-loop task marks i f j last₀ k₀ last k = Chasing (taskIn task) (marked i marks) (f / 64) (f % 64) j k
 

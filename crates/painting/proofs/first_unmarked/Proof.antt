@@ -1,3 +1,4 @@
+-- All preconditions are marked where those from place k on are: the ones passed are.
 use mathlib.Core.Bool.{Bool}
 use mathlib.Core.Path.{refl, _∙_}
 use Prim.Native.Nat.{_-_, _<_, _≤_}
@@ -13,12 +14,14 @@ use borrow.Author.Needs.{needs}
 use Rattle.painting.proofs.first_unmarked.Statement.{statement}
 use Rattle.painting.proofs.first_unmarked.Tie as tie
 
--- All preconditions are marked where those from place k on are: the ones passed are.
 abbrev Inv-loop : tie.InvT-loop
 Inv-loop task j marks i end k₀ k = (k₀ ≤ k) × Walking Bool (holds (marked i marks)) (act (taskIn task) j .pre) task end k
 
 abbrev μ-loop : tie.MeasureT-loop
 μ-loop task j marks i end k₀ k = end - k
+
+abbrev start-of : tie.At-loop Inv-loop μ-loop → tie.Start Inv-loop μ-loop
+start-of c = c .before .before .before .before .before
 
 eff-start-requires : tie.Need-eff-start-requires Inv-loop μ-loop
 eff-start-requires c κs = search needs
@@ -42,11 +45,11 @@ shared-slice-read-wide c = let l = c .before .before in omega (arith, l .loop .i
 wide-requires : tie.Need-wide-requires Inv-loop μ-loop
 wide-requires c κs = search needs
 
-inside : (c : tie.After-wide Inv-loop μ-loop) → c .wide .result < length (c .before .before .before .before .before .before .before .before .args .marks .now)
+inside : (c : tie.After-wide Inv-loop μ-loop) → c .wide .result < length (start-of (c .before .before .before) .args .marks .now)
 inside c =
     let l = c .before .before .before in
     let s = l .before in
-    let z = s .before .before .before .before in
+    let z = start-of l in
     let p = z .pre in
     omega (arith, c .wide .ensures, need-inside _ (z .args .marks .now) (p .0) _ (p .1) (p .2) _ _ (s .pre-start .ensures) (s .before .eff-start .ensures) (l .loop .k) (omega arith) (omega arith))
 

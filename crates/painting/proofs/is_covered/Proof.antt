@@ -1,3 +1,4 @@
+-- Nothing has to be known of the actions passed: 'false' promises nothing.
 use Prim.Native.Nat.{ℕ, _-_, _≤_}
 use mathlib.Core.Path.{_≡_, refl, sym, _∙_}
 use native.Mathlib.Omega.{arith}
@@ -7,7 +8,6 @@ use borrow.Author.Needs.{needs}
 use Rattle.painting.proofs.is_covered.Statement.{statement}
 use Rattle.painting.proofs.is_covered.Tie as tie
 
--- Nothing has to be known of the actions passed: 'false' promises nothing.
 abbrev Inv-loop : tie.InvT-loop
 Inv-loop task marks own f kept last₀ s₀ last s = s ≤ 32
 

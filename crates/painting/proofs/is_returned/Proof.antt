@@ -6,6 +6,9 @@ use borrow.Author.Needs.{needs}
 use Rattle.painting.proofs.is_returned.Statement.{statement}
 use Rattle.painting.proofs.is_returned.Tie as tie
 
+abbrev start-of : tie.After-later-return → tie.Start
+start-of c = c .before .before .before .before .before .before
+
 mul-wide : tie.Need-mul-wide
 mul-wide c = search needs
 
@@ -19,17 +22,17 @@ later-return-requires : tie.Need-later-return-requires
 later-return-requires c κs = search needs
 
 first-mover-requires : tie.Need-first-mover-requires
-first-mover-requires c κs = let p = c .before .before .before .before .before .before .before .pre .0 in (p .loaded, omega (arith, black-inside _ _ (p .on)))
+first-mover-requires c κs = let p = start-of (c .before) .pre .0 in (p .loaded, omega (arith, black-inside _ _ (p .on)))
 
 first-return-requires : tie.Need-first-return-requires
 first-return-requires c κs =
-    let p = c .before .before .before .before .before .before .before .before .before .pre in
+    let p = start-of (c .before .before .before) .pre in
     (p .0, head-chain _ _ (p .0) _ (c .before .first-mover .ensures), p .1)
 
 cast-last : tie.Need-cast-last
 cast-last c =
     let l = c .before .before in
-    let p = l .before .before .before .before .before .before .pre in
+    let p = start-of l .pre in
     ⊎-elim
     (λ w. omega (arith, w .5, serves-near _ _ (p .0) _ _ (next-serves _ _ _ _ _ _ (w .3 .ensures))))
     (λ w. omega (arith, w .2, serves-near _ _ (p .0) _ _ (l .later-return .ensures)))
@@ -44,7 +47,7 @@ element-write-last c = search needs
 returns : tie.Need-returns
 returns c =
     let l = c .before .before in
-    let p = l .before .before .before .before .before .before .pre in
+    let p = start-of l .pre in
     ⊎-elim
     (λ w. rw (w .5) (served-first _ _ (p .0) _ _ _ (w .1 .ensures) (w .3 .ensures)))
     (λ w. rw (w .2) (served _ _ (p .0) _ _ (l .later-return .ensures) (w .0 .left)))

@@ -4,6 +4,12 @@ use borrow.Author.Needs.{needs}
 use Rattle.painting.proofs.keep.Statement.{statement}
 use Rattle.painting.proofs.keep.Tie as tie
 
+abbrev actions-to-start : tie.After-actions → tie.Start
+actions-to-start c = c .before .before .before .before .before .before .before
+
+abbrev complete-to-start : tie.After-is-complete → tie.Start
+complete-to-start c = actions-to-start (c .before .before .before .before)
+
 element-copy-out-tries : tie.Need-element-copy-out-tries
 element-copy-out-tries c = search needs
 
@@ -32,12 +38,12 @@ actions-requires : tie.Need-actions-requires
 actions-requires c κs = search needs
 
 returns-2 : tie.Need-returns-2
-returns-2 c = let p = c .before .before .before .before .before .before .before .before .pre in ready-more _ _ _ _ _ (p .2) (omega arith)
+returns-2 c = let p = actions-to-start (c .before) .pre in ready-more _ _ _ _ _ (p .2) (omega arith)
 
 is-complete-requires : tie.Need-is-complete-requires
 is-complete-requires c κs =
     let x = c .before .before in
-    let p = x .before .before .before .before .before .before .before .before .pre in
+    let p = actions-to-start (x .before) .pre in
     (p .0, omega (arith, x .before .actions .ensures, x .if2 .left), p .2 .unmarked, p .1)
 
 mul-kept : tie.Need-mul-kept
@@ -60,9 +66,6 @@ sub-last c = search needs
 
 element-write-last : tie.Need-element-write-last
 element-write-last c = search needs
-
-abbrev complete-to-start : tie.After-is-complete → tie.Start
-complete-to-start c = c .before .before .before .before .before .before .before .before .before .before .before
 
 same-length : tie.Need-same-length
 same-length c = search needs

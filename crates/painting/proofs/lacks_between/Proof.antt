@@ -1,3 +1,4 @@
+-- Every value from `from` up to d has its return.
 use Prim.Native.Nat.{_/_, _%_, _-_}
 use native.Mathlib.Omega.{arith}
 use borrow.Author.Tests.{not-true, not-false}
@@ -8,7 +9,6 @@ use borrow.Author.Needs.{needs}
 use Rattle.painting.proofs.lacks_between.Statement.{statement}
 use Rattle.painting.proofs.lacks_between.Tie as tie
 
--- Every value from `from` up to d has its return.
 abbrev Inv-loop : tie.InvT-loop
 Inv-loop task marks i f from to last₀ d₀ last d = Trying (taskIn task) (marked i marks) (f / 64) (f % 64) from to d
 

@@ -1,10 +1,10 @@
+-- The heads have the first action from i on with the move to each black fact, and each such action has the next one behind it.
 use native.Mathlib.Omega.{arith}
 use Rattle.painting.proofs.Chains.{Linking, linking-start, linking-loaded, linking-below, linking-back, linking-long, linking-end}
 use borrow.Author.Needs.{needs}
 use Rattle.painting.proofs.link_all.Statement.{statement}
 use Rattle.painting.proofs.link_all.Tie as tie
 
--- The heads have the first action from i on with the move to each black fact, and each such action has the next one behind it.
 abbrev Inv-loop : tie.InvT-loop
 Inv-loop task₀ paint i₀ n task i = Linking task₀ task i
 

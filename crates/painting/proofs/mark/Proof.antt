@@ -1,3 +1,4 @@
+-- The marks so far with those of the facts from place k on are the marks of all facts.
 use Prim.Native.Nat.{_-_}
 use mathlib.Core.Path.{refl}
 use native.Mathlib.Omega.{arith}
@@ -7,7 +8,6 @@ use borrow.Author.Needs.{needs}
 use Rattle.painting.proofs.mark.Statement.{statement}
 use Rattle.painting.proofs.mark.Tie as tie
 
--- The marks so far with those of the facts from place k on are the marks of all facts.
 abbrev Inv-loop : tie.InvT-loop
 Inv-loop task from to f own marks₀ k₀ marks k = Marking (factsIn task from to) task to f own marks₀ marks k
 

@@ -1,3 +1,4 @@
+-- The move of all effects is the move of those from place k on: the ones passed are of red variables or are needed.
 use mathlib.Core.Path.{sym, _∙_}
 use Prim.Native.Nat.{ℕ, _-_}
 use native.Mathlib.Omega.{arith}
@@ -11,7 +12,6 @@ use borrow.Author.Needs.{needs}
 use Rattle.painting.proofs.move_of.Statement.{statement}
 use Rattle.painting.proofs.move_of.Tie as tie
 
--- The move of all effects is the move of those from place k on: the ones passed are of red variables or are needed.
 abbrev Inv-loop : tie.InvT-loop
 Inv-loop task i paint end k₀ k = Walking ℕ (moveWithout paint (act (taskIn task) i .pre)) (act (taskIn task) i .eff) task end k
 

@@ -7,6 +7,9 @@ use borrow.Author.Needs.{needs}
 use Rattle.planner.proofs.plan.Statement.{statement}
 use Rattle.planner.proofs.plan.Tie as tie
 
+abbrev start-of : tie.After-plan-checked → tie.Start
+start-of c = c .before .before .before .before .before .before .before .before .before
+
 slice-aggregate-plan-checked : tie.Need-slice-aggregate-plan-checked
 slice-aggregate-plan-checked c = search needs
 
@@ -34,7 +37,7 @@ returns c =
     let f = b .before .before .before .before .before .before in
     let h = f .before .before .before .before in
     let k = h .before .before .before in
-    let a = k .before .before .before .before .before .before .before .before .before .args in
+    let a = start-of k .args in
     let s = a .bytes .now in
     let n = length (a .plan .now) in
     let w = length (a .work .now) in

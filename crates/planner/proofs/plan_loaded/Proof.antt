@@ -57,11 +57,12 @@ same-length-4 c = search needs
 returns-2 : tie.Need-returns-2
 unfolding paintingCheck
 returns-2 c =
-    let at-told = c .before .before .before .before .before .before .before .before in
+    let at-prepared = c .before .before .before .before in
+    let at-told = at-prepared .before .before .before .before in
     let at-prepare = told-to-prepare at-told in
     let a = prepare-to-start at-prepare .args in
     painted (a .given) (taskIn (a .task .now)) _ (at-prepare .prepare .ensures .same) _ _ _ _ _
-    (passed-by _ _ (at-told .enum-told .given .1) (at-prepare .prepare .ensures .answer)) (c .before .before .before .before .plan-prepared .ensures)
+    (passed-by _ _ (at-told .enum-told .given .1) (at-prepare .prepare .ensures .answer)) (at-prepared .plan-prepared .ensures)
 
 pub plan-loaded-spec : {M : Type 1} → statement M
 plan-loaded-spec =

@@ -14,6 +14,10 @@ use borrow.Author.Needs.{needs}
 use Rattle.planner.proofs.plan_prepared.Statement.{statement}
 use Rattle.planner.proofs.plan_prepared.Tie as tie
 
+-- where the function starts, from the way with a caller's list
+abbrev given-to-start : tie.Then1 → tie.Start
+given-to-start c = c .before .before .before .before .before .before
+
 -- the points of the way without a caller's list
 abbrev own-of : tie.After-known-told → tie.Else1
 own-of c = c .before .before .before .before .before
@@ -36,18 +40,17 @@ refusal-of-requires c κs = search needs
 returns : tie.Need-returns
 returns c =
     let d = c .before .before .before .before in
-    let a = d .before .before .before .before .before .before .args in
+    let a = given-to-start d .args in
     let t = taskIn (a .task .now) in
     let told = handed-on _ _ _ _ _ (c .before .enum-told2 .given .1) (c .refusal-of .ensures) (c .before .before .before .check-relaxed .ensures) in
     drafted-stop t _ _ _ _ _ _ _ (given-check t (a .list .now) _ (d .if1 .taken) ∙ told)
 
 draft-requires : tie.Need-draft-requires
 draft-requires c κs =
-    let t = taskIn (c .before .before .before .before .before .before .before .before .before .before .before .args .task .now) in
+    let s = given-to-start (c .before .before .before .before .before) in
     let p = passed _ _ _ _ (c .before .before .enum-told .given .1) (c .before .before .before .before .check-relaxed .ensures) .0 in (
-      c .before .before .before .before .before .before .before .before .before .before .before .pre,
-      relaxedCheck-none t
-          (c .before .before .before .before .before .before .before .before .before .before .before .args .list .now) (inOrder-passed _ p .1 .0),
+      s .pre,
+      relaxedCheck-none (taskIn (s .args .task .now)) (s .args .list .now) (inOrder-passed _ p .1 .0),
     )
 
 same-length : tie.Need-same-length
@@ -60,7 +63,7 @@ returns-2 : tie.Need-returns-2
 returns-2 c =
     let d = c .before .before .before .before .before .before .before in
     let g = d .before .before .before in
-    let a = g .before .before .before .before .before .before .args in
+    let a = given-to-start g .args in
     let t = taskIn (a .task .now) in
     let l = a .list .now in
     let p = passed _ _ _ _ (d .enum-told .given .1) (d .before .before .check-relaxed .ensures) .0 in
@@ -116,12 +119,14 @@ same-length-4 c = search needs
 
 returns-4 : tie.Need-returns-4
 returns-4 c =
-    let F = found (c .before .before .before .before .before .before .before .before) in
-    let o = own-of (c .before .before .before .before .before .before .before .before) in
+    let at-draft = c .before .before .before .before in
+    let k = at-draft .before .before .before .before in
+    let F = found k in
+    let o = own-of k in
     let a = start-of o .args in
     let t = taskIn (a .task .now) in
     let l = a .list .now in
-    sourced t l _ _ _ _ _ _ (F .front .list ∙ own-source t l _ (o .if1 .left)) (own-check t l _ (o .if1 .left) ∙ found-check t (F .solved)) (c .before .before .before .before .draft2 .ensures)
+    sourced t l _ _ _ _ _ _ (F .front .list ∙ own-source t l _ (o .if1 .left)) (own-check t l _ (o .if1 .left) ∙ found-check t (F .solved)) (at-draft .draft2 .ensures)
 
 pub plan-prepared-spec : {M : Type 1} → statement M
 plan-prepared-spec =

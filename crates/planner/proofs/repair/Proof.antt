@@ -6,6 +6,9 @@ use borrow.Author.Needs.{needs}
 use Rattle.planner.proofs.repair.Statement.{statement}
 use Rattle.planner.proofs.repair.Tie as tie
 
+abbrev start-of : tie.After-plan-checked → tie.Start
+start-of c = c .before .before .before .before .before .before .before .before .before
+
 plan-checked-requires : tie.Need-plan-checked-requires
 plan-checked-requires c κs = tt
 
@@ -30,7 +33,7 @@ returns c =
     let f = b .before .before .before .before .before .before in
     let h = f .before .before .before .before in
     let k = h .before .before .before in
-    let a = k .before .before .before .before .before .before .before .before .before .args in
+    let a = start-of k .args in
     let s = a .bytes .now in
     let l = a .list .now in
     let n = length (a .plan .now) in

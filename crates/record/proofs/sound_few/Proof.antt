@@ -12,7 +12,7 @@ abbrev else3-to-start : tie.Else3 → tie.Start
 else3-to-start c = c .before .before .before .before .before
 
 abbrev else5-to-start : tie.Else5 → tie.Start
-else5-to-start c = c .before .before .before .before .before .before .before .before
+else5-to-start c = else3-to-start (c .before .before .before)
 
 is-sound-requires : tie.Need-is-sound-requires
 is-sound-requires c κs = omega arith

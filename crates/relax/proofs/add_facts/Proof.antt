@@ -1,3 +1,4 @@
+-- What the facts from place k on and the sets hold together stays the same.
 use mathlib.Core.Path.{refl, ap}
 use Prim.Native.Nat.{_/_, _-_, _<_}
 use native.Mathlib.Omega.{arith}
@@ -8,7 +9,6 @@ use Rattle.relax.proofs.Laws.{Adding, adding-turn, adding-end}
 use Rattle.relax.proofs.add_facts.Statement.{statement}
 use Rattle.relax.proofs.add_facts.Tie as tie
 
--- What the facts from place k on and the sets hold together stays the same.
 abbrev Inv-loop : tie.InvT-loop
 Inv-loop sets₀ facts from to k₀ sets k = Adding facts from to sets₀ sets k
 

@@ -1,3 +1,5 @@
+-- Of the run from place k on, the kept actions stand from place m on, and what they need is in the sets; before place k the run is as it
+-- was, as m falls no more often than k.
 use mathlib.Core.Path.{_≡_, sym, ap, _∙_, subst}
 use Prim.Native.Nat.{_+_, _-_, _<_}
 use native.Mathlib.Omega.{arith}
@@ -12,8 +14,6 @@ use Rattle.relax.proofs.Laws.{keeping-start, entry-below, keeping-no, k
 use Rattle.relax.proofs.keep_back.Statement.{statement}
 use Rattle.relax.proofs.keep_back.Tie as tie
 
--- Of the run from place k on, the kept actions stand from place m on, and what they need is in the sets; before place k the run is as it
--- was, as m falls no more often than k.
 abbrev Inv-loop : tie.InvT-loop
 Inv-loop task first n needed₀ run k₀ m₀ needed kept k m = Keeping (taskIn task) run n needed kept k m
 

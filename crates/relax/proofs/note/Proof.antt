@@ -1,3 +1,4 @@
+-- What is to stand in the list is what stands there with i in the places of the effects from k on.
 use borrow.Author.Needs.{needs}
 use mathlib.Core.Path.{_≡_, refl, subst}
 use Prim.Native.Nat.{_-_, _<_}
@@ -12,7 +13,6 @@ use Rattle.relax.proofs.Laws.{Noting, noting-turn, noting-end}
 use Rattle.relax.proofs.note.Statement.{statement}
 use Rattle.relax.proofs.note.Tie as tie
 
--- What is to stand in the list is what stands there with i in the places of the effects from k on.
 abbrev Inv-loop : tie.InvT-loop
 Inv-loop task i first₀ to k₀ first k = (to ≡ endAt task i) × Noting task (effAt task i) (endAt task i) i first₀ first k
 

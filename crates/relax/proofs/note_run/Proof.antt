@@ -1,3 +1,4 @@
+-- For each fact the list has the first action that sets it among those of the run from place k on.
 use borrow.Author.Needs.{needs}
 use mathlib.Core.Path.{_≡_, subst}
 use Prim.Native.Nat.{ℕ, _+_, _-_, _<_, _≤_}
@@ -10,7 +11,6 @@ use Rattle.relax.proofs.Laws.{setters-start, setters-turn, entry-below}
 use Rattle.relax.proofs.note_run.Statement.{statement}
 use Rattle.relax.proofs.note_run.Tie as tie
 
--- For each fact the list has the first action that sets it among those of the run from place k on.
 abbrev Inv-loop : tie.InvT-loop
 Inv-loop task run n first₀ k₀ first k = (k ≤ n) × (length first ≡ 4096) × Setters (taskIn task) (drop k (forwardRun (taskIn task))) first
 

@@ -1,3 +1,4 @@
+-- The test over all effects is the test over those from place k on, as none before it was met.
 use mathlib.Core.Path.{_≡_, sym, ap, _∙_}
 use Prim.Native.Nat.{_-_, _≤_}
 use native.Mathlib.Omega.{arith}
@@ -14,7 +15,6 @@ use Rattle.relax.proofs.Laws.{reachedNeeded-hit, reachedNeeded-miss, re
 use Rattle.relax.proofs.reached_needed.Statement.{statement}
 use Rattle.relax.proofs.reached_needed.Tie as tie
 
--- The test over all effects is the test over those from place k on, as none before it was met.
 abbrev Inv-loop : tie.InvT-loop
 Inv-loop needed first task i to k₀ k =
     (to ≡ endAt task i) × (effAt task i ≤ k) × (k ≤ to)

@@ -1,3 +1,4 @@
+-- What has come to the front, with the entries from place k on behind it, is what was to come.
 use borrow.Author.Needs.{needs}
 use Prim.Native.Nat.{_-_}
 use native.Mathlib.Omega.{arith}
@@ -5,7 +6,6 @@ use Rattle.relax.proofs.Laws.{Fronting, fronting-start, fronting-turn, 
 use Rattle.relax.proofs.to_front.Statement.{statement}
 use Rattle.relax.proofs.to_front.Tie as tie
 
--- What has come to the front, with the entries from place k on behind it, is what was to come.
 abbrev Inv-loop : tie.InvT-loop
 Inv-loop plan₀ from k₀ plan k = Fronting plan₀ from plan k
 

@@ -1,3 +1,4 @@
+-- The initial facts of the variables before v are unset, and all else is as it was.
 use borrow.Author.Needs.{needs}
 use mathlib.Core.Path.{_≡_, ap}
 use Prim.Native.Nat.{_+_, _*_, _-_, _<_}
@@ -9,7 +10,6 @@ use Rattle.relax.proofs.Laws.{Unsetting, unsetting-start, unsetting-tur
 use Rattle.relax.proofs.unset_initial.Statement.{statement}
 use Rattle.relax.proofs.unset_initial.Tie as tie
 
--- The initial facts of the variables before v are unset, and all else is as it was.
 abbrev Inv-loop : tie.InvT-loop
 Inv-loop task first₀ n v₀ first v = (n ≡ variables (taskIn task)) × Unsetting (taskIn task) first₀ first v
 

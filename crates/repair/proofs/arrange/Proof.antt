@@ -62,7 +62,8 @@ same-length-2 c = search needs
 
 returns : tie.Need-returns
 returns c =
-    let m = c .before .before .before .before .before .before .before .before in
+    let p = c .before .before .before .before .before in
+    let m = p .before .before .before in
     let e = m .before .before .before .before in
     let k = wide-of e in
     let s = start-of k in
@@ -73,7 +74,7 @@ returns c =
     let n = searches-pre (a .task .now) (s .pre .0 .0 .loaded) _ _ _ _ (k .wide .ensures) (s .pre .0 .1) (e .before .pre-start .ensures) (e .eff-start .ensures)
     (setsOf (a .ever .now)) (shownBy (a .task .now) (a .ever .now) (a .newest .now)) (m .moves .result) (m .moves .ensures .1 .1) in (
       c .before .before .push .ensures .0 (a .plan .now) (a .at) (moved t (setsOf (a .ever .now)) (shownBy (a .task .now) (a .ever .now) (a .newest .now)) (act t (a .i) .pre))
-          (c .before .before .before .before .before .plan .given) put,
+          (p .plan .given) put,
       (m .moves .ensures .1 .0, c .before .before .push .ensures .1 _ n),
     )
 

@@ -37,6 +37,12 @@ abbrev μ-loop : tie.MeasureT-loop
 abbrev start-of : tie.At-loop Inv-loop μ-loop → tie.Start Inv-loop μ-loop
 start-of h = h .before .before .before .before .before .before .before .before .before
 
+abbrev marked-of : tie.After-slice-known6 Inv-loop μ-loop → tie.After-w Inv-loop μ-loop
+marked-of c = c .before .before .before .before .before
+
+abbrev plan-of : tie.After-w Inv-loop μ-loop → tie.After-plan Inv-loop μ-loop
+plan-of c = c .before .before .before
+
 abbrev stage-of : tie.After-plan Inv-loop μ-loop → tie.After-stage Inv-loop μ-loop
 stage-of c = c .before .before .before
 
@@ -173,32 +179,32 @@ returns c =
 mark-requires : tie.Need-mark-requires Inv-loop μ-loop
 mark-requires c κs =
     let w = c .before .before in
-    let places = repairing-places (arranged (w .before .before .before)) _ _ (w .w .given .1) in
+    let places = repairing-places (arranged (plan-of w)) _ _ (w .w .given .1) in
     (places .0, places .1, λ e. places .2 (ltb-true _ _ e))
 
 add-searched : tie.Need-add-searched Inv-loop μ-loop
 add-searched c =
-    let w = c .before .before .before .before .before in
-    let p = w .before .before .before in
+    let w = marked-of c in
+    let p = plan-of w in
     let s = start-of (head-in (again-of (stage-of p))) in
     let R = arranged p in
     omega (arith, repairing-modest R _ _ (w .w .given .1) (s .pre .0 .prepared .loaded .formed), repairing-fits R _ _ (w .w .given .1), R .here, s .pre .1)
 
 add-j : tie.Need-add-j Inv-loop μ-loop
 add-j c =
-    let e = again-of (stage-of (c .before .before .before .before .before .before .before .before)) in
+    let e = again-of (stage-of (plan-of (marked-of c))) in
     omega (arith, here-of e, start-of (head-in e) .good)
 
 loop-less : tie.Need-loop-less Inv-loop μ-loop
 loop-less c =
-    let w = c .before .before .before .before .before in
-    let p = w .before .before .before in
+    let w = marked-of c in
+    let p = plan-of w in
     stages-fewer _ _ _ _ _ _ (here-of (again-of (stage-of p))) (repairing-fits (arranged p) _ _ (w .w .given .1))
 
 loop-again : tie.Need-loop-again Inv-loop μ-loop
 loop-again c =
-    let w = c .before .before .before .before .before in
-    let p = w .before .before .before in
+    let w = marked-of c in
+    let p = plan-of w in
     let d = stage-of p in
     let e = again-of d in
     let h = head-in e in

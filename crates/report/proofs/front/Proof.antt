@@ -2,7 +2,6 @@ use mathlib.Core.Path.{refl, sym}
 use native.Mathlib.Omega.{arith}
 use lib.ListN.{length-take}
 use lib.Seq.{length-take-le, take-all}
-use borrow.Author.Needs.{needs}
 use Rattle.report.proofs.front.Statement.{statement}
 use Rattle.report.proofs.front.Tie as tie
 

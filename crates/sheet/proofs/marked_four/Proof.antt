@@ -9,6 +9,15 @@ use borrow.Author.Needs.{needs}
 use Rattle.sheet.proofs.marked_four.Statement.{statement}
 use Rattle.sheet.proofs.marked_four.Tie as tie
 
+abbrev first-to-start : tie.After-marked → tie.Start
+first-to-start c = c .before .before .before .before .before
+
+abbrev second-to-start : tie.After-marked2 → tie.Start
+second-to-start c = first-to-start (c .before .before .before)
+
+abbrev third-to-start : tie.After-marked3 → tie.Start
+third-to-start c = second-to-start (c .before .before .before)
+
 shared-slice-read-marked : tie.Need-shared-slice-read-marked
 shared-slice-read-marked c = search needs
 
@@ -40,7 +49,7 @@ shared-slice-read-marked-4 : tie.Need-shared-slice-read-marked-4
 shared-slice-read-marked-4 c = search needs
 
 marked-requires-2 : tie.Need-marked-requires-2
-marked-requires-2 c κs = let o = c .before .before .before .before .before .before .before in o .pre .2 _
+marked-requires-2 c κs = let o = first-to-start (c .before .before) in o .pre .2 _
 
 mul-result-2 : tie.Need-mul-result-2
 mul-result-2 c = search needs
@@ -64,7 +73,7 @@ shared-slice-read-marked-6 : tie.Need-shared-slice-read-marked-6
 shared-slice-read-marked-6 c = search needs
 
 marked-requires-3 : tie.Need-marked-requires-3
-marked-requires-3 c κs = let o = c .before .before .before .before .before .before .before .before .before .before in o .pre .2 _
+marked-requires-3 c κs = let o = second-to-start (c .before .before) in o .pre .2 _
 
 mul-result-3 : tie.Need-mul-result-3
 mul-result-3 c = search needs
@@ -88,7 +97,7 @@ shared-slice-read-marked-8 : tie.Need-shared-slice-read-marked-8
 shared-slice-read-marked-8 c = search needs
 
 marked-requires-4 : tie.Need-marked-requires-4
-marked-requires-4 c κs = let o = c .before .before .before .before .before .before .before .before .before .before .before .before .before in o .pre .2 _
+marked-requires-4 c κs = let o = third-to-start (c .before .before) in o .pre .2 _
 
 add-result-3 : tie.Need-add-result-3
 add-result-3 c = search needs
@@ -98,7 +107,7 @@ returns c =
     let at-third = c .before .before .before in
     let at-second = at-third .before .before .before in
     let at-first = at-second .before .before .before in
-    let o = at-first .before .before .before .before .before .args in
+    let o = first-to-start at-first .args in
     let es = entries 2 (o .list .now) (o .marks .now) in
     let a : at-first .marked .result ≡ getD es (o .i) 0 = at-first .marked .ensures .0 ∙ sym (getD-entries 2 _ _ (o .i) (omega arith)) in
     let b : at-second .marked2 .result ≡ getD es (o .i + 1) 0 = at-second .marked2 .ensures .0 ∙ sym (getD-entries 2 _ _ (o .i + 1) (omega arith)) in

@@ -70,7 +70,8 @@ add-result-3 c = search needs
 
 returns : tie.Need-returns
 returns c =
-    let o = c .before .before .before .before .before .before .before .before .before in
+    let at-first = c .before .before .before .before .before .before in
+    let o = at-first .before .before .before in
     let s = o .pre .1 in
     let i = o .args .i in
     (omega arith, omega (arith, s i, s (i + 1), s (i + 2), s (i + 3)))

@@ -42,14 +42,15 @@ same-length-2 c = search needs
 returns : tie.Need-returns
 unfolding readingAs
 returns c =
-    let at-enum-told = c .before .before .before .before .before .before .before .before in
+    let at-blank = c .before .before .before .before .before .before in
+    let at-enum-told = at-blank .before .before in
     let at-read-checked = at-enum-told .before .before in
     let o = at-read-checked .before .before .before .before .before .args in
     let n = length (o .list .now) in
     let m = length (o .marks .now) in
     let w = at-read-checked .read-checked .ensures n m (at-read-checked .before .lesser .ensures) in
     let t = sym w ∙ ap readingAs (at-enum-told .enum-told .given .1) in
-    let p = read-refused (o .bytes .now) n m _ _ _ _ t (c .before .before .before .before .before .before .blank .ensures) (c .before .before .clear .ensures) in
+    let p = read-refused (o .bytes .now) n m _ _ _ _ t (at-blank .blank .ensures) (c .before .before .clear .ensures) in
     (w, (p .list, (p .marks, λ h z. p .again h (sym w ∙ z))))
 
 abbrev known-told-to-start : tie.After-known-told → tie.Start
@@ -107,7 +108,8 @@ blank-from-requires c κs = search needs
 
 show-marks-requires : tie.Need-show-marks-requires
 show-marks-requires c κs =
-    let at-mark-width = c .before .before .before .before .before .before .before .before .before in
+    let at-read-steps = c .before .before .before .before .before .before .before in
+    let at-mark-width = at-read-steps .before .before in
     let h = held (at-mark-width .before) in
     let e = steps-are (at-mark-width .before) in
     (at-mark-width .mark-width .ensures .1, omega (arith, e, accepted _ (h .ok) .few), omega (arith, e, h .mark-room), fits at-mark-width)
@@ -129,7 +131,8 @@ marks-laid s m w v k j x e = rw (x, e) refl
 returns-2 : tie.Need-returns-2
 unfolding readingAs
 returns-2 c =
-    let at-read-steps = c .before .before .before .before .before .before .before .before .before .before in
+    let at-blank-from = c .before .before .before .before .before .before in
+    let at-read-steps = at-blank-from .before .before .before .before in
     let at-mark-width = at-read-steps .before .before in
     let at-known-told = at-mark-width .before in
     let o = known-told-to-start at-known-told .args in
@@ -142,8 +145,8 @@ returns-2 c =
     let l : length d ≡ n = search needs in
     let x = width-is at-mark-width in
     let e = steps-are at-known-told in
-    let q : c .before .before .before .before .before .before .blank-from .last .0 ≡ stepsAt s (markWidth (editionIn s)) 53 (stepsIn s) ++ replicate (n - stepsIn s) 65535 =
-    c .before .before .before .before .before .before .blank-from .ensures ∙ steps-laid s d n _ _ _ _ (at-read-steps .read-steps .ensures) l x e in
+    let q : at-blank-from .blank-from .last .0 ≡ stepsAt s (markWidth (editionIn s)) 53 (stepsIn s) ++ replicate (n - stepsIn s) 65535 =
+    at-blank-from .blank-from .ensures ∙ steps-laid s d n _ _ _ _ (at-read-steps .read-steps .ensures) l x e in
     let r : c .before .before .show-marks .last .1 .1 .1 .0 ≡ marksAt s (markWidth (editionIn s)) 53 (stepsIn s) ++ replicate (m - stepsIn s) 0 =
     c .before .before .show-marks .ensures ∙ marks-laid s m _ _ _ _ x e in
     let p = read-done s n m _ _ (rw (h .is) at w) (h .ok) (λ i. omega (arith, at-known-told .before .before .before .before .before .before .before .shared-slice-known .given i)) q r in

@@ -53,7 +53,7 @@ loop-less c = search needs
 loop-again : tie.Need-loop-again Inv-loop μ-loop
 loop-again c =
     let at-gather = c .before .before .before .before .before .before in
-    let at-loop = c .before .before .before .before .before .before .before .before .before in
+    let at-loop = at-gather .before .before .before in
     let s = at-loop .before .before .before .args .bytes .now in
     let i = at-loop .loop .i in
     let at = at-loop .loop .at in

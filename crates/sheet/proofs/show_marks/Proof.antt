@@ -36,7 +36,7 @@ same-length-2 c = search needs
 returns-2 : tie.Need-returns-2
 returns-2 c =
     let at-read-marks = c .before .before .before .before .before .before in
-    let o = c .before .before .before .before .before .before .before .before .before .before .before in
+    let o = at-read-marks .before .before .before .before .before in
     let d = at-read-marks .read-marks .last .1 .1 .0 in
     let e : o .args .mark ≡ 1 = omega arith in
     let l : length d ≡ length (o .args .marks .now) = search needs in

@@ -22,6 +22,9 @@ use Rattle.sheet.proofs.write.Tie as tie
 abbrev known-told-to-start : tie.After-known-told → tie.Start
 known-told-to-start c = c .before .before .before .before .before .before .before
 
+abbrev steps-to-mark : tie.After-write-steps → tie.After-mark-width
+steps-to-mark c = c .before .before .before .before .before .before .before
+
 abbrev given : tie.Start → Sheet
 given o = sheet (o .args .edition) (o .args .list .now) (o .args .marks .now) (o .args .cost) (o .args .real)
 
@@ -33,7 +36,7 @@ fit c = fitting _ _ _ (called c)
 
 -- no write changes the count of bytes
 kept : (c : tie.After-write-steps)
-    → length (c .write-steps .last .1 .1 .1 .1 .1 .0) ≡ length (known-told-to-start (c .before .before .before .before .before .before .before .before) .args .bytes .now)
+    → length (c .write-steps .last .1 .1 .1 .1 .1 .0) ≡ length (known-told-to-start (steps-to-mark c .before) .args .bytes .now)
 kept c = search needs
 
 -- a sheet has seven bytes at least
@@ -105,7 +108,7 @@ returns-2 c =
     let at-steps = c .before .before .before .before .before .before in
     let at-bits = at-steps .before .before .before .before in
     let at-front = at-bits .before .before in
-    let at-mark = at-front .before in
+    let at-mark = steps-to-mark at-steps in
     let told = at-mark .before in
     let o = known-told-to-start told in
     let x = given o in

@@ -1,3 +1,4 @@
+-- The heads below f are 65,535 and what is not part of a link is as it was.
 use borrow.Author.Needs.{needs}
 use Prim.Native.Nat.{_-_, _≤_}
 use native.Mathlib.Omega.{arith}
@@ -6,7 +7,6 @@ use Rattle.task.proofs.Relinking.{heads-fewer, unlinked-none, unlinked-
 use Rattle.task.proofs.unlink.Statement.{statement}
 use Rattle.task.proofs.unlink.Tie as tie
 
--- The heads below f are 65,535 and what is not part of a link is as it was.
 abbrev Inv-loop : tie.InvT-loop
 Inv-loop task₀ n heads f₀ task f = (f ≤ n) × Unlinked f task₀ task
 

@@ -28,8 +28,10 @@ same-length : tie.Need-same-length
 same-length c = search needs
 
 returns : tie.Need-returns
-returns c = let d = c .before .before .before .before .before .decimal .ensures in
-    let P = c .before .before .before .before .before .before .before .before .before .put .ensures in
+returns c =
+    let at-decimal = c .before .before .before .before .before in
+    let d = at-decimal .decimal .ensures in
+    let P = at-decimal .before .before .before .before .put .ensures in
     let Q = c .before .before .put2 .ensures in
     let l = digits-few 10 _ _ (omega arith) (search needs) (d .1 .0) in (
       put-then (spaced _ _ (d .1 .1 ∙ decimal-of _ _ (d .1 .0))) P Q,

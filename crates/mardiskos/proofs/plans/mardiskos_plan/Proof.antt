@@ -11,6 +11,9 @@ use borrow.Author.Needs.{needs}
 use Rattle.mardiskos.proofs.plans.mardiskos_plan.Statement.{statement}
 use Rattle.mardiskos.proofs.plans.mardiskos_plan.Tie as tie
 
+abbrev start-of : tie.After-plan → tie.Start
+start-of c = c .before .before .before .before .before .before .before .before
+
 plan-requires : tie.Need-plan-requires
 plan-requires c κs = search needs
 
@@ -29,7 +32,7 @@ same-length-3 c = search needs
 returns : tie.Need-returns
 returns c =
     let at-plan = c .before .before .before .before .before .before .before in
-    let a = at-plan .before .before .before .before .before .before .before .before .args in
+    let a = start-of at-plan .args in
     let s = a .bytes .now in
     let k = relaxedPlan (taskOf s) in
     let n = length (a .plan .now) in

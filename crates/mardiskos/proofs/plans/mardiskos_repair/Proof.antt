@@ -9,6 +9,9 @@ use borrow.Author.Needs.{needs}
 use Rattle.mardiskos.proofs.plans.mardiskos_repair.Statement.{statement}
 use Rattle.mardiskos.proofs.plans.mardiskos_repair.Tie as tie
 
+abbrev start-of : tie.After-repair → tie.Start
+start-of c = c .before .before .before .before .before .before .before .before .before
+
 repair-requires : tie.Need-repair-requires
 repair-requires c κs = search needs
 
@@ -27,7 +30,7 @@ same-length-3 c = search needs
 returns : tie.Need-returns
 returns c =
     let f = c .before .before .before .before .before .before .before in
-    let a = f .before .before .before .before .before .before .before .before .before .args in
+    let a = start-of f .args in
     let s = a .bytes .now in
     let k = a .list .now in
     let n = length (a .plan .now) in
