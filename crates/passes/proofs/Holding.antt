@@ -1,4 +1,4 @@
--- Facts that are held or whose variable is not in a set; and when rows of leads stay.
+-- Facts that are held or whose variable is not in a set; and when leads stay.
 use mathlib.Core.Path.{_≡_, refl, _∙_, subst}
 use mathlib.Core.Logic.{_⊎_, inl, inr}
 use mathlib.Core.Bool.{Bool, true, false, not, _&&_, _||_}
@@ -7,14 +7,14 @@ use Prim.Native.Nat.{ℕ, _+_, _/_, _%_, _<_, _≤_}
 use native.Mathlib.Omega.{arith}
 use lib.Dec.{T}
 use lib.ListN.{length, getD}
-use Rattle.planning.specs.Record.{Fact, Action, Task}
+use Rattle.planning.specs.Record.{Fact, Task}
 use Rattle.planning.specs.Runs.{State, Mode, has, relaxed, step, actions, act}
 use Rattle.planning.specs.Repair.{blackMet}
-use Rattle.planning.proofs.Facts.{_⊆_, has-nil, has-cases}
+use Rattle.planning.proofs.Facts.{has-nil, has-cases}
 use Rattle.planning.proofs.Steps.{step-keep, step-cases}
-use Rattle.planning.proofs.Tests.{true→T, or-cases, and-l, and-r}
+use Rattle.planning.proofs.Tests.{true→T, and-l, and-r}
 use Rattle.task.specs.Task.{factOf, factsIn}
-use Rattle.state.specs.Sets.{inSet, modeOf}
+use Rattle.state.specs.Sets.{modeOf}
 use Rattle.state.proofs.Effects.{factsIn-cons, factsIn-none}
 use Rattle.paths.specs.Paths.{Memo, Covers}
 use Rattle.paths.proofs.Needing.{memo-same}
@@ -72,7 +72,7 @@ met-holds m s (f ∷ fs) h v d x y = go (has-cases f fs v d x) (met-holds m s fs
     go (inl e) k = rw (e .0, e .1) (here (subst (λ (z : ℕ). T (m z)) (e .0) y))
     go (inr z) k = k z y
 
--- the rows stay
+-- the leads stay
 pub refresh-kept : (t : Task) (K : State) (memo : List ℕ) (i m : ℕ) → Covers t (actions t) m → Memo t K memo → blackMet (modeOf m) K (act t i .eff) ≡ true → Memo t (step relaxed (act t i) K) memo
 unfolding modeOf
 refresh-kept t K memo i m C M e = memo-same t m C K (step relaxed (act t i) K) (λ v d h. step-keep relaxed (act t i) K v d h (λ z. absurd z))

@@ -1,7 +1,7 @@
--- Lists written into a list, one behind the other; the value that is asked; the memo with no row.
+-- Lists written into a list, one behind the other; the value that is asked; the memo with no lead.
 use mathlib.Core.Path.{_≡_, refl, sym, ap, _∙_, subst}
 use mathlib.Core.Bool.{Bool, true, false, _||_}
-use mathlib.Core.List.{List, [], _∷_, _++_, append-assoc, append-nil}
+use mathlib.Core.List.{List, [], _∷_, append-assoc, append-nil}
 use mathlib.Core.Option.{Option, none, some}
 use Prim.Native.Nat.{ℕ, _+_, _<_, _≤_}
 use native.Mathlib.Numerals.{add-one}
@@ -159,4 +159,4 @@ forgetting-turn n memo k f h = record { long = length-set memo k 0 ∙ f .long; 
     go x b (no e) = getD-set-other memo k x 0 0 e ∙ f .done x (omega arith)
 
 pub blank-memo : (t : Task) (K : State) (memo : List ℕ) → length memo ≡ memoFor t → Blank memo → Memo t K memo
-blank-memo t K memo e B = record { long = e; rows = λ v d _ _ q. absurd (omega (arith, q, B (slot v d) (slot-below v d))) }
+blank-memo t K memo e B = record { long = e; leads = λ v d _ _ q. absurd (omega (arith, q, B (slot v d) (slot-below v d))) }

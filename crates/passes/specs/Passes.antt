@@ -3,7 +3,7 @@ use mathlib.Core.Path.{_≡_}
 use mathlib.Core.Bool.{Bool, true, false}
 use mathlib.Core.List.{List, [], _∷_, _++_}
 use mathlib.Core.Option.{Option, none, some}
-use Prim.Native.Nat.{ℕ, _+_, _/_, _%_, _<_}
+use Prim.Native.Nat.{ℕ, _/_, _%_, _<_}
 use lib.Dec.{ltb}
 use lib.ListN.{length, getD}
 use Rattle.planning.specs.Record.{Fact, Task}
@@ -53,9 +53,9 @@ Fitting t fs = (v d : ℕ) → look fs v ≡ some d → d < count t v
 abbrev pub Entries : Task → List ℕ → Type 0
 Entries t l = (k : ℕ) → k < length l → getD l k 0 < actions t
 
--- no row stands in the memo
+-- no slot of the memo is marked
 abbrev pub Blank : List ℕ → Type 0
-Blank memo = (d : ℕ) → d < 64 → getD memo d 0 ≡ 0
+Blank memo = (k : ℕ) → k < 64 → getD memo k 0 ≡ 0
 
 -- what was written, without the searches; with them; where it fits, they are n
 abbrev pub writtenIn : Inserted → Written

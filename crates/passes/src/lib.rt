@@ -20,7 +20,7 @@ pub enum Inserted {
     Long,
 }
 
-// The memo with no row in it.
+// The memo with no slot marked.
 pub fn forget(memo: &mut [u16])
     requires { ⌜ 64 ≤ length (now memo) ⌝ }
     ensures { λ _. ⌜ Blank (now (memo .exit)) ⌝ }
@@ -60,7 +60,7 @@ fn adds_none(task: &[u16], ever: &[u64; 64], i: usize, set: u64) -> bool
     true
 }
 
-// Before action i is applied to the facts held ever: the rows of leads are forgotten if a move may become usable by it.
+// Before action i is applied to the facts held ever: the leads are forgotten if a move may become usable by it.
 pub fn refresh(task: &[u16], ever: &[u64; 64], memo: &mut [u16], i: usize, needs: u64)
     requires { ⌜ Loaded (now task) × (i < actions (taskIn (now task))) × Covers (taskIn (now task)) (actions (taskIn (now task))) needs ⌝ }
     requires { ⌜ Memo (taskIn (now task)) (setsOf (now ever)) (now memo) ⌝ }

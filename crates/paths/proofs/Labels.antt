@@ -57,7 +57,7 @@ module _ (t : Task) (F : Formed t) (K : State) (v d : ℕ) (db : d < count t v) 
   unfolding through
   through-below x i xb b l = omega (arith, S .small x xb l, F .cost-below i, F .actions-max, small x xb)
 
-  -- no path from c weighs less than its key or, if it is open, than the key of a settled value
+  -- no path from c weighs less than its key or, if it is open, than the key of any settled value
   abbrev Above : ℕ → ℕ → Type 0
   Above c w = (Done rest c → (getD labels c 0 < unreached) × (key c ≤ w)) × (T (inSet rest c) → (s : ℕ) → s < n → Done rest s → key s ≤ w)
 

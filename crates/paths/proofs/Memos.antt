@@ -39,7 +39,7 @@ module _ (t : Task) where
       none : (v : ℕ) × (v < variables t) × T (many v) → ⊥
       none w = omega (arith, h (w .0) (w .1), ltb-true 15 (count t (w .0)) (T→true (many (w .0)) (w .2)))
 
--- a memo has room for its marks and for the rows of each variable
+-- a memo has room for its marks and for the leads of each variable
 module _ (t : Task) where
   pub memo-marks : 1024 ≤ memoFor t
   unfolding memoFor
@@ -49,9 +49,9 @@ module _ (t : Task) where
       go true = omega arith
       go false = omega arith
 
-  pub memo-rows : (v : ℕ) → v < variables t → count t v ≤ 64 → 64 * (count t v + 1) ≤ memoFor t
+  memo-values : (v : ℕ) → v < variables t → count t v ≤ 64 → 64 * (count t v + 1) ≤ memoFor t
   unfolding memoFor
-  memo-rows v h few = go (fewValues t) refl
+  memo-values v h few = go (fewValues t) refl
     where
       small : Dec (15 < count t v) → fewValues t ≡ true → 64 * (count t v + 1) ≤ 1024
       small (no q) e = omega arith
@@ -62,7 +62,7 @@ module _ (t : Task) where
       go false e = omega arith
 
   pub memo-lead : (v c k : ℕ) → T (black t v) → c < count t v → count t v ≤ 64 → k < 64 → 64 * (c + 1) + k < memoFor t
-  memo-lead v c k bl b few kb = omega (arith, memo-rows v (black-inside t v bl) few)
+  memo-lead v c k bl b few kb = omega (arith, memo-values v (black-inside t v bl) few)
 
 pub slot-below : (v d : ℕ) → slot v d < 64
 unfolding slot
@@ -91,8 +91,8 @@ module _ (labels : List ℕ) (rest k : ℕ) (kb : k < 64) (memo₀ memo : List �
       go y l (no q) = getD-set-other memo (64 * (x + 1) + k) (64 * (y + 1) + k) w 0 (λ z. q (omega (arith, z))) ∙ R .filled y (omega arith)
 
 -- the same leads in another place
-leads-same : (t : Task) (K : State) (v d : ℕ) (lead lead′ : ℕ → ℕ) → count t v ≤ 64 → ((c : ℕ) → lead′ c ≡ lead c) → Leads t K v d lead → Leads t K v d lead′
-leads-same t K v d lead lead′ few same L c cb k =
+leads-same : (t : Task) (K : State) (v d : ℕ) (lead lead′ : ℕ → ℕ) → ((c : ℕ) → lead′ c ≡ lead c) → Leads t K v d lead → Leads t K v d lead′
+leads-same t K v d lead lead′ same L c cb k =
     let r = L c cb (λ q. k (same c ∙ q)) in
     (same c ∙ r .0, λ q. r .1 (sym (same (leadTo t K v d c % 64)) ∙ q))
 
@@ -136,19 +136,19 @@ module _ (t : Task) (F : Formed t) (K : State) (v d : ℕ) (db : d < count t v) 
     other-lead : (j : ℕ) → j < 64 → (j ≡ k → ⊥) → (c : ℕ) → leadIn marked j c ≡ leadIn memo₀ j c
     other-lead j b n c = lead-kept j c ∙ R .others (64 * (c + 1) + j) (λ q. n (omega (arith, q)))
 
-    rows-filled : ((u : ℕ) → count t u ≤ 64) → (u e : ℕ) → T (black t u) → e < 64 → getD marked (slot u e) 0 ≡ u + 1 → Dec (slot u e ≡ k) → Leads t K u e (leadIn marked (slot u e))
-    rows-filled small u e ub eb h (no q) =
-        leads-same t K u e (leadIn memo₀ (slot u e)) (leadIn marked (slot u e)) (small u) (other-lead (slot u e) (slot-below u e) q)
-        (M .rows u e ub eb (sym (other-mark (slot u e) (slot-below u e) q) ∙ h))
-    rows-filled small u e ub eb h (yes q) =
+    slots-filled : ((u : ℕ) → count t u ≤ 64) → (u e : ℕ) → T (black t u) → e < 64 → getD marked (slot u e) 0 ≡ u + 1 → Dec (slot u e ≡ k) → Leads t K u e (leadIn marked (slot u e))
+    slots-filled small u e ub eb h (no q) =
+        leads-same t K u e (leadIn memo₀ (slot u e)) (leadIn marked (slot u e)) (other-lead (slot u e) (slot-below u e) q)
+        (M .leads u e ub eb (sym (other-mark (slot u e) (slot-below u e) q) ∙ h))
+    slots-filled small u e ub eb h (yes q) =
         let w : u + 1 ≡ v + 1 = sym h ∙ ap (λ (j : ℕ). getD marked j 0) q ∙ own-mark in
         let eu : u ≡ v = omega (arith, w) in
         let ee : e ≡ d = slot-apart v e d eb (omega (arith, small v)) (subst (λ (x : ℕ). slot x e ≡ slot v d) eu (q ∙ ek)) in
-        rw (eu, ee, ← ek) (leads-same t K v d (leadIn memo k) (leadIn marked k) (small v) (lead-kept k) leads-filled)
+        rw (eu, ee, ← ek) (leads-same t K v d (leadIn memo k) (leadIn marked k) (lead-kept k) leads-filled)
 
     pub memo-filled : ((u : ℕ) → count t u ≤ 64) → (c : ℕ) → c < count t v → Done rest c → Memo t K (set memo k m) × Leading (set memo k m) v c d
     memo-filled small c cb o = (
-      record { long = length-set memo k m ∙ R .long ∙ M .long; rows = λ u e ub eb h. rows-filled small u e ub eb h (ℕ-discrete (slot u e) k) },
+      record { long = length-set memo k m ∙ R .long ∙ M .long; leads = λ u e ub eb h. slots-filled small u e ub eb h (ℕ-discrete (slot u e) k) },
       rw (← ek) (own-mark, λ q. known c cb o .1 (sym (lead-kept k c) ∙ q)),
     )
 
@@ -158,4 +158,4 @@ module _ (memo : List ℕ) (v c d k : ℕ) (e : k ≡ slot v d) where
   leading m l = rw (← e) (m, l)
 
   pub leading-leads : (t : Task) (K : State) → Memo t K memo → T (black t v) → d < 64 → Leading memo v c d → Leads t K v d (leadIn memo k) × (leadIn memo k c ≢ unknown c)
-  leading-leads t K M bl b L = rw e (M .rows v d bl b (L .0), L .1)
+  leading-leads t K M bl b L = rw e (M .leads v d bl b (L .0), L .1)

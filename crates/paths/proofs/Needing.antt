@@ -1,4 +1,4 @@
--- Which variables moves need, and why rows of leads stay right while nothing new of these is held: a path depends on the facts
+-- Which variables moves need, and why leads stay right while nothing new of these is held: a path depends on the facts
 -- known by the usable arcs alone, and an arc of a black variable is given by an action that sets it.
 use mathlib.Core.Path.{_≡_, refl, sym, ap, _∙_, subst, fun-ext}
 use mathlib.Core.Logic.{_⊎_, inl, inr, _≢_}
@@ -141,8 +141,8 @@ module _ (t : Task) (m : ℕ) (C : Covers t (actions t) m) (K L : State) (sub : 
   pub memo-same : (memo : List ℕ) → Memo t K memo → Memo t L memo
   memo-same memo M = record {
     long = M .long;
-    rows = λ v d bl b e c cb k.
-        let r = M .rows v d bl b e c cb k in
+    leads = λ v d bl b e c cb k.
+        let r = M .leads v d bl b e c cb k in
         let same : leadTo t K v d c ≡ leadTo t L v d c = ap (λ (p : List ℕ). leadOf (act t) v c p) (path-same (act t) (actions t) K L v (count t v) (usable-same v bl) c d) in
         (r .0 ∙ same, subst (λ (x : ℕ). leadIn memo (slot v d) (x % 64) ≢ unknown (x % 64)) same (r .1));
   }

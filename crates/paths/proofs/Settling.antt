@@ -1,7 +1,8 @@
 -- The search as a whole (Dijkstra). Settled are the values outside the set rest, and any other label is the least by an arc into a settled
 -- value. No unsettled label is below a settled one, and a label by an arc is above that of the arc's end; so where the nearest value
 -- is settled next, what it gives to settled values is no less than what they have. Each settled value leaves one less to come, which
--- bounds the keys.
+-- bounds the keys. Where the search stops at x, an arc into x gives more than the label of x, which is the highest settled one; so nothing settled can be
+-- bettered.
 use mathlib.Core.Path.{_≡_, refl, sym, _∙_, subst}
 use mathlib.Core.Logic.{_⊎_, inl, inr, _≢_}
 use mathlib.Core.Bool.{Bool, true, false, not, _&&_}
@@ -26,7 +27,6 @@ use Rattle.state.proofs.Members.{inSet-empty, inSet-single}
 use Rattle.paths.specs.Paths.{Member}
 use Rattle.paths.specs.Labels.{unreached, dearest, highest, through, Nearest, Into, Lowered, Done, Settled}
 use Rattle.paths.proofs.Sets.{inSet-either, either, inSet-all}
-use Rattle.paths.proofs.Arcs.{arc-leaves}
 
 -- the nearest of the members before c, and its label
 pub record Seeking (labels : List ℕ) (front r m c : ℕ) : Type 0 where
@@ -118,11 +118,11 @@ pub record Settling (t : Task) (K : State) (v d : ℕ) (labels : List ℕ) (rest
   pub inside : (c : ℕ) → T (inSet rest c) → c < count t v
   pub fronts : (c : ℕ) → c < 64 → T (inSet front c) → T (inSet rest c) × (getD labels c 0 < unreached)
   pub front-of : (c : ℕ) → T (inSet rest c) → getD labels c 0 < unreached → T (inSet front c)
-  pub least : (c x m : ℕ) → c < count t v → c ≢ d → x < count t v → (T (inSet rest x) → ⊥) → Into t K v x (getD labels x 0 / 65536) c m → getD labels c 0 ≤ m
+  pub least : (c x m : ℕ) → c < count t v → c ≢ d → x < count t v → Done rest x → Into t K v x (getD labels x 0 / 65536) c m → getD labels c 0 ≤ m
   pub found : (c : ℕ) → c < count t v → c ≢ d
-      → (getD labels c 0 ≡ unreached) ⊎ ((x : ℕ) × (x < count t v) × (T (inSet rest x) → ⊥) × Into t K v x (getD labels x 0 / 65536) c (getD labels c 0))
-  pub ordered : (s c : ℕ) → s < count t v → (T (inSet rest s) → ⊥) → T (inSet rest c) → getD labels s 0 ≤ getD labels c 0
-  pub settled : (s : ℕ) → s < count t v → (T (inSet rest s) → ⊥) → getD labels s 0 < unreached
+      → (getD labels c 0 ≡ unreached) ⊎ ((x : ℕ) × (x < count t v) × Done rest x × Into t K v x (getD labels x 0 / 65536) c (getD labels c 0))
+  pub ordered : (s c : ℕ) → s < count t v → Done rest s → T (inSet rest c) → getD labels s 0 ≤ getD labels c 0
+  pub settled : (s : ℕ) → s < count t v → Done rest s → getD labels s 0 < unreached
   pub bound : (c : ℕ) → c < count t v → getD labels c 0 < unreached → getD labels c 0 / 65536 + tally 64 (inSet rest) * dearest ≤ highest
 
 module _ (t : Task) (F : Formed t) (K : State) (v d : ℕ) (db : d < count t v) where
@@ -224,6 +224,7 @@ module _ (t : Task) (F : Formed t) (K : State) (v d : ℕ) (db : d < count t v) 
         reached-out : (s : ℕ) → s < n → Done rest′ s → getD labels s 0 < unreached
         reached-out s sb so = omega (arith, low s sb so, xl)
 
+        -- d is settled: x, if another, has its label by an arc, which is above that of d
         goal-out : Done rest′ d
         unfolding through
         goal-out r = elim (S .found x xn nd) [

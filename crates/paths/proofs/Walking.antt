@@ -1,4 +1,4 @@
--- The path read off a row of leads: each lead comes one move closer, so the path is the definition's. A lead whose target is the value
+-- The path read off the leads: each lead comes one move closer, so the path is the definition's. A lead whose target is the value
 -- itself is that of an empty path, as an arc leaves its value.
 use mathlib.Core.Path.{_≡_, refl, sym, ap, _∙_}
 use mathlib.Core.Logic.{_≢_}

@@ -29,7 +29,7 @@ through key cost i x = (key + 64 * cost + 1) * 65536 + (64 * i + x)
 
 -- the lead that a label of c has: unknown where c is open, c where no path was found
 unfoldable pub leadBy : Bool → ℕ → ℕ → ℕ
-leadBy rest l c = elim rest [ true ↦ unknown c | false ↦ elim (eqb l unreached) [ true ↦ c | false ↦ l % 65536 ] ]
+leadBy unsettled l c = elim unsettled [ true ↦ unknown c | false ↦ elim (eqb l unreached) [ true ↦ c | false ↦ l % 65536 ] ]
 
 -- the lesser of two numbers where the test holds
 unfoldable pub lower : Bool → ℕ → ℕ → ℕ
@@ -57,13 +57,14 @@ pub record Lowered (D : ℕ → ℕ → Type 0) (rest : ℕ) (old new : List ℕ
   pub grows : (c m : ℕ) → c < 64 → T (inSet rest c) → D c m → T (inSet grow c)
   pub grown : (c : ℕ) → c < 64 → T (inSet grow c) → T (inSet front c) ⊎ (T (inSet rest c) × ((m : ℕ) × D c m))
 
--- c is not among the values that are left
+-- c is settled: not in the set rest of open values
 abbrev pub Done : ℕ → ℕ → Type 0
 Done rest c = T (inSet rest c) → ⊥
 
--- The labels towards d of a search that may have stopped, where the values of the set rest are open, which is not settled. The label of d is that of the
--- empty path; any other settled one is the least by a usable arc into a settled value that has one. An arc from an open value into a settled
--- one gives no less than the settled ones have, and then all of these have been reached.
+-- The labels towards d of a search that may have stopped: the values of the set rest are open, the others settled, d among them. The label of d
+-- is that of the empty path; any other settled one is the least by a usable arc into a settled value that has one, or there is none; keys are
+-- bounded. An arc from an open value into a settled one gives no less than any settled label. Where a value is open every settled one has been
+-- reached.
 pub record Settled (t : Task) (K : State) (v d : ℕ) (labels : List ℕ) (rest : ℕ) : Type 0 where
   pub goal : getD labels d 0 ≡ d
   pub goal-done : Done rest d

@@ -39,7 +39,7 @@ leadOf act v c (i ∷ p) = 64 * i + target act v i
 abbrev pub leadTo : Task → State → ℕ → ℕ → ℕ → ℕ
 leadTo t K v d c = leadOf (act t) v c (pathsOf t K v c d)
 
--- what stands for the lead from c where it is not known: a move from c to c, which no path has
+-- what stands for the lead from c where it is not known: action 1 from c to c, which no path has
 abbrev pub unknown : ℕ → ℕ
 unknown c = 64 + c
 
@@ -62,10 +62,10 @@ slot v d = (39 * v + d) % 64
 abbrev pub leadIn : List ℕ → ℕ → ℕ → ℕ
 leadIn memo k c = getD memo (64 * (c + 1) + k) 0
 
--- where v + 1 is the mark of a slot, the leads in it are those of the black variable v
+-- where v + 1 is the mark of a slot, the leads in it are those of the black variable v to the value whose slot it is
 pub record Memo (t : Task) (K : State) (memo : List ℕ) : Type 0 where
   pub long : length memo ≡ memoFor t
-  pub rows : (v d : ℕ) → T (black t v) → d < 64 → getD memo (slot v d) 0 ≡ v + 1 → Leads t K v d (leadIn memo (slot v d))
+  pub leads : (v d : ℕ) → T (black t v) → d < 64 → getD memo (slot v d) 0 ≡ v + 1 → Leads t K v d (leadIn memo (slot v d))
 
 -- the lead of v from c to d is known
 abbrev pub Leading : List ℕ → ℕ → ℕ → ℕ → Type 0

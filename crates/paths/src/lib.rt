@@ -1,6 +1,6 @@
 // Best paths of one black variable along usable arcs: the cheapest, of these the shortest, of these the first by its actions. Backwards
 // from the wanted value, the nearest first (Dijkstra); each value has a label, which is the key of the best path from there, cost × 64 +
-// moves, and behind it the smallest action that such a path starts with and its target. These, the leads, are kept in rows.
+// moves, and behind it the smallest action that such a path starts with and its target. These, the leads, are kept in the slots of a memo.
 ghost use mathlib.Core.Path.{_≡_};
 ghost use mathlib.Core.Bool.{_&&_, _||_};
 ghost use Prim.Native.Nat.{ℕ, _+_, _/_, _<_, _≤_, min};
@@ -139,7 +139,7 @@ fn arrive(
     front: u64,
 ) -> u64
     requires { ⌜ Prepared (now task) × T (black (taskIn (now task)) v) × (length (now labels) ≡ 64) ⌝ }
-    requires { ⌜ (x < 64) × (getD (now labels) x 0 / 65536 ≤ highest) × (T (inSet rest x) → ⊥) ⌝ }
+    requires { ⌜ (x < 64) × (getD (now labels) x 0 / 65536 ≤ highest) × Done rest x ⌝ }
     ensures { λ r. ⌜ Lowered (Into (taskIn (now (task .entry))) (setsOf (now (ever .entry))) v x (getD (now (labels .entry)) x 0 / 65536)) rest (now (labels .entry)) (now (labels .exit)) front r ⌝ }
 {
     let key = labels[x] / 65536;
@@ -176,7 +176,7 @@ fn nearest(labels: &[u64; 64], front: u64) -> usize
 }
 
 // The labels towards d where there is none yet: of the values that have one the nearest is settled next, until c is, or each where the whole
-// is asked for. The answer is the set of those that are not settled.
+// is asked for. The answer is the set of values still open; none at the end of the search, as what has no label then has no path.
 fn settle(
     task: &[u16],
     ever: &[u64; 64],
@@ -219,7 +219,8 @@ fn lead(l: u64, c: usize, rest: u64) -> u16
     }
 }
 
-// The slot of a variable and a value. Other variables may have it; the factor keeps those apart whose numbers are close.
+// The slot of a variable and a value. Other variables may have it; 39 is odd and near 64 / 1.618, so that the slots of neighbours lie apart:
+// those at most 4 apart share none where they have at most 11 values.
 fn slot(v: usize, d: usize) -> usize
     requires { ⌜ (v < 64) × (d < 64) ⌝ }
     ensures { λ r. ⌜ r ≡ slot v d ⌝ }
@@ -227,7 +228,7 @@ fn slot(v: usize, d: usize) -> usize
     (39 * v + d) % 64
 }
 
-// The leads of v to d go to slot k: that of c is known, and where the whole is asked for, each is.
+// The leads of v to d go to slot k. That of c is known then; where the whole is asked for, the search goes to its end.
 fn towards(
     task: &[u16],
     ever: &[u64; 64],
@@ -253,8 +254,8 @@ fn towards(
     memo[k] = (v + 1) as u16;
 }
 
-// The lead of v from c to d stands in slot k of the memo: it is searched for if it does not yet, and where the slot has others to d, with all of
-// them.
+// The lead of v from c to d stands in slot k of the memo: it is searched for if it does not yet, to the end of the search where the slot has
+// leads to d already.
 fn prepare(task: &[u16], ever: &[u64; 64], memo: &mut [u16], v: usize, c: usize, d: usize, k: usize)
     requires { ⌜ Prepared (now task) × T (black (taskIn (now task)) v) × (c < count (taskIn (now task)) v) × (d < count (taskIn (now task)) v) ⌝ }
     requires { ⌜ (k ≡ slot v d) × Memo (taskIn (now task)) (setsOf (now ever)) (now memo) ⌝ }

@@ -60,7 +60,7 @@ module _ (t : Task) (F : Formed t) (g : Goals) (G : GoalsOf t g) (few : g .count
   pub goals-searches : (K s : State) (r : Inserted) → Searched (movedSearches t K s (factsOf front)) r → Searched (movedSearches t K s (goals t)) r
   goals-searches K s r p = subst (λ (w : List Fact). Searched (movedSearches t K s w) r) goals-are p
 
--- an array of zeros is a memo without a row, whatever is held
+-- an array of zeros is a memo without a lead, whatever is held
 module _ (t : Task) (K : State) where
   zeros : (n : ℕ) → n ≡ memoFor t → Memo t K (replicate n 0)
   zeros n e = blank-memo t K (replicate n 0) (length-replicate {A = ℕ} n 0 ∙ e) (λ d h. getD-replicate n d 0 0 (omega (arith, memo-marks t)))

@@ -19,7 +19,7 @@ pub record Repairable (task list : List ℕ) : Type 0 where
   pub entries : Entries (taskIn task) list
   pub is-plan : isPlan (taskIn task) relaxed list ≡ true
 
--- a memo that is right whatever is held, as no row is in it
+-- a memo that is right whatever is held, as no lead is in it
 abbrev pub EmptyMemo : Task → List ℕ → Type 0
 EmptyMemo t memo = (K : State) → Memo t K memo
 

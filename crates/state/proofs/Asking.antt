@@ -7,7 +7,7 @@ use Prim.Native.Nat.{ℕ, _<_}
 use native.Mathlib.Omega.{arith}
 use native.Mathlib.Decide.{ℕ-discrete}
 use borrow.Author.Tests.{eq-eqb, ne-eqb}
-use lib.Dec.{T, eqb}
+use lib.Dec.{eqb}
 use Rattle.planning.specs.Record.{Fact, Action}
 use Rattle.planning.specs.Runs.{has, look, act}
 use Rattle.planning.proofs.Tests.{T→true, F→false}

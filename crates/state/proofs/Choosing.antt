@@ -1,6 +1,6 @@
 -- Values chosen anew one after the other: with one fact set, and new ones over old ones. Where 64 is none, the effects of an action over the
 -- old values are the values after it.
-use mathlib.Core.Path.{_≡_, refl, sym, ap, _∙_, fun-ext}
+use mathlib.Core.Path.{_≡_, refl, sym, _∙_, fun-ext}
 use mathlib.Core.Bool.{Bool, true, false}
 use mathlib.Core.List.{List}
 use mathlib.Core.Option.{Option, none, some}

@@ -19,7 +19,7 @@ use Rattle.planning.proofs.Fields.{variable-past}
 use Rattle.planning.proofs.Formed.{Formed}
 use Rattle.task.specs.Task.{factOf, factsIn}
 use Rattle.state.specs.Sets.{inSet, setsOf, modeOf}
-use Rattle.state.proofs.Members.{one-shl, inSet-single, inSet-empty, inSet-or}
+use Rattle.state.proofs.Members.{inSet-single, inSet-empty, inSet-or}
 
 -- a loop over the n variables, at v
 pub record Over (t : Task) (n v : ℕ) : Type 0 where

@@ -8,7 +8,7 @@ use Prim.Native.Nat.{ℕ, _<_}
 use native.Mathlib.Omega.{arith}
 use native.Mathlib.Decide.{ℕ-discrete, decLt}
 use borrow.Author.Tests.{eq-eqb, ne-eqb, lt-ltb}
-use lib.Dec.{T, eqb, ltb}
+use lib.Dec.{eqb, ltb}
 use Rattle.planning.specs.Record.{Action, Task}
 use Rattle.planning.specs.Runs.{State, Mode, has, look, touches, holds, step, variables, variable, black, relaxed, initial}
 use Rattle.planning.specs.Newest.{Values, newer, initialValues, alone}

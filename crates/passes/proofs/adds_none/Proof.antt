@@ -1,7 +1,7 @@
 -- Effects before k are held or outside the set, so that the test of all of them is that of the effects from k on.
 use borrow.Author.Needs.{needs}
 use mathlib.Core.List.{List}
-use mathlib.Core.Path.{_≡_, refl, sym, ap, _∙_}
+use mathlib.Core.Path.{_≡_, sym, ap, _∙_}
 use Prim.Native.Nat.{_-_, _≤_}
 use native.Mathlib.Omega.{arith}
 use Rattle.planning.specs.Record.{Fact}

@@ -73,7 +73,11 @@ returns : tie.Need-returns
 returns c =
     let t = c .before .before .before in
     let s = start-of (t .before) in
-    (s .pre .1 .1, leading (s .args .memo .now) (s .args .v) (s .args .c) (s .args .d) (s .args .k) (s .pre .1 .0) (sym (t .before .wide .ensures) ∙ eqb-true _ _ (t .if1 .taken)) (λ q. eqb-false _ _ (not-true _ (c .if2 .taken)) (c .before .wide2 .ensures ∙ q)))
+    let mark = sym (t .before .wide .ensures) ∙ eqb-true _ _ (t .if1 .taken) in (
+      s .pre .1 .1,
+      leading (s .args .memo .now) (s .args .v) (s .args .c) (s .args .d) (s .args .k) (s .pre .1 .0) mark
+          (λ q. eqb-false _ _ (not-true _ (c .if2 .taken)) (c .before .wide2 .ensures ∙ q)),
+    )
 
 towards-requires : tie.Need-towards-requires
 towards-requires c κs = let s = start-of (c .before .before) in (s .pre .0, s .pre .1)

@@ -1,9 +1,9 @@
 -- The set has the variables of the preconditions before k, and those from k on are to come.
 use borrow.Author.Needs.{needs}
 use mathlib.Core.Bool.{_||_}
-use mathlib.Core.Path.{_≡_, refl, sym, ap, _∙_}
+use mathlib.Core.Path.{_≡_, sym, ap, _∙_}
 use mathlib.Core.List.{List}
-use Prim.Native.Nat.{ℕ, _-_, _/_, _≤_, _<_}
+use Prim.Native.Nat.{ℕ, _-_, _≤_}
 use native.Mathlib.Omega.{arith}
 use Rattle.planning.specs.Record.{Fact}
 use Rattle.planning.specs.Runs.{touches, act}

@@ -4,7 +4,6 @@ use Rattle.planning.specs.Record.{Action}
 use Rattle.planning.specs.Runs.{holds}
 use Rattle.task.specs.Task.{actionIn}
 use Rattle.state.specs.Sets.{setsOf}
-use Rattle.state.proofs.Listed.{Listed}
 use Rattle.state.proofs.Listing.{loaded-listed}
 use borrow.Author.Needs.{needs}
 use Rattle.state.proofs.applies.Statement.{statement}

@@ -5,7 +5,6 @@ use Rattle.planning.specs.Runs.{holds}
 use Rattle.planning.specs.Newest.{alone}
 use Rattle.task.specs.Task.{actionIn}
 use Rattle.state.specs.Sets.{valuesOf}
-use Rattle.state.proofs.Listed.{Listed}
 use Rattle.state.proofs.Listing.{loaded-listed}
 use borrow.Author.Needs.{needs}
 use Rattle.state.proofs.applies_newest.Statement.{statement}

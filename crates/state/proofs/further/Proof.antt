@@ -1,8 +1,7 @@
 -- The step counts if it is the next one and applies; else the count stays.
 use borrow.Author.Needs.{needs}
-use mathlib.Core.Path.{_≡_, sym, _∙_}
+use mathlib.Core.Path.{sym, _∙_}
 use mathlib.Core.Logic.{⊎-elim}
-use native.Mathlib.Omega.{arith}
 use Rattle.state.proofs.Running.{further-on, further-fails, further-stopped}
 use Rattle.state.proofs.further.Statement.{statement}
 use Rattle.state.proofs.further.Tie as tie
