@@ -11,7 +11,7 @@ use Rattle.answers.specs.declared.Number.{Number}
 use Rattle.answers.specs.declared.Number.the-variants.{Value, Refused}
 use Rattle.answers.specs.Answers.{checkOf, valueOf, refusalIn, refusalOf}
 use Rattle.planning.specs.Basics.{Check, refuse, andThen, inOrder, Answer, answer, refused, done}
-use Rattle.planning.proofs.Checks.{inOrder-++}
+use Rattle.laws.proofs.Checks.{inOrder-++}
 
 -- what the answer says of the checks
 pub answer-refused : {A : Type 0} (c : Check) (a : A) (n p : ℕ) → answer c a ≡ refused n p → c ≡ refuse n p

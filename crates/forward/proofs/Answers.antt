@@ -11,8 +11,8 @@ use Rattle.planning.specs.Record.{Task, taskOf, recordCheck}
 use Rattle.planning.specs.Runs.{State, act, relaxed, run, initial, step, size, runBy}
 use Rattle.planning.specs.Relaxed.{forwardRun, forwardEnd, reachesGoals, factsReached}
 use Rattle.planning.specs.Calls.{lent, capacity, roomCheck, goalsCheck, Forward, forwardCall, forwardList}
-use Rattle.planning.proofs.Checks.{andThen-last}
-use Rattle.planning.proofs.Formed.{Formed}
+use Rattle.laws.proofs.Checks.{andThen-last}
+use Rattle.laws.proofs.Formed.{Formed}
 use Rattle.state.specs.Sets.{Within}
 use Rattle.state.proofs.Count.{size-facts, within-initial, within-step}
 use Rattle.answers.proofs.Stages.{skip, hit}

@@ -15,7 +15,7 @@ use lib.Dec.{T, not-T, eqb, eqb→eq, eqb-refl, eqb·suc-suc, eqb·suc-zero, eqb
 use lib.ListN.{getD, set, length-set, List·getD-eq-default}
 use lib.Pow.{shr-shr}
 use lib.Seq.{getD-set-same, getD-set-other, set-getD}
-use Rattle.planning.proofs.Tests.{T→true, or-l}
+use Rattle.laws.proofs.Tests.{T→true, or-l}
 use Rattle.state.specs.Sets.{inSet, setsOf}
 use Rattle.state.proofs.Members.{inSet-or, inSet-single, inSet-empty}
 use Rattle.forward.specs.Waiting.{member, Ready, LowestIn, Lowest, With, Without}

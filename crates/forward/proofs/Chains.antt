@@ -16,10 +16,10 @@ use lib.Seq.{getD-set-same, getD-set-other}
 use Rattle.planning.specs.Basics.{tally}
 use Rattle.planning.specs.Runs.{State, has, holds, actions, act}
 use Rattle.planning.specs.Relaxed.{adds, choice}
-use Rattle.planning.proofs.Tests.{and-l, and-r, and-i, or-l, or-r, or-cases}
-use Rattle.planning.proofs.Below.{tally-le, tally-cases}
-use Rattle.planning.proofs.Choice.{choice-some, choice-none}
-use Rattle.planning.proofs.Facts.{_⊆_, holds→sub, sub→holds}
+use Rattle.laws.proofs.Tests.{and-l, and-r, and-i, or-l, or-r, or-cases}
+use Rattle.laws.proofs.Below.{tally-le, tally-cases}
+use Rattle.laws.proofs.Choice.{choice-some, choice-none}
+use Rattle.laws.proofs.Facts.{_⊆_, holds→sub, sub→holds}
 use Rattle.task.specs.Task.{preAt, effAt, taskIn}
 use Rattle.state.specs.Sets.{setsOf}
 use Rattle.state.proofs.Members.{inSet-empty}

@@ -14,10 +14,10 @@ use Rattle.planning.specs.Basics.{tally}
 use Rattle.planning.specs.Record.{Action, Task}
 use Rattle.planning.specs.Runs.{State, has, holds, step, relaxed, actions, act, initial, goals}
 use Rattle.planning.specs.Relaxed.{choice}
-use Rattle.planning.proofs.Tests.{and-l, and-r}
-use Rattle.planning.proofs.Below.{tally-le}
-use Rattle.planning.proofs.Facts.{_⊆_, holds→sub, sub→holds}
-use Rattle.planning.proofs.Steps.{step-eff, step-keep, step-cases}
+use Rattle.laws.proofs.Tests.{and-l, and-r}
+use Rattle.laws.proofs.Below.{tally-le}
+use Rattle.laws.proofs.Facts.{_⊆_, holds→sub, sub→holds}
+use Rattle.laws.proofs.Steps.{step-eff, step-keep, step-cases}
 use Rattle.task.specs.Task.{factsIn, effAt, endAt, actionIn, taskIn, Loaded}
 use Rattle.state.specs.declared.Goals.{Goals}
 use Rattle.state.specs.Sets.{setsOf, GoalsOf, Facts}

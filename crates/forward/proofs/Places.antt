@@ -10,10 +10,10 @@ use native.Mathlib.Decide.{ℕ-discrete, decLt}
 use lib.Dec.{T, eqb, eqb→eq, eqb-refl}
 use lib.ListN.{length, getD}
 use Rattle.planning.specs.Runs.{State, has, holds, variables, count, act}
-use Rattle.planning.proofs.Tests.{and-l, and-r, and-i, or-l, or-r, or-cases}
-use Rattle.planning.proofs.Facts.{holds→sub, sub→holds}
+use Rattle.laws.proofs.Tests.{and-l, and-r, and-i, or-l, or-r, or-cases}
+use Rattle.laws.proofs.Facts.{holds→sub, sub→holds}
 use Rattle.planning.specs.Record.{Action}
-use Rattle.planning.proofs.Formed.{Sorted, sorted-has}
+use Rattle.laws.proofs.Formed.{Sorted, sorted-has}
 use Rattle.task.specs.Task.{factOf, factsIn, preAt, effAt, endAt, actionIn, taskIn, Loaded}
 use Rattle.state.proofs.Listed.{Listed}
 use Rattle.state.proofs.Listing.{between-inside}

@@ -14,11 +14,11 @@ use Rattle.planning.specs.Basics.{total, tally}
 use Rattle.planning.specs.Record.{Task}
 use Rattle.planning.specs.Runs.{State, has, holds, step, relaxed, run, variables, actions, act, count, variable, initial, goals, size, runBy}
 use Rattle.planning.specs.Relaxed.{choice, forward, addable, forwardRun, forwardEnd, reachesGoals}
-use Rattle.planning.proofs.Tests.{T→true, F→false}
-use Rattle.planning.proofs.Below.{total-le, total-pred, total-one, tally-pos}
-use Rattle.planning.proofs.Steps.{All, run-append}
-use Rattle.planning.proofs.Formed.{Formed, sorted-has, initial-holds}
-use Rattle.planning.proofs.Forward.{Once, forward-take, forward-goal, forward-none, forwardRun-ran, forwardRun-once}
+use Rattle.laws.proofs.Tests.{T→true, F→false}
+use Rattle.laws.proofs.Below.{total-le, total-pred, total-one, tally-pos}
+use Rattle.laws.proofs.Steps.{All, run-append}
+use Rattle.laws.proofs.Formed.{Formed, sorted-has, initial-holds}
+use Rattle.laws.proofs.Forward.{Once, forward-take, forward-goal, forward-none, forwardRun-ran, forwardRun-once}
 use Rattle.task.specs.Task.{factsIn}
 use Rattle.forward.specs.Waiting.{reaches, Each, Passing}
 use Rattle.state.specs.Sets.{setsOf}

@@ -18,9 +18,9 @@ use Rattle.planning.specs.Record.{Task}
 use Rattle.planning.specs.Runs.{variables, black}
 use Rattle.planning.specs.Painting.{blackArc}
 use Rattle.planning.specs.Repair.{ready, clientsFirst, order}
-use Rattle.planning.proofs.Tests.{T→true, true→T, F→false, bool-same, and-l, and-r, and-i}
-use Rattle.planning.proofs.Below.{First?, first-is, some-intro, some-elim}
-use Rattle.planning.proofs.Painting.{black-inside}
+use Rattle.laws.proofs.Tests.{T→true, true→T, F→false, bool-same, and-l, and-r, and-i}
+use Rattle.laws.proofs.Below.{First?, first-is, some-intro, some-elim}
+use Rattle.laws.proofs.Painting.{black-inside}
 use Rattle.state.specs.Sets.{inSet, setsOf, modeOf}
 use Rattle.state.proofs.Members.{inSet-empty, inSet-single, inSet-and, inSet-xor, xor}
 use Rattle.task.specs.Task.{cell, taskIn}

@@ -16,9 +16,9 @@ use Rattle.planning.specs.Basics.{someBelow}
 use Rattle.planning.specs.Record.{Fact, Action, Task}
 use Rattle.planning.specs.Runs.{has, touches, actions, act, black}
 use Rattle.planning.specs.Painting.{without, reducedEffects, causalArc, blackArc}
-use Rattle.planning.proofs.Tests.{T→true, bool-same, or-l, or-r, or-cases, and-l, and-r, and-i, T-cases}
-use Rattle.planning.proofs.Facts.{has→touches, touches→has}
-use Rattle.planning.proofs.Arcs.{reduced-elim, unchanged}
+use Rattle.laws.proofs.Tests.{T→true, bool-same, or-l, or-r, or-cases, and-l, and-r, and-i, T-cases}
+use Rattle.laws.proofs.Facts.{has→touches, touches→has}
+use Rattle.laws.proofs.Arcs.{reduced-elim, unchanged}
 use Rattle.task.specs.Task.{factOf, factsIn, preAt, effAt, endAt, actionIn, taskIn}
 use Rattle.state.specs.Sets.{inSet, setsOf, modeOf, Facts}
 use Rattle.state.proofs.Members.{inSet-single, inSet-empty, inSet-or}

@@ -7,8 +7,8 @@ use native.Mathlib.Omega.{arith}
 use native.Mathlib.Decide.{ℕ-discrete}
 use lib.Dec.{T}
 use Rattle.planning.specs.Basics.{someBelow, first}
-use Rattle.planning.proofs.Tests.{T→true, true→T, F→false}
-use Rattle.planning.proofs.Below.{First?, first-is, first-some-is, first-none-is, some-intro, some-elim}
+use Rattle.laws.proofs.Tests.{T→true, true→T, F→false}
+use Rattle.laws.proofs.Below.{First?, first-is, first-some-is, first-none-is, some-intro, some-elim}
 
 pub false-not : (b : Bool) → b ≡ false → T b → ⊥
 false-not b e t = rw e at t

@@ -17,10 +17,10 @@ use Rattle.planning.specs.Basics.{someBelow, first, reach}
 use Rattle.planning.specs.Record.{Task}
 use Rattle.planning.specs.Runs.{variables}
 use Rattle.planning.specs.Painting.{blackArc, onCycle, cyclic}
-use Rattle.planning.proofs.Tests.{T→true, true→T, F→false, bool-same, or-l, or-r, or-cases, and-l, and-r, and-i}
-use Rattle.planning.proofs.Below.{below-cases, some-intro, some-elim}
-use Rattle.planning.proofs.Graph.{reach-here, reach-move, reach-cases, reach-zero, reach-bound}
-use Rattle.planning.proofs.Painting.{black-inside}
+use Rattle.laws.proofs.Tests.{T→true, true→T, F→false, bool-same, or-l, or-r, or-cases, and-l, and-r, and-i}
+use Rattle.laws.proofs.Below.{below-cases, some-intro, some-elim}
+use Rattle.laws.proofs.Graph.{reach-here, reach-move, reach-cases, reach-zero, reach-bound}
+use Rattle.laws.proofs.Painting.{black-inside}
 use Rattle.state.specs.Sets.{inSet, setsOf, modeOf}
 use Rattle.state.proofs.Members.{inSet-or}
 use Rattle.graph.specs.Graph.{Rows, through, via, StartBelow}

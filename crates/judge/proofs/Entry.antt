@@ -9,7 +9,7 @@ use Rattle.planning.specs.Basics.{refuse, andThen, inOrder, answer, refused, do
 use Rattle.planning.specs.Record.{Task, taskOf, recordCheck}
 use Rattle.planning.specs.Runs.{Judgement, judgement}
 use Rattle.planning.specs.Calls.{lengthCheck, entriesCheck, judgeCall}
-use Rattle.planning.proofs.Checks.{check-none, inOrder-passed, inOrder-pass}
+use Rattle.laws.proofs.Checks.{check-none, inOrder-passed, inOrder-pass}
 use Rattle.judge.specs.Answers.{Entries, listCheck, judgedList}
 use Rattle.judge.proofs.Lists.{entries-below}
 

@@ -14,7 +14,7 @@ use Rattle.planning.specs.Basics.{Check, done, refused, answer, inOrder, andThe
 use Rattle.planning.specs.Runs.{allBelow, actions}
 use Rattle.planning.specs.Record.{Task}
 use Rattle.planning.specs.Calls.{notBelow, lengthCheck, entriesCheck}
-use Rattle.planning.proofs.Checks.{refuseAt-none, andThen-last}
+use Rattle.laws.proofs.Checks.{refuseAt-none, andThen-last}
 use Rattle.judge.specs.Answers.{leading}
 
 notBelow-cons : (n k i : ℕ) (l : List ℕ) → i < n → notBelow n k (i ∷ l) ≡ notBelow n (suc k) l

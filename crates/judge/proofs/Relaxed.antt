@@ -15,7 +15,7 @@ use Rattle.planning.specs.Basics.{done, refused, answer, inOrder, refuseAt}
 use Rattle.planning.specs.Record.{Task}
 use Rattle.planning.specs.Runs.{State, holds, step, act, actions, initial, goals, relaxed, run, runs, stepsRun, isPlan, Judged, judged, runBy, runsBy, stepsBy}
 use Rattle.planning.specs.Calls.{lengthCheck, entriesCheck, relaxedFault, relaxedCheck}
-use Rattle.planning.proofs.Calls.{relaxedCheck-of}
+use Rattle.laws.proofs.Calls.{relaxedCheck-of}
 use Rattle.judge.specs.Answers.{leading}
 use Rattle.judge.specs.Traces.{Relaxes}
 use Rattle.judge.proofs.Lists.{leading-cons, leading-none, leading-below, entries-below, allBelow-of, short-checked}

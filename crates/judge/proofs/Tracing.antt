@@ -13,12 +13,12 @@ use lib.Seq.{drop-cons, take-suc, length-take-le, take-all}
 use Rattle.planning.specs.Record.{Task}
 use Rattle.planning.specs.Runs.{State, Mode, holds, step, variables, actions, act, count, relaxed, real, black, initial, goals, run, stepsRun, judged, runBy, stepsBy}
 use Rattle.planning.specs.Newest.{Values, initialValues, newer, tracked, alone, redBlackSteps, stopsIn}
-use Rattle.planning.proofs.Tests.{T→true, true→T}
-use Rattle.planning.proofs.Facts.{holds→sub, sub→holds}
-use Rattle.planning.proofs.Formed.{Formed, sorted-has, eff-func, goals-sorted}
-use Rattle.planning.proofs.Steps.{run-mono}
-use Rattle.planning.proofs.Prefixes.{runBy-behind, stepsBy-on, stepsBy-fails, stepsBy-stopped, stepsBy-le}
-use Rattle.planning.proofs.Newest.{newestAfter, track-sets, track-newest, real-applies, real-holds}
+use Rattle.laws.proofs.Tests.{T→true, true→T}
+use Rattle.laws.proofs.Facts.{holds→sub, sub→holds}
+use Rattle.laws.proofs.Formed.{Formed, sorted-has, eff-func, goals-sorted}
+use Rattle.laws.proofs.Steps.{run-mono}
+use Rattle.laws.proofs.Prefixes.{runBy-behind, stepsBy-on, stepsBy-fails, stepsBy-stopped, stepsBy-le}
+use Rattle.laws.proofs.Newest.{newestAfter, track-sets, track-newest, real-applies, real-holds}
 use Rattle.state.specs.Sets.{further, redBlackOf}
 use Rattle.state.proofs.Running.{further-fails, further-stopped, further-steps}
 use Rattle.state.proofs.RedBlack.{redBlack-step, redBlack-initial, step-held}

@@ -12,8 +12,8 @@ use Rattle.planning.specs.Record.{Task, taskOf, recordCheck}
 use Rattle.planning.specs.Runs.{real, variables, act, initial, stepsRun}
 use Rattle.planning.specs.Newest.{Progress as Result, progress, tabulate, newestValues, redBlackSteps, stopsIn}
 use Rattle.planning.specs.Calls.{lengthCheck, entriesCheck, roomCheck, lent, newestCall, newestList}
-use Rattle.planning.proofs.Checks.{inOrder-pass, inOrder-++}
-use Rattle.planning.proofs.Newest.{tabulate-length}
+use Rattle.laws.proofs.Checks.{inOrder-pass, inOrder-++}
+use Rattle.laws.proofs.Newest.{tabulate-length}
 use Rattle.answers.specs.declared.Refusal.{Refusal}
 use Rattle.answers.proofs.Stages.{stage-passes}
 use Rattle.lists.proofs.Laying.{room-fits, room-short}

@@ -11,10 +11,10 @@ use Rattle.planning.specs.Basics.{Refusal, Check, someBelow, first, refuseAt, a
 use Rattle.planning.specs.Record.{Fact, Task}
 use Rattle.planning.specs.Runs.{State, has, look, variables, actions, act, black, count}
 use Rattle.planning.specs.Painting.{reducedEffects, blackArc, onCycle, cyclic, lacksReturn, unreturned, acyclicCheck, returnCheck}
-use Rattle.planning.proofs.Below.{First?, first-is}
-use Rattle.planning.proofs.Checks.{refuseAt-none}
-use Rattle.planning.proofs.Arcs.{reduced-elim}
-use Rattle.planning.proofs.Formed.{Formed}
+use Rattle.laws.proofs.Below.{First?, first-is}
+use Rattle.laws.proofs.Checks.{refuseAt-none}
+use Rattle.laws.proofs.Arcs.{reduced-elim}
+use Rattle.laws.proofs.Formed.{Formed}
 use Rattle.task.specs.Task.{taskIn}
 use Rattle.planning.specs.Repair.{order}
 use Rattle.task.specs.Links.{Chained, Relinked}

@@ -13,10 +13,10 @@ use lib.ListN.{length}
 use Rattle.planning.specs.Record.{Fact, Task}
 use Rattle.planning.specs.Runs.{Mode, has, variables, actions, act, black, count}
 use Rattle.planning.specs.Painting.{reducedEffects}
-use Rattle.planning.proofs.Facts.{has-here, has-there, has-cases, has→touches}
-use Rattle.planning.proofs.Arcs.{reduced-elim, reduced-func}
-use Rattle.planning.proofs.Formed.{Formed, sorted-has, eff-func}
-use Rattle.planning.proofs.Painting.{black-inside, one-black}
+use Rattle.laws.proofs.Facts.{has-here, has-there, has-cases, has→touches}
+use Rattle.laws.proofs.Arcs.{reduced-elim, reduced-func}
+use Rattle.laws.proofs.Formed.{Formed, sorted-has, eff-func}
+use Rattle.laws.proofs.Painting.{black-inside, one-black}
 use Rattle.task.specs.Task.{linksEnd, headsAt, taskIn, Heads, Loaded}
 use Rattle.task.specs.Links.{headAt, nextAt, linked, Next, Changes, Chained, Link, Relinked, Unlinked}
 use Rattle.task.proofs.Relinking.{heads-fewer, heads-kept, relinked-task, relinked-loaded, relinked-none, relinked-link, relinked-trans, head-new, head-old, next-new, next-old}

@@ -9,7 +9,7 @@ use lib.ListN.{getD, set, replicate, length-set, length-replicate, getD-replicat
 use lib.Seq.{getD-set-same, getD-set-other}
 use Rattle.planning.specs.Record.{Task}
 use Rattle.planning.specs.Runs.{actions, act, count}
-use Rattle.planning.proofs.Formed.{Formed}
+use Rattle.laws.proofs.Formed.{Formed}
 use Rattle.task.specs.Task.{factsIn, preAt, effAt, taskIn, Loaded}
 use Rattle.state.proofs.Listing.{loaded-listed}
 use Rattle.painting.proofs.Walks.{pre-facts}

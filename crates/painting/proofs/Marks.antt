@@ -13,8 +13,8 @@ use lib.ListN.{length, getD, set, replicate, length-set, length-replicate, getD-
 use lib.Seq.{getD-set-same, getD-set-other}
 use Rattle.planning.specs.Record.{Fact, Task}
 use Rattle.planning.specs.Runs.{State, has, variables, actions}
-use Rattle.planning.proofs.Tests.{or-l, or-r, or-cases}
-use Rattle.planning.proofs.Facts.{has-here, has-there, has-nil, has-cases}
+use Rattle.laws.proofs.Tests.{or-l, or-r, or-cases}
+use Rattle.laws.proofs.Facts.{has-here, has-there, has-nil, has-cases}
 use Rattle.task.specs.Task.{preAt, endAt, factOf, factsIn, taskIn, Loaded}
 use Rattle.state.proofs.Effects.{factsIn-cons, factsIn-none}
 use Rattle.state.specs.Sets.{Facts}

@@ -14,12 +14,12 @@ use Rattle.planning.specs.Basics.{someBelow}
 use Rattle.planning.specs.Record.{Fact, Task}
 use Rattle.planning.specs.Runs.{State, has, look, holds, variables, actions, act, black, count}
 use Rattle.planning.specs.Painting.{reducedEffects, arcFrom, target, orZero, outside, returnBy, lacksReturn, cyclic}
-use Rattle.planning.proofs.Tests.{T→true, true→T, F→false, bool-same, T-cases, and-l, and-r, and-i}
-use Rattle.planning.proofs.Below.{some-intro, some-elim}
-use Rattle.planning.proofs.Facts.{has-cases, has-here, has-there, has-nil, has-++, holds→sub, sub→holds, has→touches, look-some, look-none, look-is}
-use Rattle.planning.proofs.Arcs.{Arc, reduced-intro, reduced-elim, reduced-func, arc-reduced, arcFrom-elim, arcFrom-intro}
-use Rattle.planning.proofs.Formed.{Formed, Sorted, sorted-has, pre-func, eff-func}
-use Rattle.planning.proofs.Painting.{black-inside, has-outside, outside-has, one-black}
+use Rattle.laws.proofs.Tests.{T→true, true→T, F→false, bool-same, T-cases, and-l, and-r, and-i}
+use Rattle.laws.proofs.Below.{some-intro, some-elim}
+use Rattle.laws.proofs.Facts.{has-cases, has-here, has-there, has-nil, has-++, holds→sub, sub→holds, has→touches, look-some, look-none, look-is}
+use Rattle.laws.proofs.Arcs.{Arc, reduced-intro, reduced-elim, reduced-func, arc-reduced, arcFrom-elim, arcFrom-intro}
+use Rattle.laws.proofs.Formed.{Formed, Sorted, sorted-has, pre-func, eff-func}
+use Rattle.laws.proofs.Painting.{black-inside, has-outside, outside-has, one-black}
 use Rattle.task.specs.Task.{taskIn}
 use Rattle.task.specs.Links.{headAt, nextAt, Next, Changes}
 use Rattle.state.specs.Sets.{Asked}

@@ -12,7 +12,7 @@ use lib.ListN.{length, getD}
 use Rattle.planning.specs.Record.{Fact, Action}
 use Rattle.planning.specs.Runs.{State, has, holds, variables, actions, act, count}
 use Rattle.planning.specs.Painting.{without}
-use Rattle.planning.proofs.Formed.{Sorted}
+use Rattle.laws.proofs.Formed.{Sorted}
 use Rattle.task.specs.Task.{factOf, factsIn, preAt, effAt, endAt, actionIn, taskIn, Loaded}
 use Rattle.state.specs.Sets.{inSet, modeOf, Facts}
 use Rattle.state.proofs.Listed.{Listed}

@@ -10,9 +10,9 @@ use lib.ListN.{length, getD}
 use Rattle.planning.specs.Record.{Fact, Task}
 use Rattle.planning.specs.Runs.{State, Mode, has, relaxed, step, actions, act}
 use Rattle.planning.specs.Repair.{blackMet}
-use Rattle.planning.proofs.Facts.{has-nil, has-cases}
-use Rattle.planning.proofs.Steps.{step-keep, step-cases}
-use Rattle.planning.proofs.Tests.{true→T, and-l, and-r}
+use Rattle.laws.proofs.Facts.{has-nil, has-cases}
+use Rattle.laws.proofs.Steps.{step-keep, step-cases}
+use Rattle.laws.proofs.Tests.{true→T, and-l, and-r}
 use Rattle.task.specs.Task.{factOf, factsIn}
 use Rattle.state.specs.Sets.{modeOf}
 use Rattle.state.proofs.Effects.{factsIn-cons, factsIn-none}

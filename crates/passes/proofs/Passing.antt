@@ -10,8 +10,8 @@ use lib.Seq.{take-take, take-append-le, take-suc-set, drop-cons, drop-length, dr
 use Rattle.planning.specs.Record.{Fact, Task}
 use Rattle.planning.specs.Runs.{State, look, actions, count, act}
 use Rattle.planning.specs.Repair.{toward, after, pass, askedFor, passSearches}
-use Rattle.planning.proofs.Fill.{pass-grows, askedFor-one}
-use Rattle.planning.proofs.Formed.{Formed}
+use Rattle.laws.proofs.Fill.{pass-grows, askedFor-one}
+use Rattle.laws.proofs.Formed.{Formed}
 use Rattle.state.specs.Sets.{Asked}
 use Rattle.paths.specs.Paths.{pathsOf, Memo, Put}
 use Rattle.paths.specs.declared.Written.{Written}

@@ -14,9 +14,9 @@ use lib.Seq.{take-suc-set, getD-set-same, getD-set-other}
 use Rattle.planning.specs.Record.{Fact, Task}
 use Rattle.planning.specs.Runs.{State, look, count, act}
 use Rattle.planning.specs.Repair.{toward, after, askedFor}
-use Rattle.planning.proofs.Tests.{true→T, or-l}
-use Rattle.planning.proofs.Facts.{look-some}
-use Rattle.planning.proofs.Formed.{Formed, sorted-has}
+use Rattle.laws.proofs.Tests.{true→T, or-l}
+use Rattle.laws.proofs.Facts.{look-some}
+use Rattle.laws.proofs.Formed.{Formed, sorted-has}
 use Rattle.state.specs.Sets.{Asked}
 use Rattle.paths.specs.Paths.{pathsOf, memoFor, slot, Memo, Put}
 use Rattle.paths.proofs.Walking.{put-none}

@@ -8,11 +8,11 @@ use Rattle.planning.specs.Record.{Fact, Task}
 use Rattle.planning.specs.Runs.{State, look, holds, actions, count, act}
 use Rattle.planning.specs.Painting.{reducedEffects, target, fits, leaves, arcFrom}
 use Rattle.planning.specs.Repair.{usableArc}
-use Rattle.planning.proofs.Tests.{and-l, and-r, and-i}
-use Rattle.planning.proofs.Facts.{look-is}
-use Rattle.planning.proofs.Arcs.{Arc, reduced-func, arc-reduced}
-use Rattle.planning.proofs.Formed.{Formed, pre-func, eff-func, eff-below}
-use Rattle.planning.proofs.Best.{usableArc-elim}
+use Rattle.laws.proofs.Tests.{and-l, and-r, and-i}
+use Rattle.laws.proofs.Facts.{look-is}
+use Rattle.laws.proofs.Arcs.{Arc, reduced-func, arc-reduced}
+use Rattle.laws.proofs.Formed.{Formed, pre-func, eff-func, eff-below}
+use Rattle.laws.proofs.Best.{usableArc-elim}
 use Rattle.task.specs.Links.{Changes}
 
 module _ (t : Task) (F : Formed t) (K : State) (v : ℕ) where

@@ -15,9 +15,9 @@ use Rattle.planning.specs.Record.{Task}
 use Rattle.planning.specs.Runs.{variables, State, actions, act, black}
 use Rattle.planning.specs.Painting.{target}
 use Rattle.planning.specs.Repair.{usableArc}
-use Rattle.planning.proofs.Tests.{or-l, or-r, or-cases, and-l, and-r, and-i}
-use Rattle.planning.proofs.Formed.{Formed}
-use Rattle.planning.proofs.Painting.{black-inside}
+use Rattle.laws.proofs.Tests.{or-l, or-r, or-cases, and-l, and-r, and-i}
+use Rattle.laws.proofs.Formed.{Formed}
+use Rattle.laws.proofs.Painting.{black-inside}
 use Rattle.task.specs.Task.{taskIn}
 use Rattle.task.specs.Links.{Next, Changes, Prepared, headAt, nextAt}
 use Rattle.state.specs.Sets.{inSet}

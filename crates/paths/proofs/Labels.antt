@@ -16,9 +16,9 @@ use Rattle.planning.specs.Record.{Task}
 use Rattle.planning.specs.Runs.{State, actions, count, act, costBy}
 use Rattle.planning.specs.Painting.{target}
 use Rattle.planning.specs.Repair.{usableArc, isPath}
-use Rattle.planning.proofs.Tests.{T-cases}
-use Rattle.planning.proofs.Formed.{Formed}
-use Rattle.planning.proofs.Best.{Better, Best, arcs-inside, best-cases, best-of, best-short, best-onward, path-cons, path-uncons, path-nil, path-here}
+use Rattle.laws.proofs.Tests.{T-cases}
+use Rattle.laws.proofs.Formed.{Formed}
+use Rattle.laws.proofs.Best.{Better, Best, arcs-inside, best-cases, best-of, best-short, best-onward, path-cons, path-uncons, path-nil, path-here}
 use Rattle.state.specs.Sets.{inSet}
 use Rattle.paths.specs.Paths.{leadOf, leadTo, pathsOf}
 use Rattle.paths.specs.Labels.{unreached, through, leadBy, Into, Done, Settled}

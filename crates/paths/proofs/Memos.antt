@@ -13,10 +13,10 @@ use lib.Seq.{getD-set-same, getD-set-other}
 use Rattle.planning.specs.Basics.{someBelow}
 use Rattle.planning.specs.Record.{Task}
 use Rattle.planning.specs.Runs.{State, variables, count, black}
-use Rattle.planning.proofs.Tests.{T→true, true→T, F→false, T-cases}
-use Rattle.planning.proofs.Below.{some-intro, some-elim}
-use Rattle.planning.proofs.Formed.{Formed}
-use Rattle.planning.proofs.Painting.{black-inside}
+use Rattle.laws.proofs.Tests.{T→true, true→T, F→false, T-cases}
+use Rattle.laws.proofs.Below.{some-intro, some-elim}
+use Rattle.laws.proofs.Formed.{Formed}
+use Rattle.laws.proofs.Painting.{black-inside}
 use Rattle.state.specs.Sets.{inSet}
 use Rattle.paths.specs.Paths.{unknown, Leads, fewValues, memoFor, slot, leadIn, Memo, Leading, leadTo}
 use Rattle.paths.specs.Labels.{leadBy, Done, Settled}

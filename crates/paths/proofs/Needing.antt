@@ -15,10 +15,10 @@ use Rattle.planning.specs.Record.{Fact, Action, Task}
 use Rattle.planning.specs.Runs.{State, has, touches, look, holds, actions, count, act, black}
 use Rattle.planning.specs.Painting.{reducedEffects, target, fits, leaves, arcFrom}
 use Rattle.planning.specs.Repair.{usableArc, bestBelow, behind, bestIn, bestPath}
-use Rattle.planning.proofs.Facts.{_⊆_, has-nil, has→touches, look-some, holds→sub, sub→holds}
-use Rattle.planning.proofs.Arcs.{reduced-elim}
-use Rattle.planning.proofs.Fields.{act-past}
-use Rattle.planning.proofs.Tests.{bool-same, or-l, or-r, or-cases, and-l, and-r, and-i}
+use Rattle.laws.proofs.Facts.{_⊆_, has-nil, has→touches, look-some, holds→sub, sub→holds}
+use Rattle.laws.proofs.Arcs.{reduced-elim}
+use Rattle.laws.proofs.Fields.{act-past}
+use Rattle.laws.proofs.Tests.{bool-same, or-l, or-r, or-cases, and-l, and-r, and-i}
 use Rattle.task.specs.Task.{factOf, factsIn}
 use Rattle.state.specs.Sets.{inSet}
 use Rattle.state.proofs.Effects.{factsIn-cons, factsIn-none}

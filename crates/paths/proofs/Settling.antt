@@ -18,10 +18,10 @@ use lib.Pow.{high, ones-split, ones-lt}
 use Rattle.planning.specs.Basics.{tally}
 use Rattle.planning.specs.Record.{Task}
 use Rattle.planning.specs.Runs.{State, count}
-use Rattle.planning.proofs.Tests.{and-l, and-r, and-i, T-cases}
-use Rattle.planning.proofs.Below.{tally-le, tally-cases}
-use Rattle.planning.proofs.Formed.{Formed}
-use Rattle.planning.proofs.Best.{arcs-inside}
+use Rattle.laws.proofs.Tests.{and-l, and-r, and-i, T-cases}
+use Rattle.laws.proofs.Below.{tally-le, tally-cases}
+use Rattle.laws.proofs.Formed.{Formed}
+use Rattle.laws.proofs.Best.{arcs-inside}
 use Rattle.state.specs.Sets.{inSet}
 use Rattle.state.proofs.Members.{inSet-empty, inSet-single}
 use Rattle.paths.specs.Paths.{Member}

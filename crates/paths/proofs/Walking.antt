@@ -15,8 +15,8 @@ use Rattle.planning.specs.Record.{Task}
 use Rattle.planning.specs.Runs.{State, actions, count, act}
 use Rattle.planning.specs.Painting.{target}
 use Rattle.planning.specs.Repair.{usableArc, bestIn, bestPath}
-use Rattle.planning.proofs.Formed.{Formed}
-use Rattle.planning.proofs.Best.{best-onward, arcs-inside}
+use Rattle.laws.proofs.Formed.{Formed}
+use Rattle.laws.proofs.Best.{best-onward, arcs-inside}
 use Rattle.paths.specs.Paths.{pathsOf, leadOf, leadTo, unknown, Put}
 use Rattle.paths.specs.declared.Written.the-variants.{Upto}
 use Rattle.paths.proofs.Arcs.{arc-leaves}

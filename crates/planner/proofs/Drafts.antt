@@ -15,8 +15,8 @@ use Rattle.planning.specs.Relaxed.{reachesGoals, relaxedPlan}
 use Rattle.planning.specs.Painting.{acyclicCheck, returnCheck}
 use Rattle.planning.specs.Repair.{repaired, marks}
 use Rattle.planning.specs.Calls.{capacityOf, roomCheck, goalsCheck, Planned as Result, lengthCheck, relaxedCheck, planned, planOf, planCall, repairCall}
-use Rattle.planning.proofs.Plans.{isPlan-elim}
-use Rattle.planning.proofs.Checks.{check-none, andThen-last, andThen-assoc, inOrder-pass, inOrder-++}
+use Rattle.laws.proofs.Plans.{isPlan-elim}
+use Rattle.laws.proofs.Checks.{check-none, andThen-last, andThen-assoc, inOrder-pass, inOrder-++}
 use Rattle.answers.specs.declared.Refusal.{Refusal}
 use Rattle.answers.proofs.Stages.{answer-done}
 use Rattle.relax.specs.Keeping.{Unfound}

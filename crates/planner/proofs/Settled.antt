@@ -12,8 +12,8 @@ use Rattle.planning.specs.Calls.{lent, lentBytes, planIn, marksIn, Planned as R
 use Rattle.planning.specs.Existence.{ReturnsPlan, Complete, Demand3, Bounded, Ceiling, Recovers}
 use Rattle.planning.specs.Relaxed.{relaxedPlan}
 use Rattle.planning.specs.Repair.{repaired, marks}
-use Rattle.planning.proofs.Calls.{planCall-bounded, repairCall-bounded}
-use Rattle.planning.proofs.Demand3.{demand3}
+use Rattle.laws.proofs.Calls.{planCall-bounded, repairCall-bounded}
+use Rattle.laws.proofs.Demand3.{demand3}
 use Rattle.answers.specs.declared.Planned.{Planned}
 use Rattle.answers.specs.declared.Planned.the-variants.{Plan, Refused}
 use Rattle.answers.specs.Plans.{answerOf, stepsOf}

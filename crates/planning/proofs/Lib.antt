@@ -1,35 +1,4 @@
--- First the table of examples, computed; then laws about the definitions of specs/, from the ground up: tests and lists, the record,
--- plans, the forward run and its relaxed plan, the parts of the repair, the painting, and on top the calls and demand 3.
+-- The examples of clause 12 as tables that antt computes.
 pub mod Acceptance
 pub mod AcceptanceCalls
-pub mod Tests
-pub mod Checks
-pub mod Below
-pub mod Graph
-pub mod Facts
-pub mod Prefixes
-pub mod Steps
-pub mod Fields
-pub mod Formed
-pub mod Plans
-pub mod Newest
-pub mod Choice
-pub mod Forward
-pub mod Achievers
-pub mod Arcs
-pub mod Walks
-pub mod Pass
-pub mod Fill
-pub mod Best
-pub mod Known
-pub mod Conn
-pub mod Order
-pub mod Repair
-pub mod Painting
-pub mod Sizes
-pub mod Marks
-pub mod Calls
-pub mod Demand3
-pub mod Longest
-pub mod Listing
 pub mod Listed

@@ -16,9 +16,9 @@ use Rattle.planning.specs.Basics.{Check, refuse, check, andThen, inOrder, Answe
 use Rattle.planning.specs.Record.{variablesIn, actionsIn, countIn, headerChecks, recordChecks, recordCheck, preconditionsIn, effectsIn, effectsFrom, actionEnd}
 use Rattle.planning.specs.Record.{actionsEnd, fieldCheck, goalFits, variableChecks, variablesChecks, endsAt, recordEnd, factChecks, factsChecks, actionChecks}
 use Rattle.planning.specs.Record.{actionsChecks}
-use Rattle.planning.proofs.Tests.{and-l, and-r}
-use Rattle.planning.proofs.Checks.{check-none, andThen-none, inOrder-++, inOrder-passed}
-use Rattle.planning.proofs.Fields.{actionEnd-le, actionsEnd-le}
+use Rattle.laws.proofs.Tests.{and-l, and-r}
+use Rattle.laws.proofs.Checks.{check-none, andThen-none, inOrder-++, inOrder-passed}
+use Rattle.laws.proofs.Fields.{actionEnd-le, actionsEnd-le}
 use Rattle.bits.proofs.Window.{bitsAt-lt, bitsAt-add}
 use Rattle.answers.proofs.Stages.{stage-passes, skip, skip-stage, stops-stage, pass-end}
 use Rattle.bits.specs.Windows.{Leading}

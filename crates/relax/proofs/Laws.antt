@@ -16,10 +16,10 @@ use lib.Seq.{getD-set-same, getD-set-other, getD-take, drop-cons, drop-length, d
 use Rattle.planning.specs.Record.{Fact, Action, Task}
 use Rattle.planning.specs.Runs.{State, has, touches, step, relaxed, actions, act, variables, variable, count, initial, goals}
 use Rattle.planning.specs.Relaxed.{forwardRun, firstAchiever, is, reachedNeeded, keep, relaxedPlan}
-use Rattle.planning.proofs.Tests.{T→true, F→false, or-l, or-r, and-l, and-r, and-i}
-use Rattle.planning.proofs.Steps.{All}
-use Rattle.planning.proofs.Formed.{Formed, sorted-has, initial-holds, initial-elim}
-use Rattle.planning.proofs.Forward.{forwardRun-ran}
+use Rattle.laws.proofs.Tests.{T→true, F→false, or-l, or-r, and-l, and-r, and-i}
+use Rattle.laws.proofs.Steps.{All}
+use Rattle.laws.proofs.Formed.{Formed, sorted-has, initial-holds, initial-elim}
+use Rattle.laws.proofs.Forward.{forwardRun-ran}
 use Rattle.task.specs.Task.{factOf, factsIn, preAt, effAt, actionIn, taskIn}
 use Rattle.state.specs.Sets.{inSet, setsOf, choose}
 use Rattle.state.proofs.Members.{inSet-or, inSet-single}

@@ -12,13 +12,13 @@ use Rattle.planning.specs.Record.{Fact, Action, Task}
 use Rattle.planning.specs.Runs.{State, Mode, look, variables, actions, count, act, black, goals}
 use Rattle.planning.specs.Repair.{toward, after, pass, fill, ready, clientsFirst, order, value, blackMet}
 use Rattle.planning.specs.Painting.{blackArc}
-use Rattle.planning.proofs.Tests.{and-l}
-use Rattle.planning.proofs.Below.{First?, first-is}
-use Rattle.planning.proofs.Steps.{All, all-append}
-use Rattle.planning.proofs.Best.{best-below}
-use Rattle.planning.proofs.Fill.{fill-searches}
-use Rattle.planning.proofs.Formed.{Formed}
-use Rattle.planning.proofs.Order.{clientsFirst-le}
+use Rattle.laws.proofs.Tests.{and-l}
+use Rattle.laws.proofs.Below.{First?, first-is}
+use Rattle.laws.proofs.Steps.{All, all-append}
+use Rattle.laws.proofs.Best.{best-below}
+use Rattle.laws.proofs.Fill.{fill-searches}
+use Rattle.laws.proofs.Formed.{Formed}
+use Rattle.laws.proofs.Order.{clientsFirst-le}
 use Rattle.passes.specs.Passes.{passOf, Entries}
 use Rattle.paths.specs.Paths.{pathsOf}
 use Rattle.repair.specs.Repairs.{fillFrom, filled, moved, stageOf, filledSearches, movedSearches, stageSearches}

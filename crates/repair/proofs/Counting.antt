@@ -13,13 +13,13 @@ use Rattle.planning.specs.Runs.{holds, step, real, actions, act, initial, goals
 use Rattle.planning.specs.Newest.{Values, initialValues, newer, alone}
 use Rattle.planning.specs.Repair.{repaired, searches}
 use Rattle.planning.specs.Calls.{planned}
-use Rattle.planning.proofs.Tests.{T→true}
-use Rattle.planning.proofs.Steps.{All}
-use Rattle.planning.proofs.Plans.{allBelow-intro, runs-stepsRun}
-use Rattle.planning.proofs.Formed.{Formed, sorted-has, goals-sorted}
-use Rattle.planning.proofs.Prefixes.{runBy-behind, stepsBy-le}
-use Rattle.planning.proofs.Sizes.{costOf-le}
-use Rattle.planning.proofs.Newest.{newestAfter, real-holds}
+use Rattle.laws.proofs.Tests.{T→true}
+use Rattle.laws.proofs.Steps.{All}
+use Rattle.laws.proofs.Plans.{allBelow-intro, runs-stepsRun}
+use Rattle.laws.proofs.Formed.{Formed, sorted-has, goals-sorted}
+use Rattle.laws.proofs.Prefixes.{runBy-behind, stepsBy-le}
+use Rattle.laws.proofs.Sizes.{costOf-le}
+use Rattle.laws.proofs.Newest.{newestAfter, real-holds}
 use Rattle.state.proofs.Running.{further-steps}
 use Rattle.repair.specs.declared.Counts.{Counts}
 use Rattle.repair.specs.Counting.{noCounts, Onward, Few, judgedBy}

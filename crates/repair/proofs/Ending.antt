@@ -12,8 +12,8 @@ use Rattle.planning.specs.Runs.{State, holds, actions, variables, count, goals}
 use Rattle.planning.specs.Newest.{Values, alone}
 use Rattle.planning.specs.Repair.{repaired, marks}
 use Rattle.planning.specs.Calls.{capacity, capacityOf, planned}
-use Rattle.planning.proofs.Facts.{look-some}
-use Rattle.planning.proofs.Formed.{Formed, sorted-has, goals-sorted}
+use Rattle.laws.proofs.Facts.{look-some}
+use Rattle.laws.proofs.Formed.{Formed, sorted-has, goals-sorted}
 use Rattle.lists.proofs.Laying.{capacity-le, room-fits, room-short}
 use Rattle.task.specs.Task.{factOf, factsIn}
 use Rattle.state.specs.Sets.{GoalsOf}

@@ -11,7 +11,7 @@ use lib.Seq.{drop-cons, drop-length, length-take-le}
 use Rattle.planning.specs.Record.{Fact, Task}
 use Rattle.planning.specs.Runs.{State, variables, count, act, black}
 use Rattle.planning.specs.Repair.{fill, value, order, passSearches, fillSearches}
-use Rattle.planning.proofs.Fill.{fill-grows, pass-searches}
+use Rattle.laws.proofs.Fill.{fill-grows, pass-searches}
 use Rattle.paths.specs.Paths.{pathsOf, Memo, Put}
 use Rattle.paths.specs.declared.Written.the-variants as written
 use Rattle.passes.specs.declared.Inserted.{Inserted}

@@ -10,8 +10,8 @@ use Rattle.planning.specs.Record.{Task}
 use Rattle.planning.specs.Runs.{holds, runs, act, black, initial}
 use Rattle.planning.specs.Newest.{Values, newer, alone}
 use Rattle.planning.specs.Repair.{repaired}
-use Rattle.planning.proofs.Tests.{T→true}
-use Rattle.planning.proofs.Formed.{Formed}
+use Rattle.laws.proofs.Tests.{T→true}
+use Rattle.laws.proofs.Formed.{Formed}
 use Rattle.state.specs.Sets.{setsOf, valuesOf}
 use Rattle.state.proofs.RedBlack.{step-held}
 use Rattle.repair.specs.declared.Counts.{Counts}

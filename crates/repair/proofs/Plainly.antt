@@ -11,7 +11,7 @@ use lib.ListN.{length, getD, replicate}
 use Rattle.planning.specs.Record.{Fact, Action, Task}
 use Rattle.planning.specs.Runs.{State, Mode, holds, step, relaxed, act, black}
 use Rattle.planning.specs.Newest.{Values, newer, alone}
-use Rattle.planning.proofs.Tests.{T→true, and-l, and-r}
+use Rattle.laws.proofs.Tests.{T→true, and-l, and-r}
 use Rattle.task.specs.Task.{factsIn, factOf}
 use Rattle.state.specs.Sets.{valuesOf, redBlackOf, further, listed, Known, WithOnly}
 use Rattle.state.proofs.Effects.{factsIn-cons, factsIn-none}

@@ -18,11 +18,11 @@ use Rattle.planning.specs.Record.{Fact, Action, Task}
 use Rattle.planning.specs.Runs.{State, Mode, holds, step, relaxed, run, runs, runBy, runsBy, initial, goals, actions, count, act, black}
 use Rattle.planning.specs.Newest.{Values, initialValues, newer}
 use Rattle.planning.specs.Repair.{known, everAfter, moves, order, Stage, stagesFrom, stages, repaired, moveSearches, allSteps, allSearches, stageSteps, searches, stageMarks, allMarks, marks}
-use Rattle.planning.proofs.Facts.{_⊆_}
-use Rattle.planning.proofs.Known.{_≈_, known-start, known-run, everAfter-now}
-use Rattle.planning.proofs.Tests.{bool-same, and-l, and-r}
-use Rattle.planning.proofs.Prefixes.{runBy-behind}
-use Rattle.planning.proofs.Formed.{Formed, eff-func}
+use Rattle.laws.proofs.Facts.{_⊆_}
+use Rattle.laws.proofs.Known.{_≈_, known-start, known-run, everAfter-now}
+use Rattle.laws.proofs.Tests.{bool-same, and-l, and-r}
+use Rattle.laws.proofs.Prefixes.{runBy-behind}
+use Rattle.laws.proofs.Formed.{Formed, eff-func}
 use Rattle.state.specs.Sets.{setsOf, redBlackOf}
 use Rattle.state.proofs.RedBlack.{redBlack-step, redBlack-initial}
 use Rattle.paths.specs.Paths.{Memo, Put}

@@ -14,8 +14,8 @@ use Rattle.planning.specs.Runs.{State, count, black}
 use Rattle.planning.specs.Newest.{Values, alone}
 use Rattle.planning.specs.Painting.{orZero}
 use Rattle.planning.specs.Repair.{value, blackMet}
-use Rattle.planning.proofs.Below.{First?, first-is}
-use Rattle.planning.proofs.Tests.{T→true}
+use Rattle.laws.proofs.Below.{First?, first-is}
+use Rattle.laws.proofs.Tests.{T→true}
 use Rattle.state.specs.Sets.{valuesOf, redBlackOf}
 use Rattle.state.proofs.RedBlack.{redBlack-black}
 use Rattle.repair.specs.Repairs.{Present}

@@ -1,4 +1,4 @@
--- What the repair is handed, and its parts over the facts held ever: those of R and B (planning/proofs/Known.antt).
+-- What the repair is handed, and its parts over the facts held ever: those of R and B (laws/proofs/Known.antt).
 use mathlib.Core.Path.{_≡_}
 use mathlib.Core.Bool.{Bool, true, false}
 use mathlib.Core.List.{List, [], _∷_, _++_}

@@ -17,7 +17,7 @@ use Rattle.answers.specs.declared.Planned.{Planned}
 use Rattle.answers.specs.declared.Planned.the-variants.{Plan, Refused}
 use Rattle.answers.specs.Plans.{answerOf}
 use Rattle.report.specs.Answers.{factsIn, stepsIn, keptIn, runsText, refusalOf}
-use Rattle.planning.proofs.Listing.{relaxed-few, forward-done, relax-done, relaxed-front, plan-front, runs-front, listing-lines, listing-refused}
+use Rattle.laws.proofs.Listing.{relaxed-few, forward-done, relax-done, relaxed-front, plan-front, runs-front, listing-lines, listing-refused}
 
 pub runnable-few : (a : Answer Result) (l : List ℕ) → length (runnable a l) ≤ length l
 unfolding runnable

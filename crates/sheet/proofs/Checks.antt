@@ -13,7 +13,7 @@ use Rattle.planning.specs.Basics.{Check, check, refuse, andThen, inOrder, refus
 use Rattle.planning.specs.Calls.{Read, lengthCheck, roomCheck, notBelow, capacity, writeCall, readCall}
 use Rattle.planning.specs.Record.{endsAt}
 use Rattle.planning.specs.Sheet.{Sheet, markWidth, sheetSize, sheetEnd, sheetField, stepsChecks, sheetChecks, sheetCheck, editionIn, stepsIn}
-use Rattle.planning.proofs.Checks.{andThen-none}
+use Rattle.laws.proofs.Checks.{andThen-none}
 use Rattle.sheet.specs.Answers.{endCheck, headingOf}
 use Rattle.sheet.specs.Fields.{cutIn}
 use Rattle.sheet.proofs.Fields.{markWidth-le}

@@ -19,7 +19,7 @@ use Rattle.planning.specs.Calls.{notBelow, lent, lentBytes, readCall, readList,
 use Rattle.planning.specs.Record.{endsAt}
 use Rattle.planning.specs.Sheet.{Sheet, bitsOf, markWidth, editionOf, markOf, marksOf, stepBits, sheetBits, numberIn, packed, sheetEnd, sheetSize, sheetBytes}
 use Rattle.planning.specs.Sheet.{stepsAt, marksAt, editionIn, stepsIn, sheetOf, sheetCheck}
-use Rattle.planning.proofs.Fields.{bitAt-below}
+use Rattle.laws.proofs.Fields.{bitAt-below}
 use Rattle.bits.proofs.Pack.{length-bitsOf, length-packed, packed-none, packed-byte, bitsOf-add, drop-bitsOf, numberIn-bitsOf, packed-same, Same, same-prefix, same-zeros}
 use Rattle.bits.proofs.Window.{bitsAt-lt, bitsAt-whole}
 use Rattle.sheet.proofs.Checks.{accepted, front-passed, end-passes, reads, writes}

@@ -10,8 +10,8 @@ use borrow.Author.Tests.{eq-eqb, ne-eqb}
 use lib.Dec.{eqb}
 use Rattle.planning.specs.Record.{Fact, Action}
 use Rattle.planning.specs.Runs.{has, look, act}
-use Rattle.planning.proofs.Tests.{T→true, F→false}
-use Rattle.planning.proofs.Facts.{Func, look-some, look-none}
+use Rattle.laws.proofs.Tests.{T→true, F→false}
+use Rattle.laws.proofs.Facts.{Func, look-some, look-none}
 use Rattle.task.specs.Task.{factsIn, preAt, effAt, endAt, actionIn, taskIn}
 use Rattle.state.specs.Sets.{Asked}
 use Rattle.state.proofs.Listed.{Listed}

@@ -14,8 +14,8 @@ use lib.Seq.{getD-set-same, getD-set-other, ext-getD}
 use Rattle.planning.specs.Record.{Task}
 use Rattle.planning.specs.Runs.{look, act, variables, count}
 use Rattle.planning.specs.Newest.{newer}
-use Rattle.planning.proofs.Facts.{look-some}
-use Rattle.planning.proofs.Formed.{Formed, sorted-has}
+use Rattle.laws.proofs.Facts.{look-some}
+use Rattle.laws.proofs.Formed.{Formed, sorted-has}
 use Rattle.state.specs.Sets.{valuesOf, choose, over}
 
 pub choose-yes : (b : Bool) (x y : ℕ) → b ≡ true → x ≡ choose b x y

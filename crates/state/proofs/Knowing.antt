@@ -12,9 +12,9 @@ use lib.ListN.{length, getD, set, replicate, length-set, length-replicate, getD-
 use lib.Seq.{getD-set-same, getD-set-other}
 use Rattle.planning.specs.Record.{Action, Task}
 use Rattle.planning.specs.Runs.{State, holds, step, relaxed, act}
-use Rattle.planning.proofs.Tests.{or-cases}
-use Rattle.planning.proofs.Facts.{holds→sub, sub→holds}
-use Rattle.planning.proofs.Steps.{step-eff, step-keep}
+use Rattle.laws.proofs.Tests.{or-cases}
+use Rattle.laws.proofs.Facts.{holds→sub, sub→holds}
+use Rattle.laws.proofs.Steps.{step-eff, step-keep}
 use Rattle.state.specs.Sets.{inSet, listed, Known, WithOnly}
 use Rattle.state.proofs.Members.{inSet-empty, inSet-or, inSet-single}
 use Rattle.state.proofs.RedBlack.{step-held}

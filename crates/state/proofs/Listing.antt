@@ -9,7 +9,7 @@ use native.Mathlib.Decide.{decLt}
 use lib.ListN.{length, getD}
 use Rattle.planning.specs.Record.{Fact, Action, Task}
 use Rattle.planning.specs.Runs.{variables, actions, count, goals}
-use Rattle.planning.proofs.Formed.{Sorted, Formed, goals-sorted}
+use Rattle.laws.proofs.Formed.{Sorted, Formed, goals-sorted}
 use Rattle.task.specs.Task.{cell, factOf, factsIn, actionIn, taskIn, Loaded}
 use Rattle.task.proofs.Reading.{taskIn-act}
 use Rattle.state.proofs.Listed.{Rising, Listed}

@@ -15,8 +15,8 @@ use lib.ListN.{length, getD, set, drop, replicate, length-set}
 use lib.Seq.{drop-cons, drop-length, take-suc-set, getD-set-same, getD-set-other}
 use Rattle.planning.specs.Record.{Variable, Task}
 use Rattle.planning.specs.Runs.{noVariable, variables, variable, black, initial, goalsFrom, goals}
-use Rattle.planning.proofs.Fields.{variable-past}
-use Rattle.planning.proofs.Formed.{Formed}
+use Rattle.laws.proofs.Fields.{variable-past}
+use Rattle.laws.proofs.Formed.{Formed}
 use Rattle.task.specs.Task.{factOf, factsIn}
 use Rattle.state.specs.Sets.{inSet, setsOf, modeOf}
 use Rattle.state.proofs.Members.{inSet-single, inSet-empty, inSet-or}

@@ -12,10 +12,10 @@ use lib.Dec.{eqb, ltb}
 use Rattle.planning.specs.Record.{Action, Task}
 use Rattle.planning.specs.Runs.{State, Mode, has, look, touches, holds, step, variables, variable, black, relaxed, initial}
 use Rattle.planning.specs.Newest.{Values, newer, initialValues, alone}
-use Rattle.planning.proofs.Tests.{T→true, F→false, true→T, bool-same}
-use Rattle.planning.proofs.Facts.{Func, has→touches, touches→has, look-none, look-some, holds→sub}
-use Rattle.planning.proofs.Steps.{step-keep, step-cases}
-use Rattle.planning.proofs.Newest.{newer-none, newer-some}
+use Rattle.laws.proofs.Tests.{T→true, F→false, true→T, bool-same}
+use Rattle.laws.proofs.Facts.{Func, has→touches, touches→has, look-none, look-some, holds→sub}
+use Rattle.laws.proofs.Steps.{step-keep, step-cases}
+use Rattle.laws.proofs.Newest.{newer-none, newer-some}
 use Rattle.state.specs.Sets.{redBlackOf}
 use Rattle.state.proofs.Loading.{black-past}
 

@@ -12,7 +12,7 @@ use lib.Seq.{getD-set-same, getD-set-other}
 use Rattle.planning.specs.Record.{Fact, Action, Variable, Task}
 use Rattle.planning.specs.Runs.{look, act, variable}
 use Rattle.planning.specs.Newest.{newer, initialValues, alone}
-use Rattle.planning.proofs.Fields.{variable-past}
+use Rattle.laws.proofs.Fields.{variable-past}
 use Rattle.task.specs.Task.{cell, factOf, factsIn, actionIn, taskIn}
 use Rattle.state.specs.Sets.{valuesOf}
 use Rattle.state.proofs.Listed.{Rising, Listed}

@@ -13,9 +13,9 @@ use lib.ListN.{length}
 use Rattle.planning.specs.Record.{Task}
 use Rattle.planning.specs.Runs.{State, holds, step, real, act, initial, run, stepsRun, stepsBy}
 use Rattle.planning.specs.Newest.{Values, alone}
-use Rattle.planning.proofs.Formed.{Formed}
-use Rattle.planning.proofs.Prefixes.{stepsBy-le, stepsBy-on, stepsBy-fails, stepsBy-stopped}
-use Rattle.planning.proofs.Newest.{newestAfter, real-applies}
+use Rattle.laws.proofs.Formed.{Formed}
+use Rattle.laws.proofs.Prefixes.{stepsBy-le, stepsBy-on, stepsBy-fails, stepsBy-stopped}
+use Rattle.laws.proofs.Newest.{newestAfter, real-applies}
 use Rattle.state.specs.Sets.{further}
 
 module _ (n k : ℕ) where

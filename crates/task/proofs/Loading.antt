@@ -16,8 +16,8 @@ use Rattle.planning.specs.Basics.{inOrder, bitsAt}
 use Rattle.planning.specs.Record.{Task, variablesIn, actionsIn, preconditionsIn, effectsIn, effectsFrom, variableAt, factsAt, actionAt, actionEnd, actionsEnd, countIn, taskOf}
 use Rattle.planning.specs.Record.{actionChecks, actionsChecks, recordCheck}
 use Rattle.planning.specs.Runs.{noVariable, noAction, variables, actions, variable, act}
-use Rattle.planning.proofs.Fields.{bitsAt-below, taskOf-variables, taskOf-actions, taskOf-variable, taskOf-act, actionStart}
-use Rattle.planning.proofs.Formed.{formed-of}
+use Rattle.laws.proofs.Fields.{bitsAt-below, taskOf-variables, taskOf-actions, taskOf-variable, taskOf-act, actionStart}
+use Rattle.laws.proofs.Formed.{formed-of}
 use Rattle.bits.specs.Windows.{Leading}
 use Rattle.bits.proofs.Window.{bitsAt-add}
 use Rattle.record.proofs.Laws.{false-not, leading-fact, Run, run-start}

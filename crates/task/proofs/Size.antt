@@ -10,9 +10,9 @@ use lib.Dec.{T, eqb, eqb→eq}
 use lib.ListN.{length, replicate, length-replicate}
 use Rattle.planning.specs.Basics.{bitsAt}
 use Rattle.planning.specs.Record.{variablesIn, actionsIn, effectsFrom, actionEnd, actionsEnd, endsAt, recordEnd, recordCheck}
-use Rattle.planning.proofs.Tests.{and-l}
-use Rattle.planning.proofs.Fields.{taskOf-variables, taskOf-actions}
-use Rattle.planning.proofs.Formed.{parts, formed-of}
+use Rattle.laws.proofs.Tests.{and-l}
+use Rattle.laws.proofs.Fields.{taskOf-variables, taskOf-actions}
+use Rattle.laws.proofs.Formed.{parts, formed-of}
 use Rattle.task.specs.Size.{factsOf, factsFrom, taskSize, RoomIn}
 use Rattle.task.proofs.Cut.{factsOf-le}
 

@@ -14,7 +14,7 @@ use lib.ListN.{length, getD}
 use lib.Seq.{slice}
 use Rattle.planning.specs.Record.{Fact, Action, Variable, Task, goalOf}
 use Rattle.planning.specs.Runs.{variables, actions}
-use Rattle.planning.proofs.Formed.{Formed}
+use Rattle.laws.proofs.Formed.{Formed}
 
 -- where the parts start: the order, the next actions by the fact to which they change; the end of both; the row of action 0
 abbrev pub orderFrom : ℕ

@@ -3,7 +3,7 @@ use native.Mathlib.Omega.{arith}
 use lib.ListN.{length}
 use lib.Seq.{length-take-le}
 use Rattle.planning.specs.Relaxed.{factsReached}
-use Rattle.planning.proofs.Sizes.{factsReached-le}
+use Rattle.laws.proofs.Sizes.{factsReached-le}
 use Rattle.answers.specs.Answers.{checkOf}
 use Rattle.task.specs.Task.{taskIn}
 use Rattle.forward.proofs.Answers.{reached-facts, forward-unsolved, forward-whole, forward-short, forward-list}

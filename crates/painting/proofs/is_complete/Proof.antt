@@ -4,7 +4,7 @@ use Prim.Native.Nat.{ℕ, _+_}
 use native.Mathlib.Omega.{arith}
 use borrow.Author.Tests.{not-true, not-false}
 use Rattle.planning.specs.Record.{Fact}
-use Rattle.planning.proofs.Painting.{black-inside}
+use Rattle.laws.proofs.Painting.{black-inside}
 use Rattle.task.specs.Task.{factsIn, taskIn}
 use Rattle.state.proofs.Listing.{loaded-listed}
 use Rattle.graph.proofs.Rows.{listed-preconditions}

@@ -1,6 +1,6 @@
 use mathlib.Core.Logic.{⊎-elim}
 use native.Mathlib.Omega.{arith}
-use Rattle.planning.proofs.Painting.{black-inside}
+use Rattle.laws.proofs.Painting.{black-inside}
 use Rattle.painting.proofs.Returns.{next-serves, head-chain, serves-near, served, served-first}
 use borrow.Author.Needs.{needs}
 use Rattle.painting.proofs.is_returned.Statement.{statement}

@@ -1,6 +1,6 @@
 use mathlib.Core.Path.{sym, _∙_}
 use native.Mathlib.Omega.{arith}
-use Rattle.planning.proofs.Painting.{black-inside}
+use Rattle.laws.proofs.Painting.{black-inside}
 use Rattle.painting.proofs.Arcs.{all-values, few-values}
 use Rattle.painting.proofs.Keeping.{ready-more}
 use borrow.Author.Needs.{needs}

@@ -11,8 +11,8 @@ use lib.ListN.{length, drop}
 use lib.Seq.{length-take-le}
 use Rattle.planning.specs.Runs.{act}
 use Rattle.planning.specs.Repair.{passSearches}
-use Rattle.planning.proofs.Fill.{askedFor-one}
-use Rattle.planning.proofs.Formed.{Formed}
+use Rattle.laws.proofs.Fill.{askedFor-one}
+use Rattle.laws.proofs.Formed.{Formed}
 use Rattle.task.specs.Task.{taskIn}
 use Rattle.state.specs.Sets.{setsOf}
 use Rattle.passes.specs.Passes.{askedBy, served, factsOf}

@@ -8,8 +8,8 @@ use Prim.Native.Nat.{ℕ, _+_, _*_, _%_, _<_}
 use native.Mathlib.Omega.{arith}
 use lib.ListN.{length}
 use Rattle.planning.specs.Runs.{count}
-use Rattle.planning.proofs.Formed.{Formed}
-use Rattle.planning.proofs.Painting.{black-inside}
+use Rattle.laws.proofs.Formed.{Formed}
+use Rattle.laws.proofs.Painting.{black-inside}
 use Rattle.task.specs.Task.{taskIn}
 use Rattle.state.specs.Sets.{setsOf}
 use Rattle.paths.specs.Paths.{pathsOf, unknown, Leads, leadIn}

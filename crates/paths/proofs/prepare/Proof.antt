@@ -5,7 +5,7 @@ use Prim.Native.Nat.{_+_, _*_, _<_}
 use native.Mathlib.Omega.{arith}
 use borrow.Author.Tests.{eqb-true, eqb-false, not-true}
 use lib.ListN.{length}
-use Rattle.planning.proofs.Painting.{black-inside}
+use Rattle.laws.proofs.Painting.{black-inside}
 use Rattle.task.specs.Task.{taskIn}
 use Rattle.paths.proofs.Memos.{memo-marks, memo-lead, slot-below, leading}
 use Rattle.paths.proofs.prepare.Statement.{statement}

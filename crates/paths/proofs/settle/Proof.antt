@@ -3,8 +3,8 @@
 use borrow.Author.Needs.{needs}
 use native.Mathlib.Omega.{arith}
 use Rattle.planning.specs.Basics.{tally}
-use Rattle.planning.proofs.Formed.{Formed}
-use Rattle.planning.proofs.Painting.{black-inside}
+use Rattle.laws.proofs.Formed.{Formed}
+use Rattle.laws.proofs.Painting.{black-inside}
 use Rattle.task.specs.Task.{taskIn}
 use Rattle.state.specs.Sets.{inSet, setsOf}
 use Rattle.paths.specs.Labels.{Nearest}

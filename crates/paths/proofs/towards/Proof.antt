@@ -5,8 +5,8 @@ use Prim.Native.Nat.{_+_, _-_, _*_, _<_, _≤_}
 use native.Mathlib.Omega.{arith}
 use lib.ListN.{length, length-set}
 use Rattle.planning.specs.Runs.{count}
-use Rattle.planning.proofs.Formed.{Formed}
-use Rattle.planning.proofs.Painting.{black-inside}
+use Rattle.laws.proofs.Formed.{Formed}
+use Rattle.laws.proofs.Painting.{black-inside}
 use Rattle.task.specs.Task.{taskIn}
 use Rattle.paths.proofs.Memos.{memo-marks, memo-lead, slot-below, Filling, filling-turn, memo-filled}
 use Rattle.paths.proofs.towards.Statement.{statement}

@@ -3,7 +3,7 @@ use borrow.Author.Needs.{needs}
 use native.Mathlib.Omega.{arith}
 use lib.ListN.{length}
 use Rattle.planning.specs.Runs.{relaxed}
-use Rattle.planning.proofs.Sizes.{capacityOf-le}
+use Rattle.laws.proofs.Sizes.{capacityOf-le}
 use Rattle.task.specs.Task.{taskIn}
 use Rattle.planner.proofs.Drafts.{plan-entries, drafted-repair}
 use Rattle.planner.proofs.draft.Statement.{statement}

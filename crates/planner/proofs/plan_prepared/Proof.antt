@@ -2,9 +2,9 @@
 use mathlib.Core.Path.{refl, sym, ap, _∙_, subst}
 use native.Mathlib.Omega.{arith}
 use lib.Seq.{length-take-le}
-use Rattle.planning.proofs.Achievers.{relaxedPlan-is-plan}
-use Rattle.planning.proofs.Calls.{relaxedCheck-none}
-use Rattle.planning.proofs.Checks.{inOrder-passed}
+use Rattle.laws.proofs.Achievers.{relaxedPlan-is-plan}
+use Rattle.laws.proofs.Calls.{relaxedCheck-none}
+use Rattle.laws.proofs.Checks.{inOrder-passed}
 use Rattle.answers.proofs.Stages.{passed, handed-on}
 use Rattle.answers.specs.Answers.{refusalOf}
 use Rattle.task.specs.Task.{taskIn}

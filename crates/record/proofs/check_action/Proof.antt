@@ -1,6 +1,6 @@
 -- The quick test found all sound and the end, or the checks are made field by field.
 use Rattle.record.proofs.Laws.{counts-as, action-done}
-use Rattle.planning.proofs.Fields.{actionEnd-le}
+use Rattle.laws.proofs.Fields.{actionEnd-le}
 use native.Mathlib.Omega.{arith}
 use borrow.Author.Needs.{needs}
 use Rattle.record.proofs.check_action.Statement.{statement}

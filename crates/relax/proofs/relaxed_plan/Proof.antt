@@ -3,7 +3,7 @@ use native.Mathlib.Omega.{arith}
 use borrow.Author.Needs.{needs}
 use borrow.Author.Tests.{not-true, not-false}
 use Rattle.planning.specs.Relaxed.{factsReached}
-use Rattle.planning.proofs.Sizes.{factsReached-le}
+use Rattle.laws.proofs.Sizes.{factsReached-le}
 use Rattle.task.specs.Task.{taskIn}
 use Rattle.forward.proofs.Answers.{reached-facts}
 use Rattle.relax.proofs.relaxed_plan.Statement.{statement}

@@ -4,7 +4,7 @@ use mathlib.Core.Path.{_≡_, ap}
 use Prim.Native.Nat.{_+_, _*_, _-_, _<_}
 use native.Mathlib.Omega.{arith}
 use Rattle.planning.specs.Runs.{variables}
-use Rattle.planning.proofs.Formed.{Formed}
+use Rattle.laws.proofs.Formed.{Formed}
 use Rattle.task.specs.Task.{taskIn}
 use Rattle.relax.proofs.Laws.{Unsetting, unsetting-start, unsetting-turn, unsetting-end}
 use Rattle.relax.proofs.unset_initial.Statement.{statement}

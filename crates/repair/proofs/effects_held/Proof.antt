@@ -2,7 +2,7 @@ use borrow.Author.Needs.{needs}
 use mathlib.Core.Path.{sym, _∙_}
 use Prim.Native.Nat.{_<_}
 use native.Mathlib.Omega.{arith}
-use Rattle.planning.proofs.Tests.{T→true, true→T}
+use Rattle.laws.proofs.Tests.{T→true, true→T}
 use Rattle.repair.proofs.Plainly.{plain-step, plain-more}
 use Rattle.repair.proofs.effects_held.Statement.{statement}
 use Rattle.repair.proofs.effects_held.Tie as tie

@@ -7,7 +7,7 @@ use native.Mathlib.Omega.{arith}
 use lib.ListN.{getD, take}
 use lib.Seq.{getD-take, length-take-le}
 use Rattle.planning.specs.Runs.{actions}
-use Rattle.planning.proofs.Tests.{true→T}
+use Rattle.laws.proofs.Tests.{true→T}
 use Rattle.task.specs.Task.{taskIn}
 use Rattle.state.specs.Sets.{valuesOf}
 use Rattle.repair.specs.declared.Counts.{Counts}

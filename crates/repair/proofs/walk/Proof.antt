@@ -12,8 +12,8 @@ use Rattle.planning.specs.Basics.{refused}
 use borrow.Author.Tests.{ltb-true, leb-true, leb-false}
 use Rattle.planning.specs.Runs.{runs, actions, act, black, initial}
 use Rattle.planning.specs.Repair.{repaired}
-use Rattle.planning.proofs.Plans.{isPlan-elim}
-use Rattle.planning.proofs.Painting.{repaired-is-plan}
+use Rattle.laws.proofs.Plans.{isPlan-elim}
+use Rattle.laws.proofs.Painting.{repaired-is-plan}
 use Rattle.task.specs.Task.{taskIn}
 use Rattle.state.specs.Sets.{setsOf, valuesOf}
 use Rattle.repair.proofs.Repairing.{Repairing, repairing-start, repairing-within, repairing-few, repairing-searches, repairing-small, repairing-below, repairing-step}

@@ -4,7 +4,7 @@ use mathlib.Core.Path.{_≡_, sym}
 use native.Mathlib.Omega.{arith}
 use Rattle.planning.specs.Calls.{notBelow}
 use Rattle.planning.specs.Sheet.{sheetSize, sheetEnd}
-use Rattle.planning.proofs.Checks.{refuseAt-none}
+use Rattle.laws.proofs.Checks.{refuseAt-none}
 use Rattle.answers.proofs.Stages.{passed-by, refused-by}
 use Rattle.sheet.specs.Answers.{sheet}
 use Rattle.sheet.proofs.Checks.{over-length, over-entry, over-room, writes}

@@ -4,7 +4,7 @@ use mathlib.Core.Logic.{inr}
 use Prim.Native.Nat.{_/_, _<_}
 use lib.Bits.{bitOr}
 use lib.ListN.{getD}
-use Rattle.planning.proofs.Tests.{T→true, true→T}
+use Rattle.laws.proofs.Tests.{T→true, true→T}
 use Rattle.state.proofs.Listing.{loaded-listed}
 use Rattle.state.proofs.Knowing.{known-step, known-more, listed-more}
 use Rattle.state.proofs.knows_effects.Statement.{statement}

@@ -1,5 +1,5 @@
 use native.Mathlib.Omega.{arith}
-use Rattle.planning.proofs.Formed.{pre-func}
+use Rattle.laws.proofs.Formed.{pre-func}
 use Rattle.state.proofs.Asking.{asked-has}
 use borrow.Author.Needs.{needs}
 use Rattle.state.proofs.needs_fact.Statement.{statement}

@@ -10,17 +10,17 @@ use mathlib.Core.Option.{Option, none, some}
 use lib.Dec.{T, T-not, not-T, eqb, eqb→eq, eqb-refl}
 use lib.ListN.{length}
 use native.Mathlib.Omega.{arith}
 use Rattle.planning.specs.Basics.{someBelow, tally, first, times, reach}
 use Rattle.planning.specs.Record.{Action}
 use Rattle.planning.specs.Runs.{has, touches, Mode}
 use Rattle.planning.specs.Painting.{reducedEffects, onCycle}
 use Rattle.planning.specs.Repair.{ready, clientsFirst}
 use Rattle.planning.specs.Existence.{share}
-use Rattle.planning.proofs.Tests.{T→true, F→false, or-l, or-r, or-cases, and-l, and-r, and-i, T-cases}
-use Rattle.planning.proofs.Below.{some-intro, some-elim, First?, first-is, tally-cases, tally-pos, times-one, times-split}
-use Rattle.planning.proofs.Graph.{reach-here, reach-move, reach-bound, onCycle-of}
-use Rattle.planning.proofs.Pass.{with}
-use Rattle.planning.proofs.Fill.{withs, Ordered, product}
+use Rattle.laws.proofs.Tests.{T→true, F→false, or-l, or-r, or-cases, and-l, and-r, and-i, T-cases}
+use Rattle.laws.proofs.Below.{some-intro, some-elim, First?, first-is, tally-cases, tally-pos, times-one, times-split}
+use Rattle.laws.proofs.Graph.{reach-here, reach-move, reach-bound, onCycle-of}
+use Rattle.laws.proofs.Pass.{with}
+use Rattle.laws.proofs.Fill.{withs, Ordered, product}
 
 -- the test taken, with v
 abbrev pub taking : (ℕ → Bool) → ℕ → ℕ → Bool

@@ -10,14 +10,14 @@ use mathlib.Core.List.{List, [], _∷_, _++_}
 use mathlib.Core.Option.{Option, none, some}
 use lib.Dec.{T, eqb, eqb→eq, eqb-refl, ltb, lt→ltb}
 use lib.ListN.{length}
 use Rattle.planning.specs.Record.{Fact, Action, Task}
 use Rattle.planning.specs.Runs.{State, Mode, has, touches, look, holds, step, real, variables, variable, count, act, initial, run, stepsRun, runBy, stepsBy}
 use Rattle.planning.specs.Newest.{Values, initialValues, newer, Tracked, tracked, track, alone, tabulate}
-use Rattle.planning.proofs.Tests.{T→true, F→false, and-r, and-i}
-use Rattle.planning.proofs.Facts.{has-here, has-there, has→touches, touches→has, look-some, look-none, look-is, Func}
-use Rattle.planning.proofs.Steps.{step-eff, step-keep, step-cases}
-use Rattle.planning.proofs.Formed.{Formed, sorted-has, eff-func}
-use Rattle.planning.proofs.Prefixes.{runBy-behind, stepsBy-pass, stepsBy-stop}
+use Rattle.laws.proofs.Tests.{T→true, F→false, and-r, and-i}
+use Rattle.laws.proofs.Facts.{has-here, has-there, has→touches, touches→has, look-some, look-none, look-is, Func}
+use Rattle.laws.proofs.Steps.{step-eff, step-keep, step-cases}
+use Rattle.laws.proofs.Formed.{Formed, sorted-has, eff-func}
+use Rattle.laws.proofs.Prefixes.{runBy-behind, stepsBy-pass, stepsBy-stop}
 
 -- an effect sets the newest value; other variables keep theirs
 module _ (a : Action) (f : Values) (v : ℕ) where

@@ -14,20 +14,20 @@ use lib.Dec.{T, T-not}
 use lib.ListN.{length, length-append}
 use native.Mathlib.Omega.{arith}
 use native.Mathlib.Nat.{mul-le-mul-left, mul-le-mul-right}
 use Rattle.planning.specs.Basics.{first}
 use Rattle.planning.specs.Record.{Fact, Action}
 use Rattle.planning.specs.Runs.{State, has, holds, Mode, step, relaxed, run, runs, runBy, runsBy}
 use Rattle.planning.specs.Painting.{orZero}
 use Rattle.planning.specs.Repair.{known, everAfter, bestPath, fill, value, blackMet, moves, stageSteps, allSteps, stagesFrom, fillSearches, moveSearches, allSearches}
-use Rattle.planning.proofs.Tests.{T→true, or-r, or-cases, and-l, and-r, and-i}
-use Rattle.planning.proofs.Below.{First?, first-is}
-use Rattle.planning.proofs.Facts.{_⊆_, holds→sub, sub→holds, Func}
-use Rattle.planning.proofs.Steps.{step-mono, run-append, runs-append, run-grows, All, all-append, all-map}
-use Rattle.planning.proofs.Walks.{Walk, Usable}
-use Rattle.planning.proofs.Fill.{withs, Ordered, Sound, fill-meets, meets→runs, product, fill-short, fill-searches}
-use Rattle.planning.proofs.Best.{best-walk, best-short}
-use Rattle.planning.proofs.Known.{everAfter-now, known-run}
-use Rattle.planning.proofs.Conn.{Invertible, Inv, Conn, inv-same, conn-same, inv-step, conn-step}
+use Rattle.laws.proofs.Tests.{T→true, or-r, or-cases, and-l, and-r, and-i}
+use Rattle.laws.proofs.Below.{First?, first-is}
+use Rattle.laws.proofs.Facts.{_⊆_, holds→sub, sub→holds, Func}
+use Rattle.laws.proofs.Steps.{step-mono, run-append, runs-append, run-grows, All, all-append, all-map}
+use Rattle.laws.proofs.Walks.{Walk, Usable}
+use Rattle.laws.proofs.Fill.{withs, Ordered, Sound, fill-meets, meets→runs, product, fill-short, fill-searches}
+use Rattle.laws.proofs.Best.{best-walk, best-short}
+use Rattle.laws.proofs.Known.{everAfter-now, known-run}
+use Rattle.laws.proofs.Conn.{Invertible, Inv, Conn, inv-same, conn-same, inv-step, conn-step}
 
 -- the steps of the stages; at the end only the moves for the goals; the searches
 abbrev pub repairFrom : (ℕ → Action) → ℕ → Mode → (ℕ → ℕ) → List ℕ → List Fact → List ℕ → State → State → List ℕ

@@ -11,16 +11,16 @@ use lib.Dec.{T}
 use lib.ListN.{length, length-append}
 use native.Mathlib.Omega.{arith}
 use native.Mathlib.Nat.{mul-le-mul-right}
 use Rattle.planning.specs.Record.{Fact, Action}
 use Rattle.planning.specs.Runs.{State, has, touches, look, holds, Mode, step, run, runs, runBy, runsBy}
 use Rattle.planning.specs.Painting.{reducedEffects}
 use Rattle.planning.specs.Repair.{toward, after, pass, fill, askedFor, passSearches, fillSearches}
-use Rattle.planning.proofs.Tests.{and-i}
-use Rattle.planning.proofs.Facts.{_⊆_, sub→holds, touches→has, Func, look-some}
-use Rattle.planning.proofs.Steps.{All, all-append, all-map}
-use Rattle.planning.proofs.Arcs.{unchanged}
-use Rattle.planning.proofs.Walks.{Walk, walk-all, walk-map, Usable}
-use Rattle.planning.proofs.Pass.{MeetsOn, with, Mover, Entry, pass-meets, pass-short}
+use Rattle.laws.proofs.Tests.{and-i}
+use Rattle.laws.proofs.Facts.{_⊆_, sub→holds, touches→has, Func, look-some}
+use Rattle.laws.proofs.Steps.{All, all-append, all-map}
+use Rattle.laws.proofs.Arcs.{unchanged}
+use Rattle.laws.proofs.Walks.{Walk, walk-all, walk-map, Usable}
+use Rattle.laws.proofs.Pass.{MeetsOn, with, Mover, Entry, pass-meets, pass-short}
 
 -- the variables of Q, and those of the list
 abbrev pub withs : (ℕ → Type 0) → List ℕ → ℕ → Type 0

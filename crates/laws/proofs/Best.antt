@@ -12,18 +12,18 @@ use lib.Dec.{T, T-not, not-T, eqb, eqb→eq, eqb-refl, ltb, lt→ltb, ltb→lt}
 use lib.ListN.{length}
 use native.Mathlib.Omega.{arith}
 use native.Mathlib.Decide.{ℕ-discrete, decLt}
 use Rattle.planning.specs.Basics.{tally}
 use Rattle.planning.specs.Record.{Action, Task}
 use Rattle.planning.specs.Runs.{State, has, holds, actions, count, act, costBy}
 use Rattle.planning.specs.Painting.{reducedEffects, target, arcFrom}
 use Rattle.planning.specs.Repair.{usableArc, isPath, smaller, better, choose, bestBelow, behind, bestIn, bestPath}
-use Rattle.planning.proofs.Tests.{and-l, and-r, and-i, or-l, or-r, or-cases}
-use Rattle.planning.proofs.Below.{below-cases, tally-le, tally-pos, tally-cases}
-use Rattle.planning.proofs.Facts.{holds→sub, sub→holds, has→touches, Func}
-use Rattle.planning.proofs.Steps.{All}
-use Rattle.planning.proofs.Formed.{Formed, pre-func, eff-func, eff-below}
-use Rattle.planning.proofs.Arcs.{Arc, arc-reduced, arcFrom-elim, arcFrom-intro}
-use Rattle.planning.proofs.Walks.{Walk, Usable, stop, move}
+use Rattle.laws.proofs.Tests.{and-l, and-r, and-i, or-l, or-r, or-cases}
+use Rattle.laws.proofs.Below.{below-cases, tally-le, tally-pos, tally-cases}
+use Rattle.laws.proofs.Facts.{holds→sub, sub→holds, has→touches, Func}
+use Rattle.laws.proofs.Steps.{All}
+use Rattle.laws.proofs.Formed.{Formed, pre-func, eff-func, eff-below}
+use Rattle.laws.proofs.Arcs.{Arc, arc-reduced, arcFrom-elim, arcFrom-intro}
+use Rattle.laws.proofs.Walks.{Walk, Usable, stop, move}
 
 -- `smaller` as a proposition: a strict order of all lists
 abbrev pub Less : List ℕ → List ℕ → Type 0

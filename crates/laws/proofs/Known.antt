@@ -5,12 +5,12 @@ use mathlib.Core.Logic.{_⊎_, inl, inr}
 use mathlib.Core.Bool.{not, _&&_}
 use mathlib.Core.List.{List, [], _∷_}
 use lib.Dec.{T, T-not, not-T}
 use Rattle.planning.specs.Record.{Action}
 use Rattle.planning.specs.Runs.{State, Mode, step, relaxed, run, runBy}
 use Rattle.planning.specs.Repair.{known, union, everAfter}
-use Rattle.planning.proofs.Tests.{or-l, or-r, or-cases, and-l, and-r, and-i, T-cases}
-use Rattle.planning.proofs.Facts.{_⊆_}
-use Rattle.planning.proofs.Steps.{step-eff, step-keep, step-cases, run-mono}
+use Rattle.laws.proofs.Tests.{or-l, or-r, or-cases, and-l, and-r, and-i, T-cases}
+use Rattle.laws.proofs.Facts.{_⊆_}
+use Rattle.laws.proofs.Steps.{step-eff, step-keep, step-cases, run-mono}
 
 -- the same facts
 abbrev pub _≈_ : State → State → Type 0

@@ -10,15 +10,15 @@ use lib.Dec.{eqb, eqb→eq, leb, leb→le, le→leb, not-T}
 use lib.ListN.{length, take}
 use lib.Seq.{getD-take, length-take-le}
 use native.Mathlib.Omega.{arith}
 use Rattle.planning.specs.Basics.{Check, refuse, check, andThen, inOrder, answer, bitAt, bitsAt, holdsField}
 use Rattle.planning.specs.Record.{variablesIn, actionsIn, preconditionsIn, effectsIn, effectsFrom, actionEnd, actionsEnd, fieldCheck, headerChecks}
 use Rattle.planning.specs.Record.{variableChecks, variablesChecks, countIn, factChecks, factsChecks, actionChecks, actionsChecks, endsAt, recordEnd}
 use Rattle.planning.specs.Record.{recordChecks, recordCheck}
 use Rattle.planning.specs.Calls.{planCall}
-use Rattle.planning.proofs.Tests.{and-l, and-r}
-use Rattle.planning.proofs.Checks.{check-none, check-pass, check-fail, Passed, inOrder-passed, inOrder-++}
-use Rattle.planning.proofs.Fields.{bitsAt-below, actionEnd-le, actionsEnd-le}
-use Rattle.planning.proofs.Sizes.{record-length}
+use Rattle.laws.proofs.Tests.{and-l, and-r}
+use Rattle.laws.proofs.Checks.{check-none, check-pass, check-fail, Passed, inOrder-passed, inOrder-++}
+use Rattle.laws.proofs.Fields.{bitsAt-below, actionEnd-le, actionsEnd-le}
+use Rattle.laws.proofs.Sizes.{record-length}
 
 -- bytes are left over
 ends-long : (s : List ℕ) (p : ℕ) → 49316 ≤ length s → p ≤ 394518 → check (endsAt s p) 6 p ≡ refuse 6 p

@@ -10,15 +10,15 @@ use mathlib.Core.Option.{Option, none, some}
 use lib.Dec.{T, T-not, eqb, eqb→eq, eqb-refl}
 use lib.ListN.{length}
 use native.Mathlib.Omega.{arith}
 use Rattle.planning.specs.Record.{Fact, Action, Task}
 use Rattle.planning.specs.Runs.{State, has, holds, step, actions, act, relaxed, initial, goals, run, runs, isPlan, runBy, runsBy}
 use Rattle.planning.specs.Relaxed.{addable, forwardRun, forwardEnd, reachesGoals, firstAchiever, is, reachedNeeded, Kept, keep, relaxedPlan}
-use Rattle.planning.proofs.Tests.{T→true, F→false, or-l, or-r, and-l, and-r, and-i, T-cases}
-use Rattle.planning.proofs.Facts.{_⊆_, has-nil, has-cases, holds→sub, sub→holds}
-use Rattle.planning.proofs.Steps.{step-eff, step-keep, step-cases, All}
-use Rattle.planning.proofs.Formed.{Formed}
-use Rattle.planning.proofs.Plans.{isPlan-intro}
-use Rattle.planning.proofs.Forward.{Once, forwardRun-ran, forwardRun-length, forwardRun-once}
+use Rattle.laws.proofs.Tests.{T→true, F→false, or-l, or-r, and-l, and-r, and-i, T-cases}
+use Rattle.laws.proofs.Facts.{_⊆_, has-nil, has-cases, holds→sub, sub→holds}
+use Rattle.laws.proofs.Steps.{step-eff, step-keep, step-cases, All}
+use Rattle.laws.proofs.Formed.{Formed}
+use Rattle.laws.proofs.Plans.{isPlan-intro}
+use Rattle.laws.proofs.Forward.{Once, forwardRun-ran, forwardRun-length, forwardRun-once}
 
 module _ (act : ℕ → Action) where
   -- at each entry of the list, run from the state s, the table names the entry for its effects that are new, and for no other effect

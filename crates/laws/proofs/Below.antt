@@ -9,8 +9,8 @@ use lib.Dec.{T}
 use native.Mathlib.Omega.{arith}
 use native.Mathlib.Decide.{ℕ-discrete, decLt}
 use native.Mathlib.Nat.{mul-assoc}
 use Rattle.planning.specs.Basics.{someBelow, oneIf, tally, first, total, times}
-use Rattle.planning.proofs.Tests.{or-l, or-r, or-cases}
+use Rattle.laws.proofs.Tests.{or-l, or-r, or-cases}
 
 -- below a successor
 pub below-cases : (i n : ℕ) → i < suc n → (i < n) ⊎ (i ≡ n)

@@ -8,20 +8,20 @@ use native.Mathlib.Omega.{arith}
 use lib.Dec.{leb, le→leb}
 use lib.ListN.{length, take}
 use lib.Seq.{take-append-le, take-append-seam}
 use Rattle.planning.specs.Basics.{Answer, refused, done}
 use Rattle.planning.specs.Record.{taskOf, recordCheck}
 use Rattle.planning.specs.Runs.{real, act, initial}
 use Rattle.planning.specs.Relaxed.{forwardRun, factsReached, relaxedPlan}
 use Rattle.planning.specs.Calls.{lent, capacity, roomCheck, forwardCall, relaxCall, relaxList, Planned, planned, planOf, planCall, planList, runnable}
 use Rattle.planning.specs.Listing.{line, reachedWord, relaxedWord, planWord, refusedWord, verdictWord, listing, listingOf}
-use Rattle.planning.proofs.Checks.{check-pass, answer-done, answer-passed}
-use Rattle.planning.proofs.Formed.{formed-of}
-use Rattle.planning.proofs.Forward.{forwardRun-length}
-use Rattle.planning.proofs.Achievers.{relaxedPlan-length}
-use Rattle.planning.proofs.Plans.{stepsRun-le}
-use Rattle.planning.proofs.Sizes.{addable-le, record-length}
-use Rattle.planning.proofs.Calls.{planCall-returned}
-use Rattle.planning.proofs.Longest.{planCall-front}
+use Rattle.laws.proofs.Checks.{check-pass, answer-done, answer-passed}
+use Rattle.laws.proofs.Formed.{formed-of}
+use Rattle.laws.proofs.Forward.{forwardRun-length}
+use Rattle.laws.proofs.Achievers.{relaxedPlan-length}
+use Rattle.laws.proofs.Plans.{stepsRun-le}
+use Rattle.laws.proofs.Sizes.{addable-le, record-length}
+use Rattle.laws.proofs.Calls.{planCall-returned}
+use Rattle.laws.proofs.Longest.{planCall-front}
 
 planCall-record : (s : List ℕ) (p : Planned) → planCall s 16384 16384 16384 ≡ done p → recordCheck s ≡ none
 unfolding planCall

@@ -9,16 +9,16 @@ use mathlib.Core.Logic.{_⊎_, inl, inr, _≢_}
 use mathlib.Core.List.{List, [], _∷_, _++_}
 use lib.Dec.{T, T-not}
 use native.Mathlib.Decide.{ℕ-discrete}
 use Rattle.planning.specs.Record.{Action}
 use Rattle.planning.specs.Runs.{State, has, touches, Mode, step, relaxed}
 use Rattle.planning.specs.Painting.{reducedEffects}
-use Rattle.planning.proofs.Tests.{T-cases}
-use Rattle.planning.proofs.Facts.{_⊆_, has→touches, touches→has}
-use Rattle.planning.proofs.Steps.{step-eff, step-keep, step-cases, step-mono}
-use Rattle.planning.proofs.Arcs.{Arc, arc-reduced}
-use Rattle.planning.proofs.Walks.{Walk, walk-map, walk-append, Usable, stop, move}
-use Rattle.planning.proofs.Fill.{Sound}
-use Rattle.planning.proofs.Known.{_≈_}
+use Rattle.laws.proofs.Tests.{T-cases}
+use Rattle.laws.proofs.Facts.{_⊆_, has→touches, touches→has}
+use Rattle.laws.proofs.Steps.{step-eff, step-keep, step-cases, step-mono}
+use Rattle.laws.proofs.Arcs.{Arc, arc-reduced}
+use Rattle.laws.proofs.Walks.{Walk, walk-map, walk-append, Usable, stop, move}
+use Rattle.laws.proofs.Fill.{Sound}
+use Rattle.laws.proofs.Known.{_≈_}
 
 module _ (act : ℕ → Action) (A : ℕ) (m : Mode) (count : ℕ → ℕ) where
   -- the arc of v by action i from d to e has its return

@@ -8,11 +8,11 @@ use mathlib.Core.Bool.{Bool, true, false}
 use mathlib.Core.List.{List, [], _∷_}
 use mathlib.Core.Option.{Option, none, some}
 use lib.Dec.{T, T-not, not-T, eqb, eqb→eq, eqb-refl}
 use Rattle.planning.specs.Record.{Fact, Action}
 use Rattle.planning.specs.Runs.{has, touches, look}
 use Rattle.planning.specs.Painting.{without, reducedEffects, fits, leaves, orZero, target, arcFrom}
-use Rattle.planning.proofs.Tests.{and-l, and-r, and-i, T-cases}
-use Rattle.planning.proofs.Facts.{has-here, has-there, has-nil, has-cases, has→touches, Func, look-some, look-none, look-is}
+use Rattle.laws.proofs.Tests.{and-l, and-r, and-i, T-cases}
+use Rattle.laws.proofs.Facts.{has-here, has-there, has-nil, has-cases, has→touches, Func, look-some, look-none, look-is}
 
 -- the facts of a list that are not among those of pre
 module _ (pre : List Fact) where

@@ -4,11 +4,11 @@ use Prim.Native.Nat.{ℕ, _<_}
 use mathlib.Core.Path.{_≡_}
 use mathlib.Core.List.{List, [], _∷_, _++_}
 use lib.Dec.{T}
 use Rattle.planning.specs.Record.{Action}
 use Rattle.planning.specs.Runs.{State, has, touches}
 use Rattle.planning.specs.Painting.{reducedEffects}
-use Rattle.planning.proofs.Facts.{_⊆_}
-use Rattle.planning.proofs.Steps.{All}
+use Rattle.laws.proofs.Facts.{_⊆_}
+use Rattle.laws.proofs.Steps.{All}
 
 -- moves of v, each by an action that U allows
 pub data Walk (act : ℕ → Action) (U : ℕ → Type 0) (v : ℕ) : ℕ → List ℕ → ℕ → Type 0 where

@@ -10,17 +10,17 @@ use mathlib.Core.Option.{Option, none, some}
 use lib.Dec.{T, T-not}
 use lib.ListN.{length}
 use native.Mathlib.Omega.{arith}
 use Rattle.planning.specs.Basics.{tally, total}
 use Rattle.planning.specs.Record.{Fact, Action, Task}
 use Rattle.planning.specs.Runs.{State, has, holds, Mode, step, variables, actions, variable, act, count, relaxed, initial, goals, run, runs, isPlan, size, runBy, runsBy}
 use Rattle.planning.specs.Relaxed.{adds, choice, forward, addable, forwardRun, forwardEnd, reachesGoals}
-use Rattle.planning.proofs.Tests.{and-l, and-r, and-i, T-cases}
-use Rattle.planning.proofs.Below.{tally-le, tally-cases, tally-pos, tally-sub, total-le, total-lt, total-pred, total-one}
-use Rattle.planning.proofs.Facts.{_⊆_, holds→sub, sub→holds, holds-missing}
-use Rattle.planning.proofs.Steps.{step-eff, step-keep, step-cases, run-grows, All, all-map}
-use Rattle.planning.proofs.Formed.{Formed, sorted-has, initial-holds}
-use Rattle.planning.proofs.Choice.{Chosen, choice-chosen}
-use Rattle.planning.proofs.Plans.{Plan, isPlan-elim, plan-mono}
+use Rattle.laws.proofs.Tests.{and-l, and-r, and-i, T-cases}
+use Rattle.laws.proofs.Below.{tally-le, tally-cases, tally-pos, tally-sub, total-le, total-lt, total-pred, total-one}
+use Rattle.laws.proofs.Facts.{_⊆_, holds→sub, sub→holds, holds-missing}
+use Rattle.laws.proofs.Steps.{step-eff, step-keep, step-cases, run-grows, All, all-map}
+use Rattle.laws.proofs.Formed.{Formed, sorted-has, initial-holds}
+use Rattle.laws.proofs.Choice.{Chosen, choice-chosen}
+use Rattle.laws.proofs.Plans.{Plan, isPlan-elim, plan-mono}
 
 -- the size of a state: at most all facts, and larger where a fact is added
 pub size-le : (nv : ℕ) (count : ℕ → ℕ) (s : State) → size nv count s ≤ total nv count

@@ -7,16 +7,16 @@ use mathlib.Core.Option.{none}
 use lib.Dec.{T, eqb, eqb→eq}
 use lib.ListN.{length}
 use native.Mathlib.Omega.{arith}
 use Rattle.planning.specs.Basics.{bitsAt}
 use Rattle.planning.specs.Record.{Task, variablesIn, actionsIn, endsAt, recordEnd, recordCheck}
 use Rattle.planning.specs.Runs.{variables, count, factsIn, costOf, costBy}
 use Rattle.planning.specs.Relaxed.{addable, forwardEnd, factsReached}
 use Rattle.planning.specs.Calls.{capacity, capacityOf}
-use Rattle.planning.proofs.Tests.{and-l}
-use Rattle.planning.proofs.Below.{total-max}
-use Rattle.planning.proofs.Fields.{taskOf-variables, taskOf-actions, actionsEnd-le}
-use Rattle.planning.proofs.Formed.{Formed, parts, formed-of}
-use Rattle.planning.proofs.Forward.{size-le}
+use Rattle.laws.proofs.Tests.{and-l}
+use Rattle.laws.proofs.Below.{total-max}
+use Rattle.laws.proofs.Fields.{taskOf-variables, taskOf-actions, actionsEnd-le}
+use Rattle.laws.proofs.Formed.{Formed, parts, formed-of}
+use Rattle.laws.proofs.Forward.{size-le}
 
 -- F is at most 64 × 63, and at most 64 × 64 facts are reached
 pub addable-le : (t : Task) → Formed t → addable t ≤ 4032

@@ -8,14 +8,14 @@ use mathlib.Core.List.{List}
 use lib.Dec.{leb, le→leb}
 use lib.ListN.{length}
 use native.Mathlib.Omega.{arith}
 use Rattle.planning.specs.Record.{Task, taskOf}
 use Rattle.planning.specs.Runs.{black}
 use Rattle.planning.specs.Relaxed.{reachesGoals}
 use Rattle.planning.specs.Calls.{capacityOf, planOf, planCall}
 use Rattle.planning.specs.Existence.{RedBlackPlan, Complete, Demand3}
-use Rattle.planning.proofs.Formed.{Formed, formed-of}
-use Rattle.planning.proofs.Forward.{unsolvable-none}
-use Rattle.planning.proofs.Calls.{planOf-is-plan, planOf-length, planCall-none, planCall-long, planCall-done}
+use Rattle.laws.proofs.Formed.{Formed, formed-of}
+use Rattle.laws.proofs.Forward.{unsolvable-none}
+use Rattle.laws.proofs.Calls.{planOf-is-plan, planOf-length, planCall-none, planCall-long, planCall-done}
 
 pub demand3 : (s : List ℕ) (n w m : ℕ) → Demand3 s n w m (planCall s n w m) (planOf (taskOf s))
 demand3 s n w m rec acy ret = go (reachesGoals t) refl (leb (length l) (capacityOf n w m)) refl

@@ -6,10 +6,10 @@ use mathlib.Core.Logic.{_⊎_, inl, inr}
 use mathlib.Core.Bool.{Bool, _&&_}
 use lib.Dec.{T, eqb, eqb→eq, eqb-refl}
 use native.Mathlib.Omega.{arith}
 use Rattle.planning.specs.Basics.{someBelow, tally, reach}
 use Rattle.planning.specs.Painting.{onCycle}
-use Rattle.planning.proofs.Tests.{or-l, or-r, or-cases, and-l, and-r, and-i}
-use Rattle.planning.proofs.Below.{some-intro, some-elim, tally-cases, tally-full, tally-pos}
+use Rattle.laws.proofs.Tests.{or-l, or-r, or-cases, and-l, and-r, and-i}
+use Rattle.laws.proofs.Below.{some-intro, some-elim, tally-cases, tally-full, tally-pos}
 
 module _ (n : ℕ) (adj : ℕ → ℕ → Bool) where
   pub reach-here : (k c : ℕ) → T (reach n adj k c c)

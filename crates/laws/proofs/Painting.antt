@@ -12,26 +12,26 @@ use lib.ListN.{length}
 use native.Mathlib.Omega.{arith}
 use native.Mathlib.Nat.{mul-le-mul-left, mul-le-mul-right}
 use native.Mathlib.Decide.{ℕ-discrete, decLt}
 use Rattle.planning.specs.Basics.{someBelow}
 use Rattle.planning.specs.Record.{Fact, Variable, Task}
 use Rattle.planning.specs.Runs.{has, touches, holds, variables, actions, variable, act, count, relaxed, black, initial, goals, isPlan}
 use Rattle.planning.specs.Painting.{reducedEffects, causalArc, blackArc, onCycle, cyclic, target, arcFrom, outside, returnBy, lacksReturn, unreturned}
 use Rattle.planning.specs.Repair.{known, order, stages, repaired, searches}
 use Rattle.planning.specs.Existence.{share, blackProduct, blackCount, searchBound}
-use Rattle.planning.proofs.Tests.{or-l, or-r, and-l, and-r, and-i, T-cases}
-use Rattle.planning.proofs.Below.{some-intro, some-elim, first-none, tally-le, tally-sub, times-same}
-use Rattle.planning.proofs.Graph.{reach-here, reach-move, onCycle-of}
-use Rattle.planning.proofs.Facts.{has-here, has-there, has-cases, has-++, holds→sub, has→touches}
-use Rattle.planning.proofs.Fields.{variable-past}
-use Rattle.planning.proofs.Formed.{Formed, sorted-func, pre-func, eff-func, eff-below, goals-sorted, initial-holds, initial-elim}
-use Rattle.planning.proofs.Plans.{isPlan-elim, isPlan-intro}
-use Rattle.planning.proofs.Arcs.{arcFrom-elim, arcFrom-intro}
-use Rattle.planning.proofs.Walks.{Walk, Usable, stop}
-use Rattle.planning.proofs.Fill.{product}
-use Rattle.planning.proofs.Known.{known-start}
-use Rattle.planning.proofs.Conn.{Returns, Invertible, Inv, Conn, inv-same, conn-same}
-use Rattle.planning.proofs.Order.{untaken, clientsFirst-ordered, clientsFirst-product, clientsFirst-length}
-use Rattle.planning.proofs.Repair.{Red, Accepted, repairFrom, repairFrom-leads, repairFrom-short, searchesFrom-short}
+use Rattle.laws.proofs.Tests.{or-l, or-r, and-l, and-r, and-i, T-cases}
+use Rattle.laws.proofs.Below.{some-intro, some-elim, first-none, tally-le, tally-sub, times-same}
+use Rattle.laws.proofs.Graph.{reach-here, reach-move, onCycle-of}
+use Rattle.laws.proofs.Facts.{has-here, has-there, has-cases, has-++, holds→sub, has→touches}
+use Rattle.laws.proofs.Fields.{variable-past}
+use Rattle.laws.proofs.Formed.{Formed, sorted-func, pre-func, eff-func, eff-below, goals-sorted, initial-holds, initial-elim}
+use Rattle.laws.proofs.Plans.{isPlan-elim, isPlan-intro}
+use Rattle.laws.proofs.Arcs.{arcFrom-elim, arcFrom-intro}
+use Rattle.laws.proofs.Walks.{Walk, Usable, stop}
+use Rattle.laws.proofs.Fill.{product}
+use Rattle.laws.proofs.Known.{known-start}
+use Rattle.laws.proofs.Conn.{Returns, Invertible, Inv, Conn, inv-same, conn-same}
+use Rattle.laws.proofs.Order.{untaken, clientsFirst-ordered, clientsFirst-product, clientsFirst-length}
+use Rattle.laws.proofs.Repair.{Red, Accepted, repairFrom, repairFrom-leads, repairFrom-short, searchesFrom-short}
 
 pub black-inside : (t : Task) (v : ℕ) → T (black t v) → v < variables t
 unfolding black

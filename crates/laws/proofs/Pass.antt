@@ -11,15 +11,15 @@ use mathlib.Core.Option.{Option, none, some}
 use lib.Dec.{T, T-not}
 use lib.ListN.{length, length-append}
 use native.Mathlib.Omega.{arith}
 use Rattle.planning.specs.Record.{Fact, Action}
 use Rattle.planning.specs.Runs.{State, has, touches, look, Mode, step}
 use Rattle.planning.specs.Painting.{reducedEffects}
 use Rattle.planning.specs.Repair.{toward, after, pass}
-use Rattle.planning.proofs.Tests.{T-cases}
-use Rattle.planning.proofs.Facts.{touches→has, Func, look-some, look-none}
-use Rattle.planning.proofs.Steps.{step-eff, step-keep, step-at, All}
-use Rattle.planning.proofs.Arcs.{unchanged}
-use Rattle.planning.proofs.Walks.{Walk, stop, move}
+use Rattle.laws.proofs.Tests.{T-cases}
+use Rattle.laws.proofs.Facts.{touches→has, Func, look-some, look-none}
+use Rattle.laws.proofs.Steps.{step-eff, step-keep, step-at, All}
+use Rattle.laws.proofs.Arcs.{unchanged}
+use Rattle.laws.proofs.Walks.{Walk, stop, move}
 
 -- the facts of the list on the variables of Q are in the state
 abbrev pub HoldsOn : (ℕ → Type 0) → State → List Fact → Type 0

@@ -10,22 +10,22 @@ use lib.Dec.{T, leb, ltb, le→leb}
 use lib.ListN.{length}
 use native.Mathlib.Omega.{arith}
 use native.Mathlib.Nat.{mul-le-mul-right}
 use Rattle.planning.specs.Basics.{check, refuseAt, Answer, refused, done}
 use Rattle.planning.specs.Record.{Task, taskOf, recordCheck}
 use Rattle.planning.specs.Runs.{State, holds, step, actions, act, relaxed, initial, goals, run, runs, allBelow, isPlan, runBy, runsBy}
 use Rattle.planning.specs.Relaxed.{reachesGoals, factsReached, relaxedPlan}
 use Rattle.planning.specs.Painting.{cyclic, unreturned, acyclicCheck, returnCheck}
 use Rattle.planning.specs.Repair.{repaired, searches, marks}
 use Rattle.planning.specs.Calls.{lent, lentBytes, capacityOf, lengthCheck, roomCheck, goalsCheck, relaxedFault, relaxedCheck, Planned, planned}
 use Rattle.planning.specs.Calls.{repairCall, repairList, repairMarks, planOf, planCall}
 use Rattle.planning.specs.Existence.{blackProduct, searchBound, stepBound, RedBlackPlan, Bounded, searchesIn, Ceiling, Recovered, Recovers}
-use Rattle.planning.proofs.Tests.{T→true, true→T, and-l, and-r, and-i}
-use Rattle.planning.proofs.Checks.{check-none, check-pass, refuseAt-none, answer-done, answer-refused, answer-passed, here, later}
-use Rattle.planning.proofs.Formed.{Formed, formed-of}
-use Rattle.planning.proofs.Achievers.{relaxedPlan-is-plan, relaxedPlan-length}
-use Rattle.planning.proofs.Sizes.{capacityOf-le}
-use Rattle.planning.proofs.Marks.{unmarked-repaired, length-marks, relaxed-le}
-use Rattle.planning.proofs.Painting.{repaired-is-plan, repaired-length, searches-few}
+use Rattle.laws.proofs.Tests.{T→true, true→T, and-l, and-r, and-i}
+use Rattle.laws.proofs.Checks.{check-none, check-pass, refuseAt-none, answer-done, answer-refused, answer-passed, here, later}
+use Rattle.laws.proofs.Formed.{Formed, formed-of}
+use Rattle.laws.proofs.Achievers.{relaxedPlan-is-plan, relaxedPlan-length}
+use Rattle.laws.proofs.Sizes.{capacityOf-le}
+use Rattle.laws.proofs.Marks.{unmarked-repaired, length-marks, relaxed-le}
+use Rattle.laws.proofs.Painting.{repaired-is-plan, repaired-length, searches-few}
 
 -- a list without a fault: entries below A that apply in turn, and the goals at the end
 relaxedFault-none : (t : Task) (s : State) (k : ℕ) (l : List ℕ) → relaxedFault t s k l ≡ none

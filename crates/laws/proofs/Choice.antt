@@ -7,12 +7,12 @@ use mathlib.Core.Bool.{Bool, not, _&&_}
 use mathlib.Core.Option.{Option, none, some}
 use lib.Dec.{T, T-not, not-T, ltb, ltb→lt, lt→ltb}
 use native.Mathlib.Omega.{arith}
 use Rattle.planning.specs.Basics.{someBelow}
 use Rattle.planning.specs.Record.{Action}
 use Rattle.planning.specs.Runs.{State}
 use Rattle.planning.specs.Relaxed.{adds, cheapest, choice}
-use Rattle.planning.proofs.Tests.{and-l, and-r, and-i, T-cases}
-use Rattle.planning.proofs.Below.{some-intro, some-elim, First?, first-is, first-some-is, first-none-is}
+use Rattle.laws.proofs.Tests.{and-l, and-r, and-i, T-cases}
+use Rattle.laws.proofs.Below.{some-intro, some-elim, First?, first-is, first-some-is, first-none-is}
 
 module _ (act : ℕ → Action) (A : ℕ) (s : State) where
   -- action j adds a fact and costs less than i
