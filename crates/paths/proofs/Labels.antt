@@ -5,11 +5,12 @@
 -- best path does not come to an open one.
 use mathlib.Core.Path.{_≡_, refl, sym, ap, _∙_, subst}
 use mathlib.Core.Logic.{_⊎_, inl, inr, _≢_}
-use mathlib.Core.Bool.{false, not}
+use mathlib.Core.Bool.{Bool, true, false, not}
 use mathlib.Core.List.{List, [], _∷_}
 use Prim.Native.Nat.{ℕ, zero, suc, _+_, _*_, _/_, _%_, _<_, _≤_}
 use native.Mathlib.Omega.{arith}
 use native.Mathlib.Decide.{ℕ-discrete, decLt}
+use borrow.Author.Tests.{eq-eqb, ne-eqb}
 use lib.Dec.{T, T-not}
 use lib.ListN.{length, getD}
 use Rattle.planning.specs.Record.{Task}
@@ -20,9 +21,22 @@ use Rattle.laws.proofs.Tests.{T-cases}
 use Rattle.laws.proofs.Formed.{Formed}
 use Rattle.laws.proofs.Best.{Better, Best, arcs-inside, best-cases, best-of, best-short, best-onward, path-cons, path-uncons, path-nil, path-here}
 use Rattle.state.specs.Sets.{inSet}
-use Rattle.paths.specs.Paths.{leadOf, leadTo, pathsOf}
-use Rattle.paths.specs.Labels.{unreached, through, leadBy, Into, Done, Settled}
-use Rattle.paths.proofs.Marking.{lead-none, lead-some}
+use Rattle.search.specs.Search.{unreached, through, Into, Done, Settled}
+use Rattle.paths.specs.Paths.{leadOf, leadTo, pathsOf, unknown, leadBy}
+
+-- the lead in a label
+module _ (b : Bool) (l c : ℕ) where
+  pub lead-open : b ≡ true → unknown c ≡ leadBy b l c
+  unfolding leadBy
+  lead-open e = rw e refl
+
+  pub lead-none : b ≡ false → l ≡ unreached → c ≡ leadBy b l c
+  unfolding leadBy
+  lead-none e z = rw (e, eq-eqb l unreached z, leadBy) refl
+
+  pub lead-some : b ≡ false → (l ≡ unreached → ⊥) → l % 65536 ≡ leadBy b l c
+  unfolding leadBy
+  lead-some e n = rw (e, ne-eqb l unreached n, leadBy) refl
 
 div-le : (a m k : ℕ) → a ≤ m → m / 65536 ≤ k → a / 65536 ≤ k
 div-le a m k h b = omega arith

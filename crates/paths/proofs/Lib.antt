@@ -1,10 +1,5 @@
-pub mod Sets
 pub mod Facts
-pub mod Marking
-pub mod Arcs
 pub mod Labels
-pub mod Arriving
-pub mod Settling
 pub mod Walking
 pub mod Memos
 pub mod Needing

@@ -18,8 +18,8 @@ use Rattle.laws.proofs.Below.{some-intro, some-elim}
 use Rattle.laws.proofs.Formed.{Formed}
 use Rattle.laws.proofs.Painting.{black-inside}
 use Rattle.state.specs.Sets.{inSet}
-use Rattle.paths.specs.Paths.{unknown, Leads, fewValues, memoFor, slot, leadIn, Memo, Leading, leadTo}
-use Rattle.paths.specs.Labels.{leadBy, Done, Settled}
+use Rattle.search.specs.Search.{Done, Settled}
+use Rattle.paths.specs.Paths.{leadTo, unknown, leadBy, Leads, fewValues, memoFor, slot, leadIn, Memo, Leading}
 use Rattle.paths.proofs.Labels.{settled-lead}
 use Rattle.paths.proofs.Walking.{lead-moves}
 

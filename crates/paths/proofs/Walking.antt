@@ -17,9 +17,9 @@ use Rattle.planning.specs.Painting.{target}
 use Rattle.planning.specs.Repair.{usableArc, bestIn, bestPath}
 use Rattle.laws.proofs.Formed.{Formed}
 use Rattle.laws.proofs.Best.{best-onward, arcs-inside}
+use Rattle.search.proofs.Arcs.{arc-leaves}
 use Rattle.paths.specs.Paths.{pathsOf, leadOf, leadTo, unknown, Put}
 use Rattle.paths.specs.declared.Written.the-variants.{Upto}
-use Rattle.paths.proofs.Arcs.{arc-leaves}
 
 -- the path to where the variable is has no moves, and nothing is written
 path-none : (t : Task) (K : State) (v c d : ℕ) → c ≡ d → pathsOf t K v c d ≡ []

@@ -4,27 +4,17 @@ use mathlib.Core.Logic.{_≢_}
 use mathlib.Core.Bool.{Bool, true, false, not, _&&_, _||_}
 use mathlib.Core.List.{List, [], _∷_, _++_}
 use Prim.Native.Nat.{ℕ, _+_, _*_, _%_, _<_, _≤_}
-use lib.Dec.{T, ltb}
+use lib.Dec.{T, eqb, ltb}
 use lib.ListN.{length, getD, take}
 use Rattle.planning.specs.Basics.{someBelow}
 use Rattle.planning.specs.Record.{Fact, Action, Task}
-use Rattle.planning.specs.Runs.{State, touches, look, holds, variables, actions, count, act, black}
-use Rattle.planning.specs.Painting.{target, fits}
+use Rattle.planning.specs.Runs.{State, touches, variables, actions, count, act, black}
+use Rattle.planning.specs.Painting.{target}
 use Rattle.planning.specs.Repair.{bestPath}
 use Rattle.state.specs.Sets.{inSet}
+use Rattle.search.specs.Search.{unreached}
 use Rattle.paths.specs.declared.Written.{Written}
 use Rattle.paths.specs.declared.Written.the-variants.{Upto, Long}
-
--- r is the least member of the set from a on, 64 if there is none
-pub record Member (set a r : ℕ) : Type 0 where
-  pub within : r ≤ 64
-  pub from : a ≤ r
-  pub member : r < 64 → T (inSet set r)
-  pub skipped : (x : ℕ) → a ≤ x → x < r → T (inSet set x) → ⊥
-
--- action i is usable and gives an arc of v from c, or stays at c
-unfoldable pub sourceOf : Task → State → ℕ → ℕ → ℕ → Bool
-sourceOf t K v i c = holds K (act t i .pre) && fits (look (act t i .pre) v) c
 
 -- the best paths of v along usable arcs
 abbrev pub pathsOf : Task → State → ℕ → ℕ → ℕ → List ℕ
@@ -42,6 +32,10 @@ leadTo t K v d c = leadOf (act t) v c (pathsOf t K v c d)
 -- what stands for the lead from c where it is not known: action 1 from c to c, which no path has
 abbrev pub unknown : ℕ → ℕ
 unknown c = 64 + c
+
+-- the lead that a label of c has: unknown where c is open, c where no path was found
+unfoldable pub leadBy : Bool → ℕ → ℕ → ℕ
+leadBy unsettled l c = elim unsettled [ true ↦ unknown c | false ↦ elim (eqb l unreached) [ true ↦ c | false ↦ l % 65536 ] ]
 
 -- leads to d, each unknown or the best path's; and where one is known, so is that of the value to which it leads
 abbrev pub Leads : Task → State → ℕ → ℕ → (ℕ → ℕ) → Type 0

@@ -1,6 +1,6 @@
 use borrow.Author.Needs.{needs}
 use mathlib.Core.Path.{sym, _∙_}
-use Rattle.paths.proofs.Marking.{lead-open, lead-none, lead-some}
+use Rattle.paths.proofs.Labels.{lead-open, lead-none, lead-some}
 use Rattle.paths.proofs.lead.Statement.{statement}
 use Rattle.paths.proofs.lead.Tie as tie
 

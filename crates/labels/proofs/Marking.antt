@@ -2,16 +2,14 @@
 use mathlib.Core.Path.{_≡_, refl, _∙_}
 use mathlib.Core.Bool.{Bool, true, false}
 use mathlib.Core.List.{List}
-use Prim.Native.Nat.{ℕ, _+_, _%_, _<_, _≤_, min}
+use Prim.Native.Nat.{ℕ, _+_, _<_, _≤_, min}
 use native.Mathlib.Omega.{arith}
 use native.Mathlib.Decide.{ℕ-discrete, decLt}
-use borrow.Author.Tests.{eq-eqb, ne-eqb}
 use lib.Dec.{T}
 use lib.ListN.{length, getD, set, length-set}
 use lib.Seq.{getD-set-same, getD-set-other}
 use Rattle.state.specs.Sets.{inSet}
-use Rattle.paths.specs.Paths.{Member, unknown}
-use Rattle.paths.specs.Labels.{unreached, leadBy, lower}
+use Rattle.labels.specs.Labels.{Member, lower}
 
 pub record Marking (old labels : List ℕ) (m l c : ℕ) : Type 0 where
   pub within : c ≤ 64
@@ -56,17 +54,3 @@ module _ (old labels : List ℕ) (m l c : ℕ) (g : Marking old labels m l c) wh
 
   pub marking-end : 64 ≤ c → (x : ℕ) → x < 64 → getD labels x 0 ≡ lower (inSet m x) l (getD old x 0)
   marking-end h x b = g .marked x (omega arith)
-
--- the lead in a label
-module _ (b : Bool) (l c : ℕ) where
-  pub lead-open : b ≡ true → unknown c ≡ leadBy b l c
-  unfolding leadBy
-  lead-open e = rw e refl
-
-  pub lead-none : b ≡ false → l ≡ unreached → c ≡ leadBy b l c
-  unfolding leadBy
-  lead-none e z = rw (e, eq-eqb l unreached z, leadBy) refl
-
-  pub lead-some : b ≡ false → (l ≡ unreached → ⊥) → l % 65536 ≡ leadBy b l c
-  unfolding leadBy
-  lead-some e n = rw (e, ne-eqb l unreached n, leadBy) refl

@@ -1,17 +1,20 @@
--- Labels: for each value the key of a path to the wanted one, cost × 64 + moves, times 65,536, and the path's lead.
+-- Labels: for each value the key of a path to the wanted one, cost × 64 + moves, times 65,536, and the path's first action and its target.
 use mathlib.Core.Path.{_≡_}
 use mathlib.Core.Logic.{_⊎_, _≢_}
-use mathlib.Core.Bool.{Bool, true, false}
+use mathlib.Core.Bool.{Bool, _&&_}
 use mathlib.Core.List.{List}
-use Prim.Native.Nat.{ℕ, _+_, _*_, _/_, _%_, _<_, _≤_, min}
-use lib.Dec.{T, eqb}
+use Prim.Native.Nat.{ℕ, _+_, _*_, _/_, _<_, _≤_}
+use lib.Dec.{T}
 use lib.ListN.{length, getD}
 use Rattle.planning.specs.Record.{Task}
-use Rattle.planning.specs.Runs.{State, actions, count, act}
-use Rattle.planning.specs.Painting.{target}
+use Rattle.planning.specs.Runs.{State, look, holds, actions, count, act}
+use Rattle.planning.specs.Painting.{target, fits}
 use Rattle.planning.specs.Repair.{usableArc}
 use Rattle.state.specs.Sets.{inSet}
-use Rattle.paths.specs.Paths.{unknown}
+
+-- action i is usable and gives an arc of v from c, or stays at c
+unfoldable pub sourceOf : Task → State → ℕ → ℕ → ℕ → Bool
+sourceOf t K v i c = holds K (act t i .pre) && fits (look (act t i .pre) v) c
 
 -- where no path was found; what a move adds to a key at most, 64 × 65,535 + 1; a bound on keys, 64 such moves
 abbrev pub unreached : ℕ
@@ -26,21 +29,6 @@ highest = 268431424
 -- the label by action i to the value x of this key
 unfoldable pub through : ℕ → ℕ → ℕ → ℕ → ℕ
 through key cost i x = (key + 64 * cost + 1) * 65536 + (64 * i + x)
-
--- the lead that a label of c has: unknown where c is open, c where no path was found
-unfoldable pub leadBy : Bool → ℕ → ℕ → ℕ
-leadBy unsettled l c = elim unsettled [ true ↦ unknown c | false ↦ elim (eqb l unreached) [ true ↦ c | false ↦ l % 65536 ] ]
-
--- the lesser of two numbers where the test holds
-unfoldable pub lower : Bool → ℕ → ℕ → ℕ
-lower true l x = min l x
-lower false l x = x
-
--- r is a member of the set with the least label, 64 if there is none
-pub record Nearest (labels : List ℕ) (front r : ℕ) : Type 0 where
-  pub within : r ≤ 64
-  pub member : r < 64 → T (inSet front r)
-  pub least : (c : ℕ) → c < 64 → T (inSet front c) → (r < 64) × (getD labels r 0 ≤ getD labels c 0)
 
 -- m is the label of c by a usable arc into x, whose key is given
 abbrev pub Into : Task → State → ℕ → ℕ → ℕ → ℕ → ℕ → Type 0

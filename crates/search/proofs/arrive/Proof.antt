@@ -5,9 +5,9 @@ use Prim.Native.Nat.{_-_}
 use native.Mathlib.Omega.{arith}
 use Rattle.task.specs.Task.{taskIn}
 use Rattle.state.specs.Sets.{setsOf}
-use Rattle.paths.proofs.Arriving.{Arriving, Chain, chain-place, chain-inside, arriving-start, arriving-here, arriving-above, arriving-turn, arriving-end}
-use Rattle.paths.proofs.arrive.Statement.{statement}
-use Rattle.paths.proofs.arrive.Tie as tie
+use Rattle.search.proofs.Arriving.{Arriving, Chain, chain-place, chain-inside, arriving-start, arriving-here, arriving-above, arriving-turn, arriving-end}
+use Rattle.search.proofs.arrive.Statement.{statement}
+use Rattle.search.proofs.arrive.Tie as tie
 
 abbrev Inv-loop : tie.InvT-loop
 Inv-loop task ever labels₀ v x rest front key i₀ g₀ labels i g = Arriving (taskIn task) (setsOf ever) v x key rest front labels₀ labels g i

@@ -2,9 +2,9 @@
 use borrow.Author.Needs.{needs}
 use Prim.Native.Nat.{_-_}
 use native.Mathlib.Omega.{arith}
-use Rattle.paths.proofs.Marking.{Marking, marking-start, marking-turn, marking-end}
-use Rattle.paths.proofs.mark.Statement.{statement}
-use Rattle.paths.proofs.mark.Tie as tie
+use Rattle.labels.proofs.Marking.{Marking, marking-start, marking-turn, marking-end}
+use Rattle.labels.proofs.mark.Statement.{statement}
+use Rattle.labels.proofs.mark.Tie as tie
 
 abbrev Inv-loop : tie.InvT-loop
 Inv-loop labels₀ set l c₀ labels c = Marking labels₀ labels set l c

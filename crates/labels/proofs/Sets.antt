@@ -13,7 +13,7 @@ use lib.Dec.{T, eqb, ltb}
 use lib.Pow.{shr-shr, pow-pos}
 use Rattle.state.specs.Sets.{inSet}
 use Rattle.state.proofs.Members.{inSet-empty, inSet-xor, xor}
-use Rattle.paths.specs.Paths.{Member}
+use Rattle.labels.specs.Labels.{Member}
 
 inSet-zero : (m : ℕ) → inSet m 0 ≡ eqb (m % 2) 1
 unfolding inSet

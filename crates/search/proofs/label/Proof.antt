@@ -7,9 +7,9 @@ use Rattle.planning.specs.Record.{Action}
 use Rattle.planning.specs.Runs.{act}
 use Rattle.task.specs.Task.{actionIn, taskIn}
 use Rattle.task.proofs.Reading.{taskIn-act}
-use Rattle.paths.specs.Labels.{through}
-use Rattle.paths.proofs.label.Statement.{statement}
-use Rattle.paths.proofs.label.Tie as tie
+use Rattle.search.specs.Search.{through}
+use Rattle.search.proofs.label.Statement.{statement}
+use Rattle.search.proofs.label.Tie as tie
 
 cost-is : (c : tie.After-cost) → let s = c .before .before in c .cost .result ≡ act (taskIn (s .args .task .now)) (s .args .i) .cost
 unfolding actionIn

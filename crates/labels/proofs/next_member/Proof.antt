@@ -1,9 +1,9 @@
 use Prim.Native.Nat.{_/_, _^_}
 use lib.Count.{trailing-le}
 use native.Mathlib.Omega.{arith}
-use Rattle.paths.proofs.Sets.{member-end, member-found, member-none}
-use Rattle.paths.proofs.next_member.Statement.{statement}
-use Rattle.paths.proofs.next_member.Tie as tie
+use Rattle.labels.proofs.Sets.{member-end, member-found, member-none}
+use Rattle.labels.proofs.next_member.Statement.{statement}
+use Rattle.labels.proofs.next_member.Tie as tie
 
 returns : tie.Need-returns
 returns c = member-end _ _ (c .if1 .taken)

@@ -22,9 +22,9 @@ use Rattle.task.specs.Task.{taskIn}
 use Rattle.task.specs.Links.{Next, Changes, Prepared, headAt, nextAt}
 use Rattle.state.specs.Sets.{inSet}
 use Rattle.state.proofs.Members.{inSet-or}
-use Rattle.paths.specs.Paths.{sourceOf}
-use Rattle.paths.specs.Labels.{through, lower, Into, Lowered}
-use Rattle.paths.proofs.Arcs.{arc-changes, arc-target, arc-is, arc-fits}
+use Rattle.labels.specs.Labels.{lower}
+use Rattle.search.specs.Search.{sourceOf, through, Into, Lowered}
+use Rattle.search.proofs.Arcs.{arc-changes, arc-target, arc-is, arc-fits}
 
 -- one label more is noted
 module _ (rest : ℕ) (D D′ : ℕ → ℕ → Type 0) (old new new′ : List ℕ) (front grow set l : ℕ) (M : Lowered D rest old new front grow) (long : length new′ ≡ 64)

@@ -5,16 +5,16 @@ use native.Mathlib.Omega.{arith}
 use borrow.Author.Tests.{not-true, not-false}
 use mathlib.Core.List.{List}
 use lib.ListN.{length}
-use Rattle.planning.specs.Record.{Fact}
+use Rattle.planning.specs.Record.{Fact, Action}
 use Rattle.planning.specs.Runs.{look, holds, act}
-use Rattle.task.specs.Task.{factsIn, preAt, effAt, taskIn}
+use Rattle.task.specs.Task.{factsIn, preAt, effAt, actionIn, taskIn}
 use Rattle.state.specs.Sets.{setsOf}
 use Rattle.state.proofs.Listed.{Listed}
 use Rattle.state.proofs.Listing.{loaded-listed}
 use Rattle.state.proofs.Effects.{holds-fails, holds-passes, holds-end, look-here, look-later, look-end}
-use Rattle.paths.proofs.Facts.{pre-facts, usable-one, usable-any, usable-no}
-use Rattle.paths.proofs.usable_sources.Statement.{statement}
-use Rattle.paths.proofs.usable_sources.Tie as tie
+use Rattle.search.proofs.Sources.{usable-one, usable-any, usable-no}
+use Rattle.search.proofs.usable_sources.Statement.{statement}
+use Rattle.search.proofs.usable_sources.Tie as tie
 
 -- The preconditions before k are held and of other variables: what is held and asked in all is so from k on.
 abbrev Inv-loop : tie.InvT-loop
@@ -42,13 +42,14 @@ pre-start-requires : tie.Need-pre-start-requires Inv-loop μ-loop
 pre-start-requires c κs = search needs
 
 loop-holds : tie.Need-loop-holds Inv-loop μ-loop
+unfolding actionIn
 loop-holds c =
     let s = c .before .before .before in
     let a = s .args in
     let L = loaded-listed _ (s .pre .0) _ (s .pre .1) in
     let to = c .before .eff-start .ensures in
     let from = c .pre-start .ensures in
-    let pre = sym (pre-facts (a .task .now) (s .pre .0) (a .i) (s .pre .1)) in (
+    let pre = sym (ap (λ (x : Action). x .pre) (L .states)) in (
       to,
       omega (arith, from),
       omega (arith, from, to, L .pre-below),

@@ -3,9 +3,9 @@ use borrow.Author.Needs.{needs}
 use mathlib.Core.Logic.{inl, inr}
 use Prim.Native.Nat.{_-_}
 use native.Mathlib.Omega.{arith}
-use Rattle.paths.proofs.Settling.{Seeking, seeking-none, seeking-start, seeking-less, seeking-more, seeking-end}
-use Rattle.paths.proofs.nearest.Statement.{statement}
-use Rattle.paths.proofs.nearest.Tie as tie
+use Rattle.labels.proofs.Seeking.{Seeking, seeking-none, seeking-start, seeking-less, seeking-more, seeking-end}
+use Rattle.labels.proofs.nearest.Statement.{statement}
+use Rattle.labels.proofs.nearest.Tie as tie
 
 abbrev Inv-loop : tie.InvT-loop
 Inv-loop labels front r₀ least₀ c₀ r least c = Seeking labels front r least c

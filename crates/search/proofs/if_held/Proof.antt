@@ -4,8 +4,8 @@ use Rattle.planning.specs.Runs.{holds}
 use Rattle.task.specs.Task.{factsIn}
 use Rattle.state.specs.Sets.{inSet, setsOf}
 use Rattle.state.proofs.Members.{inSet-empty}
-use Rattle.paths.proofs.if_held.Statement.{statement}
-use Rattle.paths.proofs.if_held.Tie as tie
+use Rattle.search.proofs.if_held.Statement.{statement}
+use Rattle.search.proofs.if_held.Tie as tie
 
 returns : tie.Need-returns
 returns c = λ x. rw (c .if1 .taken, inSet-empty x) refl

@@ -7,10 +7,10 @@ use Rattle.laws.proofs.Formed.{Formed}
 use Rattle.laws.proofs.Painting.{black-inside}
 use Rattle.task.specs.Task.{taskIn}
 use Rattle.state.specs.Sets.{inSet, setsOf}
-use Rattle.paths.specs.Labels.{Nearest}
-use Rattle.paths.proofs.Settling.{Settling, started, near-in, near-key, none-in, taken-out, taken-fewer, settling-turn, settling-stop, settling-end}
-use Rattle.paths.proofs.settle.Statement.{statement}
-use Rattle.paths.proofs.settle.Tie as tie
+use Rattle.labels.specs.Labels.{Nearest}
+use Rattle.search.proofs.Settling.{Settling, started, near-in, near-key, none-in, taken-out, taken-fewer, settling-turn, settling-stop, settling-end}
+use Rattle.search.proofs.settle.Statement.{statement}
+use Rattle.search.proofs.settle.Tie as tie
 
 abbrev Inv-loop : tie.InvT-loop
 Inv-loop task ever labels₀ v c d whole rest₀ front₀ x₀ labels rest front x = Settling (taskIn task) (setsOf ever) v d labels rest front × Nearest labels front x

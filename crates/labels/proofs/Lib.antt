@@ -1,0 +1,3 @@
+pub mod Sets
+pub mod Marking
+pub mod Seeking

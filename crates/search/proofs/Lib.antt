@@ -1,0 +1,4 @@
+pub mod Sources
+pub mod Arcs
+pub mod Arriving
+pub mod Settling
