@@ -21,7 +21,7 @@ use Rattle.answers.specs.declared.Refusal.{Refusal}
 use Rattle.answers.proofs.Stages.{answer-done}
 use Rattle.relax.specs.Keeping.{Unfound}
 use Rattle.repair.specs.Answers.{Held}
-use Rattle.repair.proofs.Below.{all-entries}
+use Rattle.stages.proofs.Below.{all-entries}
 use Rattle.judge.specs.Answers.{Entries, callerCheck}
 use Rattle.answers.specs.declared.Planned.{Planned}
 use Rattle.answers.specs.declared.Planned.the-variants.{Plan, Refused}

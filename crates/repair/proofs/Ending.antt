@@ -1,64 +1,30 @@
--- The goals as a front part of a list of facts, and the answer from the front part of the plan list.
+-- The memo at the start, the room that is lent, and the answer from the front part of the plan list.
 use mathlib.Core.Path.{_≡_, refl, sym, ap, _∙_, subst}
 use mathlib.Core.Bool.{true, false}
-use mathlib.Core.List.{List, _++_, map}
+use mathlib.Core.List.{List, _++_}
 use Prim.Native.Nat.{ℕ, _<_, _≤_, min}
 use native.Mathlib.Omega.{arith}
 use lib.ListN.{length, take, replicate, length-replicate, getD-replicate}
-use lib.Seq.{take-length, getD-take, length-take-le, take-append-le}
+use lib.Seq.{length-take-le, take-append-le}
 use Rattle.planning.specs.Basics.{answer, refused, done}
-use Rattle.planning.specs.Record.{Fact, Task}
-use Rattle.planning.specs.Runs.{State, holds, actions, variables, count, goals}
+use Rattle.planning.specs.Record.{Task}
+use Rattle.planning.specs.Runs.{State, holds, actions, goals}
 use Rattle.planning.specs.Newest.{Values, alone}
 use Rattle.planning.specs.Repair.{repaired, marks}
 use Rattle.planning.specs.Calls.{capacity, capacityOf, planned}
-use Rattle.laws.proofs.Facts.{look-some}
-use Rattle.laws.proofs.Formed.{Formed, sorted-has, goals-sorted}
+use Rattle.laws.proofs.Formed.{Formed}
 use Rattle.lists.proofs.Laying.{capacity-le, room-fits, room-short}
-use Rattle.task.specs.Task.{factOf, factsIn}
-use Rattle.state.specs.Sets.{GoalsOf}
-use Rattle.state.specs.declared.Goals.{Goals}
-use Rattle.state.proofs.Listing.{between-inside}
-use Rattle.paths.specs.Paths.{Put, fewValues, memoFor, Memo}
+use Rattle.paths.specs.Paths.{fewValues, memoFor, Memo}
 use Rattle.paths.proofs.Memos.{memo-marks}
 use Rattle.passes.proofs.Putting.{blank-memo}
-use Rattle.paths.specs.declared.Written.{Written}
-use Rattle.passes.specs.Passes.{Fitting, factsOf, Searched}
-use Rattle.passes.specs.declared.Inserted.{Inserted}
 use Rattle.answers.specs.declared.Planned.{Planned}
 use Rattle.answers.specs.Plans.{answerOf}
 use Rattle.repair.specs.Answers.{Held}
-use Rattle.repair.specs.declared.Counts.{Counts}
-use Rattle.repair.specs.Counting.{judgedBy}
-use Rattle.repair.specs.Repairs.{Wanted, moved, movedSearches}
-use Rattle.repair.proofs.Below.{entries-all}
-use Rattle.repair.proofs.Counting.{Counted, counted-verdict}
+use Rattle.counts.specs.declared.Counts.{Counts}
+use Rattle.counts.specs.Counting.{judgedBy}
+use Rattle.stages.proofs.Below.{entries-all}
+use Rattle.counts.proofs.Counting.{Counted, counted-verdict}
 use Rattle.repair.proofs.Repairing.{Repairing, repairing-whole, repairing-searched, repairing-marked}
-
--- the goals
-module _ (t : Task) (F : Formed t) (g : Goals) (G : GoalsOf t g) (few : g .count ≤ length (g .facts)) where
-  abbrev front : List ℕ
-  front = take (g .count) (g .facts)
-
-  pub goals-are : factsOf front ≡ goals t
-  unfolding factsIn
-  goals-are = ap (map factOf) (take-length front) ∙ G .are
-
-  goals-fitting : Fitting t (goals t)
-  goals-fitting v d e = sorted-has (variables t) (count t) 0 (goals t) (goals-sorted t F) v d (look-some (goals t) v d e) .val-below
-
-  pub goals-wanted : Wanted t front
-  goals-wanted = record {
-    inside = λ k h. let b : k < g .count = omega (arith, length-take-le (g .count) (g .facts) few) in
-        rw (getD-take (g .count) (g .facts) k 0 b) (between-inside (variables t) (count t) (g .facts) (g .count) few 0 k (omega arith) b (rw (G .are) (goals-sorted t F)));
-    fitting = rw goals-are goals-fitting;
-  }
-
-  pub goals-moves : (K s : State) (plan plan′ : List ℕ) (a : ℕ) (r : Written) → Put plan plan′ a (moved t K s (factsOf front)) r → Put plan plan′ a (moved t K s (goals t)) r
-  goals-moves K s plan plan′ a r p = subst (λ (w : List Fact). Put plan plan′ a (moved t K s w) r) goals-are p
-
-  pub goals-searches : (K s : State) (r : Inserted) → Searched (movedSearches t K s (factsOf front)) r → Searched (movedSearches t K s (goals t)) r
-  goals-searches K s r p = subst (λ (w : List Fact). Searched (movedSearches t K s w) r) goals-are p
 
 -- an array of zeros is a memo without a lead, whatever is held
 module _ (t : Task) (K : State) where

@@ -14,11 +14,11 @@ use Rattle.laws.proofs.Tests.{T→true}
 use Rattle.laws.proofs.Formed.{Formed}
 use Rattle.state.specs.Sets.{setsOf, valuesOf}
 use Rattle.state.proofs.RedBlack.{step-held}
-use Rattle.repair.specs.declared.Counts.{Counts}
-use Rattle.repair.specs.declared.Glided.{Glided}
-use Rattle.repair.specs.Counting.{Onward}
-use Rattle.repair.specs.Plain.{Plain, passedBy, Glide, Glides}
-use Rattle.repair.proofs.Plainly.{plain-holds, passed-steps, passed-onward}
+use Rattle.counts.specs.declared.Counts.{Counts}
+use Rattle.counts.specs.declared.Glided.{Glided}
+use Rattle.counts.specs.Counting.{Onward}
+use Rattle.counts.specs.Plain.{Plain, passedBy, Glide, Glides}
+use Rattle.counts.proofs.Plainly.{plain-holds, passed-steps, passed-onward}
 use Rattle.repair.proofs.Repairing.{Repairing, repairing-below, repairing-applies, repairing-step}
 
 module _ {t : Task} {l₀ plan₀ plan area memo sets : List ℕ} {n a j : ℕ} (F : Formed t) where

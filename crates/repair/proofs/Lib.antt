@@ -1,10 +1,3 @@
-pub mod Values
-pub mod Below
-pub mod Filling
-pub mod Arranging
-pub mod Counting
-pub mod Marking
-pub mod Plainly
 pub mod Repairing
 pub mod Gliding
 pub mod Ending

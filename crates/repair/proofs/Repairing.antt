@@ -31,11 +31,12 @@ use Rattle.passes.specs.declared.Inserted.{Inserted}
 use Rattle.passes.specs.declared.Inserted.the-variants.{Upto, Long}
 use Rattle.passes.specs.Passes.{Entries, writtenIn, Searched}
 use Rattle.passes.proofs.Putting.{told-as, counts-as}
-use Rattle.repair.specs.declared.Counts.{Counts}
-use Rattle.repair.specs.Counting.{noCounts, Onward, Small, Few}
-use Rattle.repair.specs.Repairs.{filled, moved, stageOf, marksFor, filledSearches, movedSearches, stageSearches}
-use Rattle.repair.proofs.Below.{stage-entries, stage-searches, append-entries}
-use Rattle.repair.proofs.Counting.{Counted, counted-none, counted-few, counted-behind}
+use Rattle.counts.specs.declared.Counts.{Counts}
+use Rattle.counts.specs.Counting.{noCounts, Onward, Small, Few}
+use Rattle.counts.specs.Marks.{marksFor}
+use Rattle.stages.specs.Stages.{filled, moved, stageOf, filledSearches, movedSearches, stageSearches}
+use Rattle.stages.proofs.Below.{stage-entries, stage-searches, append-entries}
+use Rattle.counts.proofs.Counting.{Counted, counted-none, counted-few, counted-behind}
 
 same-facts : (s t : State) → s ≈ t → s ≡ t
 same-facts s t h = fun-ext (λ v. fun-ext (λ d. bool-same (s v d) (t v d) (h .0 v d) (h .1 v d)))

@@ -1,4 +1,2 @@
 pub mod Answers
-pub mod Counting
-pub mod Plain
 pub mod Repairs

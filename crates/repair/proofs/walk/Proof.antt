@@ -19,8 +19,8 @@ use Rattle.state.specs.Sets.{setsOf, valuesOf}
 use Rattle.repair.proofs.Repairing.{Repairing, repairing-start, repairing-within, repairing-few, repairing-searches, repairing-small, repairing-below, repairing-step}
 use Rattle.repair.proofs.Repairing.{Arranged, repairing-long, repairing-fits, repairing-modest, repairing-places, repairing-turn, stages-fewer, steps-fewer, rest-is, rest-entries}
 use Rattle.repair.proofs.Ending.{repairing-held, held-long}
-use Rattle.repair.specs.Plain.{Plain}
-use Rattle.repair.proofs.Plainly.{plain-none, plain-held}
+use Rattle.counts.specs.Plain.{Plain}
+use Rattle.counts.proofs.Plainly.{plain-none, plain-held}
 use Rattle.repair.proofs.Gliding.{repairing-glides}
 use Rattle.repair.proofs.walk.Statement.{statement}
 use Rattle.repair.proofs.walk.Tie as tie

@@ -1,0 +1,5 @@
+pub mod Values
+pub mod Below
+pub mod Filling
+pub mod Arranging
+pub mod Finishing
