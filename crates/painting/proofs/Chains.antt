@@ -24,7 +24,6 @@ use Rattle.state.specs.Sets.{modeOf}
 use Rattle.graph.specs.Graph.{Ordered}
 use Rattle.graph.proofs.Searches.{false-not}
 use Rattle.painting.specs.Chains.{moveOf, linkedMove, Acyclic, Linked}
-use Rattle.returns.proofs.Walks.{number}
 
 -- f is a fact of the list on a variable of m
 pub record Move (m : Mode) (fs : List Fact) (f : ℕ) : Type 0 where
