@@ -1,6 +1,4 @@
-pub mod Walks
+pub mod Moves
 pub mod Chains
-pub mod Marks
-pub mod Returns
-pub mod Keeping
-pub mod Arcs
+pub mod Lacks
+pub mod Checks

@@ -1,3 +1,2 @@
 pub mod Chains
-pub mod Returns
 pub mod Answers

@@ -2,12 +2,12 @@ use mathlib.Core.Path.{sym, _∙_}
 use native.Mathlib.Omega.{arith}
 use Rattle.state.proofs.Listing.{loaded-listed}
 use Rattle.graph.proofs.Rows.{listed-facts}
-use Rattle.painting.proofs.Walks.{all-facts}
-use Rattle.painting.proofs.Marks.{markable}
-use Rattle.painting.proofs.Chains.{colour-move, no-move, the-move}
-use Rattle.painting.proofs.Returns.{lacks-none}
-use Rattle.painting.proofs.Keeping.{ready-more}
-use Rattle.painting.proofs.Arcs.{lacking-unmarked, lacking-move}
+use Rattle.returns.proofs.Walks.{all-facts}
+use Rattle.returns.proofs.Marks.{markable}
+use Rattle.lacking.proofs.Keeping.{ready-more}
+use Rattle.painting.proofs.Chains.{the-move, no-move, colour-move}
+use Rattle.painting.proofs.Lacks.{lacks-none}
+use Rattle.painting.proofs.Checks.{lacking-unmarked, lacking-move}
 use borrow.Author.Needs.{needs}
 use Rattle.painting.proofs.is_lacking.Statement.{statement}
 use Rattle.painting.proofs.is_lacking.Tie as tie

@@ -4,8 +4,8 @@ use Prim.Native.Nat.{_-_}
 use native.Mathlib.Omega.{arith}
 use lib.ListN.{length}
 use Rattle.task.specs.Task.{taskIn}
-use Rattle.painting.proofs.Keeping.{ready-start}
-use Rattle.painting.proofs.Arcs.{Scanning, scanning-start, scanning-turn, scanning-hit, scanning-end}
+use Rattle.lacking.proofs.Keeping.{ready-start}
+use Rattle.painting.proofs.Checks.{Scanning, scanning-start, scanning-turn, scanning-hit, scanning-end}
 use borrow.Author.Needs.{needs}
 use Rattle.painting.proofs.lowest_by.Statement.{statement}
 use Rattle.painting.proofs.lowest_by.Tie as tie

@@ -1,5 +1,5 @@
 use native.Mathlib.Omega.{arith}
-use Rattle.painting.proofs.Marks.{unmarked-start}
+use Rattle.lacking.proofs.Marked.{unmarked-start}
 use borrow.Author.Needs.{needs}
 use Rattle.painting.proofs.lowest_lacking.Statement.{statement}
 use Rattle.painting.proofs.lowest_lacking.Tie as tie

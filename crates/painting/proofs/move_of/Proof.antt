@@ -7,7 +7,8 @@ use Rattle.planning.specs.Painting.{reducedEffects}
 use Rattle.task.specs.Task.{taskIn}
 use Rattle.state.proofs.Listing.{loaded-listed}
 use Rattle.graph.proofs.Rows.{listed-effects}
-use Rattle.painting.proofs.Walks.{Walking, walking-start, walking-turn, walking-hit, walking-end, walking-small, eff-facts, moveWithout, move-hit, move-skip, move-none}
+use Rattle.returns.proofs.Walks.{eff-facts, Walking, walking-start, walking-turn, walking-hit, walking-end, walking-small}
+use Rattle.painting.proofs.Moves.{moveWithout, move-hit, move-skip, move-none}
 use borrow.Author.Needs.{needs}
 use Rattle.painting.proofs.move_of.Statement.{statement}
 use Rattle.painting.proofs.move_of.Tie as tie

@@ -1,6 +1,6 @@
 use mathlib.Core.Path.{ap}
 use Rattle.answers.specs.Answers.{checkOf}
-use Rattle.painting.proofs.Arcs.{cyclic-below, seven-passes, readied-seven}
+use Rattle.painting.proofs.Checks.{cyclic-below, seven-passes, readied-seven}
 use borrow.Author.Needs.{needs}
 use Rattle.painting.proofs.prepare.Statement.{statement}
 use Rattle.painting.proofs.prepare.Tie as tie

@@ -1,4 +1,4 @@
-use Rattle.painting.proofs.Arcs.{unreturned-below, linked-acyclic, linked-rows, readied-acyclic, readied-chained, readied-eight}
+use Rattle.painting.proofs.Checks.{unreturned-below, linked-acyclic, linked-rows, readied-chained, readied-acyclic, readied-eight}
 use borrow.Author.Needs.{needs}
 use Rattle.painting.proofs.prepare_acyclic.Statement.{statement}
 use Rattle.painting.proofs.prepare_acyclic.Tie as tie

@@ -1,0 +1,4 @@
+pub mod Marked
+pub mod Complete
+pub mod Keeping
+pub mod Arcs
