@@ -14,7 +14,7 @@ ghost use lib.Dec.{T};
 ghost use Rattle.planning.specs.Runs.{has, actions};
 ghost use Rattle.planning.specs.Calls.{forwardCall, forwardList};
 ghost use Rattle.task.specs.Task.{factsIn, taskIn, Loaded};
-ghost use Rattle.task.specs.Size.{RoomIn};
+ghost use Rattle.size.specs.Size.{RoomIn};
 ghost use Rattle.state.specs.Sets.{setsOf, Facts};
 ghost use Rattle.forward.specs.Waiting.{Unmet, member, Ready, LowestIn, Lowest, With, Without, hung, placeAt, Looked, Settles, Sites, Settled, Headed, Room, Free, ByCost};
 ghost use Rattle.forward.specs.Running.{RanOf};
@@ -294,7 +294,7 @@ fn forward_in(bytes: &[u8], task: &mut [u16], plan: &mut [u16]) -> Found
     requires { ⌜ RoomIn (now bytes) (now task) ⌝ }
     ensures { λ r. ⌜ (foundOf r ≡ forwardCall (now (bytes .entry)) (length (now (plan .entry)))) × (now (plan .exit) ≡ forwardList (now (bytes .entry)) (length (now (plan .entry)))) ⌝ }
 {
-    let c = task::read(bytes, task);
+    let c = loader::read(bytes, task);
     let Checked::Refused(f) = c else {
         return forward_loaded(task, plan);
     };
@@ -306,15 +306,15 @@ fn forward_in(bytes: &[u8], task: &mut [u16], plan: &mut [u16]) -> Found
 pub fn forward(bytes: &[u8], plan: &mut [u16]) -> Found
     ensures { λ r. ⌜ (foundOf r ≡ forwardCall (now (bytes .entry)) (length (now (plan .entry)))) × (now (plan .exit) ≡ forwardList (now (bytes .entry)) (length (now (plan .entry)))) ⌝ }
 {
-    let size = task::room_for(bytes);
-    if size <= task::TINY {
-        let mut task = [0u16; task::TINY];
+    let size = size::room_for(bytes);
+    if size <= size::TINY {
+        let mut task = [0u16; size::TINY];
         return forward_in(bytes, &mut task, plan);
     }
-    if size <= task::SHORT {
-        let mut task = [0u16; task::SHORT];
+    if size <= size::SHORT {
+        let mut task = [0u16; size::SHORT];
         return forward_in(bytes, &mut task, plan);
     }
-    let mut task = [0u16; task::LONG];
+    let mut task = [0u16; size::LONG];
     forward_in(bytes, &mut task, plan)
 }

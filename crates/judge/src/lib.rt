@@ -13,7 +13,7 @@ ghost use Rattle.planning.specs.Runs.{relaxed, real, black, judged, judgement};
 ghost use Rattle.planning.specs.Calls.{judgeCall};
 ghost use Rattle.answers.specs.Answers.{valueOf};
 ghost use Rattle.task.specs.Task.{taskIn, Loaded};
-ghost use Rattle.task.specs.Size.{RoomIn};
+ghost use Rattle.size.specs.Size.{RoomIn};
 ghost use Rattle.state.specs.Sets.{setsOf, valuesOf};
 ghost use Rattle.judge.specs.Answers.{judgedOf, judgementOf, answerOf, refusalOf, Ready, leading, listCheck, callerCheck, judgedList};
 ghost use Rattle.judge.specs.Traces.{Traces, StopsAs, RunsAs, Relaxes};
@@ -255,7 +255,7 @@ fn judge_in(bytes: &[u8], task: &mut [u16], list: &[u16]) -> Judging
     requires { ⌜ RoomIn (now bytes) (now task) ⌝ }
     ensures { λ r. ⌜ answerOf r ≡ judgeCall (now (bytes .entry)) (now (list .entry)) ⌝ }
 {
-    let c = task::read(bytes, task);
+    let c = loader::read(bytes, task);
     let Checked::Refused(f) = c else {
         return judge_loaded(task, list);
     };
@@ -266,15 +266,15 @@ fn judge_in(bytes: &[u8], task: &mut [u16], list: &[u16]) -> Judging
 pub fn judge(bytes: &[u8], list: &[u16]) -> Judging
     ensures { λ r. ⌜ answerOf r ≡ judgeCall (now (bytes .entry)) (now (list .entry)) ⌝ }
 {
-    let size = task::room_for(bytes);
-    if size <= task::TINY {
-        let mut tiny = [0u16; task::TINY];
+    let size = size::room_for(bytes);
+    if size <= size::TINY {
+        let mut tiny = [0u16; size::TINY];
         return judge_in(bytes, &mut tiny, list);
     }
-    if size <= task::SHORT {
-        let mut small = [0u16; task::SHORT];
+    if size <= size::SHORT {
+        let mut small = [0u16; size::SHORT];
         return judge_in(bytes, &mut small, list);
     }
-    let mut large = [0u16; task::LONG];
+    let mut large = [0u16; size::LONG];
     judge_in(bytes, &mut large, list)
 }

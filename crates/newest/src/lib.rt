@@ -10,7 +10,7 @@ ghost use lib.ListN.{length, drop};
 ghost use Rattle.planning.specs.Newest.{tabulate};
 ghost use Rattle.planning.specs.Calls.{newestCall, newestList};
 ghost use Rattle.task.specs.Task.{taskIn, Loaded};
-ghost use Rattle.task.specs.Size.{RoomIn};
+ghost use Rattle.size.specs.Size.{RoomIn};
 ghost use Rattle.state.specs.Sets.{valuesOf};
 ghost use Rattle.newest.specs.Answers.{answerOf, emptyBy, Tells, Called};
 
@@ -70,7 +70,7 @@ fn tell_in(bytes: &[u8], task: &mut [u16], list: &[u16], room: usize) -> Board
     requires { ⌜ RoomIn (now bytes) (now task) ⌝ }
     ensures { λ r. ⌜ Called (now (bytes .entry)) (now (list .entry)) room r ⌝ }
 {
-    let c = task::read(bytes, task);
+    let c = loader::read(bytes, task);
     let Checked::Refused(f) = c else {
         return tell_loaded(task, list, room);
     };
@@ -81,16 +81,16 @@ fn tell_in(bytes: &[u8], task: &mut [u16], list: &[u16], room: usize) -> Board
 fn tell(bytes: &[u8], list: &[u16], room: usize) -> Board
     ensures { λ r. ⌜ Called (now (bytes .entry)) (now (list .entry)) room r ⌝ }
 {
-    let size = task::room_for(bytes);
-    if size <= task::TINY {
-        let mut tiny = [0u16; task::TINY];
+    let size = size::room_for(bytes);
+    if size <= size::TINY {
+        let mut tiny = [0u16; size::TINY];
         return tell_in(bytes, &mut tiny, list, room);
     }
-    if size <= task::SHORT {
-        let mut small = [0u16; task::SHORT];
+    if size <= size::SHORT {
+        let mut small = [0u16; size::SHORT];
         return tell_in(bytes, &mut small, list, room);
     }
-    let mut large = [0u16; task::LONG];
+    let mut large = [0u16; size::LONG];
     tell_in(bytes, &mut large, list, room)
 }
 

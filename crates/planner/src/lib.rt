@@ -16,7 +16,7 @@ ghost use Rattle.planning.specs.Relaxed.{relaxedPlan};
 ghost use Rattle.planning.specs.Calls.{planCall, planList, planMarks, repairCall, repairList, repairMarks, workList, planIn, marksIn, runnable, lent, lentBytes};
 ghost use Rattle.planning.specs.Existence.{Demand3, Bounded, Ceiling, Recovers};
 ghost use Rattle.task.specs.Task.{taskIn, Loaded};
-ghost use Rattle.task.specs.Size.{taskSize, RoomIn};
+ghost use Rattle.size.specs.Size.{taskSize, RoomIn};
 ghost use Rattle.task.specs.Links.{Prepared};
 ghost use Rattle.answers.specs.Plans.{answerOf, stepsOf};
 ghost use Rattle.repair.specs.Answers.{roomIn};
@@ -90,7 +90,7 @@ fn plan_in(
     requires { ⌜ RoomIn (now bytes) (now task) ⌝ }
     ensures { λ r. ⌜ Called given (now (bytes .entry)) (now (list .entry)) (roomIn (now (plan .entry)) (now (work .entry)) (now (marks .entry))) (now (plan .exit)) (now (marks .exit)) r ⌝ }
 {
-    let c = task::read(bytes, task);
+    let c = loader::read(bytes, task);
     let Checked::Refused(f) = c else {
         return plan_loaded(task, given, list, plan, work, marks);
     };
@@ -110,15 +110,15 @@ fn plan_sized(
     requires { ⌜ (recordCheck (now bytes) ≡ none → taskSize (now bytes) ≤ size) ⌝ }
     ensures { λ r. ⌜ Called given (now (bytes .entry)) (now (list .entry)) (roomIn (now (plan .entry)) (now (work .entry)) (now (marks .entry))) (now (plan .exit)) (now (marks .exit)) r ⌝ }
 {
-    if size <= task::TINY {
-        let mut tiny = [0u16; task::TINY];
+    if size <= size::TINY {
+        let mut tiny = [0u16; size::TINY];
         return plan_in(bytes, &mut tiny, given, list, plan, work, marks);
     }
-    if size <= task::SHORT {
-        let mut small = [0u16; task::SHORT];
+    if size <= size::SHORT {
+        let mut small = [0u16; size::SHORT];
         return plan_in(bytes, &mut small, given, list, plan, work, marks);
     }
-    let mut large = [0u16; task::LONG];
+    let mut large = [0u16; size::LONG];
     plan_in(bytes, &mut large, given, list, plan, work, marks)
 }
 
@@ -133,7 +133,7 @@ fn plan_checked(
 ) -> Planned
     ensures { λ r. ⌜ Called given (now (bytes .entry)) (now (list .entry)) (roomIn (now (plan .entry)) (now (work .entry)) (now (marks .entry))) (now (plan .exit)) (now (marks .exit)) r ⌝ }
 {
-    plan_sized(bytes, task::room_for(bytes), given, list, plan, work, marks)
+    plan_sized(bytes, size::room_for(bytes), given, list, plan, work, marks)
 }
 
 // The steps of an answer, 0 after a refusal.

@@ -13,7 +13,7 @@ ghost use Rattle.planning.specs.Relaxed.{forwardRun, is, reachedNeeded, relaxed
 ghost use Rattle.planning.specs.Calls.{relaxCall, relaxList};
 ghost use Rattle.answers.specs.Answers.{valueOf};
 ghost use Rattle.task.specs.Task.{factsIn, taskIn, Loaded};
-ghost use Rattle.task.specs.Size.{RoomIn};
+ghost use Rattle.size.specs.Size.{RoomIn};
 ghost use Rattle.state.specs.Sets.{setsOf};
 ghost use Rattle.relax.specs.Keeping.{Joined, Noted, Setters, Achieved, byOf, Replay, Front, KeptOf};
 ghost use Rattle.relax.specs.Answers.{relaxOf, relaxIn};
@@ -203,7 +203,7 @@ fn relax_in(bytes: &[u8], task: &mut [u16], plan: &mut [u16]) -> Number
     requires { ⌜ RoomIn (now bytes) (now task) ⌝ }
     ensures { λ r. ⌜ (valueOf r ≡ relaxCall (now (bytes .entry)) (length (now (plan .entry)))) × (now (plan .exit) ≡ relaxList (now (bytes .entry)) (length (now (plan .entry)))) ⌝ }
 {
-    let c = task::read(bytes, task);
+    let c = loader::read(bytes, task);
     let Checked::Refused(f) = c else {
         return relax_loaded(task, plan);
     };
@@ -215,15 +215,15 @@ fn relax_in(bytes: &[u8], task: &mut [u16], plan: &mut [u16]) -> Number
 pub fn relax(bytes: &[u8], plan: &mut [u16]) -> Number
     ensures { λ r. ⌜ (valueOf r ≡ relaxCall (now (bytes .entry)) (length (now (plan .entry)))) × (now (plan .exit) ≡ relaxList (now (bytes .entry)) (length (now (plan .entry)))) ⌝ }
 {
-    let size = task::room_for(bytes);
-    if size <= task::TINY {
-        let mut task = [0u16; task::TINY];
+    let size = size::room_for(bytes);
+    if size <= size::TINY {
+        let mut task = [0u16; size::TINY];
         return relax_in(bytes, &mut task, plan);
     }
-    if size <= task::SHORT {
-        let mut task = [0u16; task::SHORT];
+    if size <= size::SHORT {
+        let mut task = [0u16; size::SHORT];
         return relax_in(bytes, &mut task, plan);
     }
-    let mut task = [0u16; task::LONG];
+    let mut task = [0u16; size::LONG];
     relax_in(bytes, &mut task, plan)
 }

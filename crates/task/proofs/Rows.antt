@@ -7,7 +7,7 @@ use native.Mathlib.Omega.{arith}
 use lib.ListN.{length, getD, set, length-set}
 use lib.Seq.{getD-set-same, getD-set-other}
 use Rattle.task.specs.Task.{cell}
-use Rattle.task.specs.Loading.{RowWritten}
+use Rattle.task.specs.Rows.{RowWritten}
 
 pub at-zero : (l : List ℕ) (r : ℕ) → cell l r 0 ≡ getD l (4 * r) 0
 at-zero l r = ap (λ (x : ℕ). getD l x 0) (omega arith)

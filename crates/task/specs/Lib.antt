@@ -1,5 +1,4 @@
 pub mod Task
+pub mod Rows
 pub mod Links
-pub mod Size
-pub mod Loading
 pub mod Goals

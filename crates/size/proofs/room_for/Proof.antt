@@ -1,10 +1,10 @@
 -- Header and number of bytes bound the facts of an accepted record.
 use native.Mathlib.Omega.{arith}
 use Rattle.record.proofs.Laws.{split-22, header-fits, accepted-parts}
-use Rattle.task.proofs.Size.{taskSize-max, taskSize-bits}
+use Rattle.size.proofs.Size.{taskSize-max, taskSize-bits}
 use borrow.Author.Needs.{needs}
-use Rattle.task.proofs.room_for.Statement.{statement}
-use Rattle.task.proofs.room_for.Tie as tie
+use Rattle.size.proofs.room_for.Statement.{statement}
+use Rattle.size.proofs.room_for.Tie as tie
 
 returns : tie.Need-returns
 returns c = λ e. omega (arith, header-fits _ (accepted-parts _ e .header))

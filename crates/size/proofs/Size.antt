@@ -9,12 +9,15 @@ use native.Mathlib.Omega.{arith}
 use lib.Dec.{T, eqb, eqb→eq}
 use lib.ListN.{length, replicate, length-replicate}
 use Rattle.planning.specs.Basics.{bitsAt}
-use Rattle.planning.specs.Record.{variablesIn, actionsIn, effectsFrom, actionEnd, actionsEnd, endsAt, recordEnd, recordCheck}
+use Rattle.planning.specs.Record.{variablesIn, actionsIn, preconditionsIn, effectsIn, effectsFrom, actionEnd, actionsEnd, endsAt, recordEnd, recordCheck}
 use Rattle.laws.proofs.Tests.{and-l}
-use Rattle.laws.proofs.Fields.{taskOf-variables, taskOf-actions}
+use Rattle.laws.proofs.Fields.{bitsAt-below, taskOf-variables, taskOf-actions}
 use Rattle.laws.proofs.Formed.{parts, formed-of}
-use Rattle.task.specs.Size.{factsOf, factsFrom, taskSize, RoomIn}
-use Rattle.task.proofs.Cut.{factsOf-le}
+use Rattle.size.specs.Size.{factsOf, factsFrom, taskSize, RoomIn}
+
+pub factsOf-le : (s : List ℕ) (p : ℕ) → factsOf s p ≤ 30
+unfolding factsOf preconditionsIn effectsIn
+factsOf-le s p = omega (arith, bitsAt-below s (p + 16) 4, bitsAt-below s (p + 20) 4)
 
 pub actionEnd-is : (s : List ℕ) (p : ℕ) → actionEnd s p ≡ p + 24 + 12 * factsOf s p
 unfolding actionEnd effectsFrom factsOf

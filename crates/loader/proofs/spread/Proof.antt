@@ -3,8 +3,8 @@ use Prim.Native.Nat.{_/_, _%_, _^_}
 use native.Mathlib.Omega.{arith}
 use borrow.Author.Needs.{needs}
 use Rattle.lists.proofs.Four.{spread-cut}
-use Rattle.task.proofs.spread.Statement.{statement}
-use Rattle.task.proofs.spread.Tie as tie
+use Rattle.loader.proofs.spread.Statement.{statement}
+use Rattle.loader.proofs.spread.Tie as tie
 
 mul-result : tie.Need-mul-result
 mul-result c = search needs

@@ -1,8 +1,8 @@
 -- The first i actions passed their checks and are loaded; the list goes on where they end.
 use Rattle.record.proofs.Laws.{false-not, header-range, Behind, actions-start, action-here, actions-turn, actions-done, actions-end, accepted, accepted-parts, not-done}
 use Rattle.answers.proofs.Stages.{answer-done, answer-passes, passed}
-use Rattle.task.proofs.Loading.{Loading, loading-start, loading-place, loading-room, loading-turn, action-ends, few-facts, record-stops, actions-as}
-use Rattle.task.proofs.Loading.{loading-low, loading-size, loading-headed, loading-task, loading-done}
+use Rattle.loader.proofs.Loading.{Loading, loading-start, loading-place, loading-room, loading-turn, action-ends, few-facts, record-stops, actions-as}
+use Rattle.loader.proofs.Loading.{loading-low, loading-size, loading-headed, loading-task, loading-done}
 use borrow.Author.Needs.{needs}
 use mathlib.Core.Path.{_≡_, refl, sym, _∙_}
 use mathlib.Core.Option.{none}
@@ -12,8 +12,8 @@ use lib.ListN.{length}
 use lib.Seq.{getD-set-same}
 use Rattle.planning.specs.Basics.{inOrder}
 use Rattle.planning.specs.Record.{variablesIn, actionsIn, actionsChecks, actionsEnd, recordEnd}
-use Rattle.task.proofs.load_actions.Statement.{statement}
-use Rattle.task.proofs.load_actions.Tie as tie
+use Rattle.loader.proofs.load_actions.Statement.{statement}
+use Rattle.loader.proofs.load_actions.Tie as tie
 
 abbrev Inv-loop : tie.InvT-loop
 Inv-loop bytes variables count counts task₀ at₀ to₀ i₀ task at to i = Loading bytes task₀ task at i to × Behind bytes (22 + 20 * variables) count at i

@@ -4,8 +4,8 @@ use mathlib.Core.Option.{none}
 use borrow.Author.Needs.{needs}
 use Rattle.planning.specs.Record.{recordCheck}
 use Rattle.answers.specs.Answers.{checkOf}
-use Rattle.task.proofs.read.Statement.{statement}
-use Rattle.task.proofs.read.Tie as tie
+use Rattle.loader.proofs.read.Statement.{statement}
+use Rattle.loader.proofs.read.Tie as tie
 
 load-requires : tie.Need-load-requires
 load-requires c κs = search needs
