@@ -1,14 +1,9 @@
--- Sets of variables: a variable taken out, emptiness.
-use mathlib.Core.Path.{_≡_, refl, sym, _∙_}
+-- Sets of variables: a variable taken out.
+use mathlib.Core.Path.{_≡_, refl}
 use mathlib.Core.Bool.{Bool, true, false, not, _&&_, _||_}
-use Prim.Native.Nat.{ℕ, zero, suc, _/_, _%_, _^_, _<_}
-use native.Mathlib.Nat.{pow-suc}
-use native.Mathlib.Numerals.{one-add}
-use native.Mathlib.Omega.{arith}
-use native.Mathlib.Decide.{ℕ-discrete}
+use Prim.Native.Nat.{ℕ, _^_}
 use lib.Bits.{bitOr, bitXor}
 use lib.Dec.{eqb}
-use lib.Pow.{shr-shr}
 use Rattle.state.specs.Sets.{inSet}
 use Rattle.state.proofs.Members.{inSet-single, inSet-or, inSet-xor, xor}
 
@@ -21,25 +16,3 @@ without false false = refl
 -- the set m without y
 pub inSet-without : (m y x : ℕ) → inSet (bitXor (bitOr m (2 ^ y)) (2 ^ y)) x ≡ (not (eqb x y) && inSet m x)
 inSet-without m y x = rw (inSet-xor (bitOr m (2 ^ y)) (2 ^ y) x, inSet-or m (2 ^ y) x, inSet-single y x) (without (inSet m x) (eqb x y))
-
-inSet-half : (n d : ℕ) → inSet n (suc d) ≡ inSet (n / 2) d
-unfolding inSet
-inSet-half n d = let e : n / 2 ^ suc d ≡ n / 2 / 2 ^ d = rw (← one-add d) (sym (shr-shr n 1 d)) in rw e refl
-
-low : (n : ℕ) → inSet n 0 ≡ false → n % 2 ≡ 0
-unfolding inSet
-low n f = go (ℕ-discrete (n % 2) 0)
-  where
-    go : Dec (n % 2 ≡ 0) → n % 2 ≡ 0
-    go (yes e) = e
-    go (no h) =
-        let o : n / 2 ^ 0 % 2 ≡ 1 = omega arith in
-        let q : eqb 1 1 ≡ false = rw o at f in
-        let y : _≡_ {A = ℕ} 0 1 = cc in omega arith
-
--- a set with no element is 0
-pub empty-is : (k x : ℕ) → x < 2 ^ k → ((u : ℕ) → u < k → inSet x u ≡ false) → x ≡ 0
-empty-is zero x h f = omega arith
-empty-is (suc k) x h f =
-    let r : x / 2 ≡ 0 = empty-is k (x / 2) (omega (arith, pow-suc 2 k)) (λ u b. sym (inSet-half x u) ∙ f (suc u) (omega arith)) in
-    omega (arith, low x (f 0 (omega arith)))

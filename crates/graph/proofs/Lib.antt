@@ -1,5 +1,3 @@
 pub mod Bits
 pub mod Searches
 pub mod Rows
-pub mod Ways
-pub mod Clients

@@ -142,7 +142,7 @@ fn prepare_acyclic(task: &mut [u16], rows: &[u64; 64], paint: u64) -> Checked
     ensures { λ r. ⌜ Readied (now (task .entry)) r (now (task .exit)) ⌝ }
 {
     link_all(task, paint);
-    graph::write_order(task, rows, paint);
+    order::write_order(task, rows, paint);
     refused_at(8, lowest_lacking(task, paint))
 }
 
@@ -153,7 +153,7 @@ pub fn prepare(task: &mut [u16]) -> Checked
 {
     let paint = state::painted(task);
     let rows = graph::graph(task, paint);
-    let seven = refused_at(7, graph::cycle(task, rows));
+    let seven = refused_at(7, cycles::cycle(task, rows));
     let Checked::Accepted = seven else {
         return seven;
     };

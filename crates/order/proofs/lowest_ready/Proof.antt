@@ -2,13 +2,13 @@
 use mathlib.Core.Bool.{_&&_, not}
 use Rattle.planning.specs.Basics.{someBelow}
 use Rattle.state.specs.Sets.{inSet, setsOf}
 use Rattle.graph.proofs.Searches.{Searched, searched-start, searched-turn, searched-hit, searched-end}
 use borrow.Author.Needs.{needs}
 use mathlib.Core.Path.{sym, _∙_}
 use Prim.Native.Nat.{_-_}
 use native.Mathlib.Omega.{arith}
-use Rattle.graph.proofs.lowest_ready.Statement.{statement}
-use Rattle.graph.proofs.lowest_ready.Tie as tie
+use Rattle.order.proofs.lowest_ready.Statement.{statement}
+use Rattle.order.proofs.lowest_ready.Tie as tie
 
 abbrev Inv-loop : tie.InvT-loop
 Inv-loop rows left n v₀ v = Searched n (λ w. inSet left w && not (someBelow 64 (λ u. inSet left u && setsOf rows w u))) v

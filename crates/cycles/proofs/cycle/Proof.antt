@@ -1,9 +1,9 @@
 use mathlib.Core.Path.{_∙_}
 use native.Mathlib.Omega.{arith}
-use Rattle.graph.proofs.Ways.{blackArc-starts, cycle-found}
+use Rattle.cycles.proofs.Ways.{blackArc-starts, cycle-found}
 use borrow.Author.Needs.{needs}
-use Rattle.graph.proofs.cycle.Statement.{statement}
-use Rattle.graph.proofs.cycle.Tie as tie
+use Rattle.cycles.proofs.cycle.Statement.{statement}
+use Rattle.cycles.proofs.cycle.Tie as tie
 
 variables-requires : tie.Need-variables-requires
 variables-requires c κs = search needs

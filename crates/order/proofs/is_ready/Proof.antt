@@ -1,8 +1,8 @@
 use mathlib.Core.Path.{sym, _∙_}
-use Rattle.graph.proofs.Clients.{ready-of, unready-of}
+use Rattle.order.proofs.Clients.{ready-of, unready-of}
 use borrow.Author.Needs.{needs}
-use Rattle.graph.proofs.is_ready.Statement.{statement}
-use Rattle.graph.proofs.is_ready.Tie as tie
+use Rattle.order.proofs.is_ready.Statement.{statement}
+use Rattle.order.proofs.is_ready.Tie as tie
 
 member-requires : tie.Need-member-requires
 member-requires c κs = search needs

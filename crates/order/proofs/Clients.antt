@@ -25,9 +25,9 @@ use Rattle.state.specs.Sets.{inSet, setsOf, modeOf}
 use Rattle.state.proofs.Members.{inSet-empty, inSet-single, inSet-and, inSet-xor, xor}
 use Rattle.task.specs.Task.{cell, taskIn}
 use Rattle.task.specs.Links.{orderIn}
-use Rattle.graph.specs.Graph.{Filled, Ordered}
-use Rattle.graph.proofs.Bits.{empty-is}
+use Rattle.order.specs.Order.{Filled, Ordered}
 use Rattle.graph.proofs.Searches.{false-not, first-same, some-lacks}
+use Rattle.order.proofs.Bits.{empty-is}
 
 -- one variable's test
 module _ (row left v : ℕ) (small : row < 2 ^ 64) (small′ : left < 2 ^ 64) where

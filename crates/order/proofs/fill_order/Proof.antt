@@ -3,11 +3,11 @@ use mathlib.Core.Path.{refl, sym, ap, _∙_}
 use Prim.Native.Nat.{_-_, _<_}
 use native.Mathlib.Omega.{arith}
 use Rattle.task.specs.Task.{taskIn}
 use Rattle.graph.specs.Graph.{foundOf}
-use Rattle.graph.proofs.Clients.{Taking, taking-start, taking-found, taking-turn, taking-stop, taking-end}
+use Rattle.order.proofs.Clients.{Taking, taking-start, taking-found, taking-turn, taking-stop, taking-end}
 use borrow.Author.Needs.{needs}
-use Rattle.graph.proofs.fill_order.Statement.{statement}
-use Rattle.graph.proofs.fill_order.Tie as tie
+use Rattle.order.proofs.fill_order.Statement.{statement}
+use Rattle.order.proofs.fill_order.Tie as tie
 
 abbrev Inv-loop : tie.InvT-loop
 Inv-loop task₀ rows paint n left₀ k₀ task left k = Taking (taskIn task₀) n task₀ task left k

@@ -1,8 +1,8 @@
 use mathlib.Core.Path.{sym, _∙_}
-use Rattle.graph.proofs.Ways.{extended-row, same-row}
+use Rattle.cycles.proofs.Ways.{extended-row, same-row}
 use borrow.Author.Needs.{needs}
-use Rattle.graph.proofs.extended.Statement.{statement}
-use Rattle.graph.proofs.extended.Tie as tie
+use Rattle.cycles.proofs.extended.Statement.{statement}
+use Rattle.cycles.proofs.extended.Tie as tie
 
 member-requires : tie.Need-member-requires
 member-requires c κs = search needs

@@ -3,10 +3,10 @@ use mathlib.Core.Path.{sym, _∙_}
 use Prim.Native.Nat.{_-_}
 use native.Mathlib.Omega.{arith}
 use Rattle.state.specs.Sets.{setsOf}
 use Rattle.graph.proofs.Searches.{Searched, searched-start, searched-turn, searched-hit, searched-end}
 use borrow.Author.Needs.{needs}
-use Rattle.graph.proofs.lowest_on_cycle.Statement.{statement}
-use Rattle.graph.proofs.lowest_on_cycle.Tie as tie
+use Rattle.cycles.proofs.lowest_on_cycle.Statement.{statement}
+use Rattle.cycles.proofs.lowest_on_cycle.Tie as tie
 
 abbrev Inv-loop : tie.InvT-loop
 Inv-loop rows n v₀ v = Searched n (λ u. setsOf rows u u) v

@@ -1,10 +1,10 @@
 -- After k turns the rows are the ways whose inner variables are below k.
-use Rattle.graph.proofs.Ways.{Closing, closing-start, closing-turn, closing-end}
+use Rattle.cycles.proofs.Ways.{Closing, closing-start, closing-turn, closing-end}
 use borrow.Author.Needs.{needs}
 use Prim.Native.Nat.{_-_}
 use native.Mathlib.Omega.{arith}
-use Rattle.graph.proofs.closure.Statement.{statement}
-use Rattle.graph.proofs.closure.Tie as tie
+use Rattle.cycles.proofs.closure.Statement.{statement}
+use Rattle.cycles.proofs.closure.Tie as tie
 
 abbrev Inv-loop : tie.InvT-loop
 Inv-loop n rows₀ k₀ rows k = Closing n rows₀ rows k

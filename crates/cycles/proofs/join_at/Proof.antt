@@ -1,11 +1,11 @@
 -- Rows below u are extended by row k, the others are as they were, and so is row k itself.
-use Rattle.graph.proofs.Ways.{Joining, joining-start, joining-turn, joining-end}
+use Rattle.cycles.proofs.Ways.{Joining, joining-start, joining-turn, joining-end}
 use borrow.Author.Needs.{needs}
 use mathlib.Core.Path.{refl}
 use Prim.Native.Nat.{_-_}
 use native.Mathlib.Omega.{arith}
-use Rattle.graph.proofs.join_at.Statement.{statement}
-use Rattle.graph.proofs.join_at.Tie as tie
+use Rattle.cycles.proofs.join_at.Statement.{statement}
+use Rattle.cycles.proofs.join_at.Tie as tie
 
 abbrev Inv-loop : tie.InvT-loop
 Inv-loop rows₀ n k onward u₀ rows u = Joining n k rows₀ onward rows u

@@ -1,7 +1,7 @@
-use Rattle.graph.proofs.Clients.{ordered-end}
+use Rattle.order.proofs.Clients.{ordered-end}
 use borrow.Author.Needs.{needs}
-use Rattle.graph.proofs.write_order.Statement.{statement}
-use Rattle.graph.proofs.write_order.Tie as tie
+use Rattle.order.proofs.write_order.Statement.{statement}
+use Rattle.order.proofs.write_order.Tie as tie
 
 fill-order-requires : tie.Need-fill-order-requires
 fill-order-requires c κs = search needs

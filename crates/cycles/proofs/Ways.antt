@@ -23,8 +23,9 @@ use Rattle.laws.proofs.Graph.{reach-here, reach-move, reach-cases, reach-zero, 
 use Rattle.laws.proofs.Painting.{black-inside}
 use Rattle.state.specs.Sets.{inSet, setsOf, modeOf}
 use Rattle.state.proofs.Members.{inSet-or}
-use Rattle.graph.specs.Graph.{Rows, through, via, StartBelow}
+use Rattle.graph.specs.Graph.{Rows}
+use Rattle.cycles.specs.Cycles.{through, via, StartBelow}
 use Rattle.graph.proofs.Searches.{first-same}
 
 -- one row
 pub extended-row : (row k onward : ℕ) → inSet row k ≡ true → modeOf (bitOr row onward) ≡ (λ v. inSet row v || (inSet row k && inSet onward v))
