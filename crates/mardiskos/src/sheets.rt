@@ -34,7 +34,7 @@ pub extern "C" fn mardiskos_write_sheet(
     ensures { λ _. ⌜ now (bytes .exit) ≡ writeBytes (sheet edition (now (list .entry)) (now (marks .entry)) cost real) (length (now (bytes .entry))) ⌝ }
     ensures { λ r. ⌜ (r .code ≡ 0 → ReadsAs (take (r .bytes) (now (bytes .exit))) (sheet edition (now (list .entry)) (now (marks .entry)) cost real)) ⌝ }
 {
-    let a = sheet::write(list, marks, edition, cost, real, bytes);
+    let a = writer::write(list, marks, edition, cost, real, bytes);
     let Number::Value(n) = a else {
         return SheetSize {
             code: number_code(a),
@@ -75,7 +75,7 @@ pub extern "C" fn mardiskos_read_sheet(
     ensures { λ _. ⌜ now (marks .exit) ≡ readMarks (now (bytes .entry)) (length (now (list .entry))) (length (now (marks .entry))) ⌝ }
     ensures { λ r. ⌜ (r .code ≡ 0 → WritesAs (sheet (r .edition) (take (r .steps) (now (list .exit))) (take (r .steps) (now (marks .exit))) (r .cost) (r .real)) (now (bytes .entry))) ⌝ }
 {
-    let a = sheet::read(bytes, list, marks);
+    let a = reader::read(bytes, list, marks);
     let Reading::Plan {
         steps,
         cost,

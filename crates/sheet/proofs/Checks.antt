@@ -14,9 +14,8 @@ use Rattle.planning.specs.Calls.{Read, lengthCheck, roomCheck, notBelow, capaci
 use Rattle.planning.specs.Record.{endsAt}
 use Rattle.planning.specs.Sheet.{Sheet, markWidth, sheetSize, sheetEnd, sheetField, stepsChecks, sheetChecks, sheetCheck, editionIn, stepsIn}
 use Rattle.laws.proofs.Checks.{andThen-none}
-use Rattle.sheet.specs.Answers.{endCheck, headingOf}
-use Rattle.sheet.specs.Fields.{cutIn}
-use Rattle.sheet.proofs.Fields.{markWidth-le}
+use Rattle.sheet.specs.Answers.{endCheck, headingOf, cutIn}
+use Rattle.sheet.proofs.Widths.{markWidth-le}
 
 -- Writing: 13, the length first, then 11.
 module _ (x : Sheet) (n : ℕ) where

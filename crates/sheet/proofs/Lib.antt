@@ -1,8 +1,7 @@
-pub mod Fields
-pub mod Writing
+pub mod Widths
+pub mod Rows
 pub mod Entries
 pub mod Checks
-pub mod Copying
 pub mod RoundTrip
 pub mod Promises
 pub mod Numbers

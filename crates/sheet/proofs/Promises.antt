@@ -11,7 +11,7 @@ use Rattle.planning.specs.Calls.{Read, lent, lentBytes, writeCall, writeBytes, 
 use Rattle.planning.specs.Sheet.{Sheet, markWidth, sheetBits, sheetBytes, sheetSize, sheetOf, sheetCheck, stepsAt, marksAt, editionIn, stepsIn}
 use Rattle.bits.proofs.Pack.{length-packed}
 use Rattle.sheet.proofs.Checks.{Fitting, fitting}
-use Rattle.sheet.proofs.Copying.{length-stepsAt, length-marksAt}
+use Rattle.sheet.proofs.Rows.{length-stepsAt, length-marksAt}
 use Rattle.sheet.proofs.Entries.{all-below}
 use Rattle.sheet.proofs.RoundTrip.{reads-back, writes-again}
 use Rattle.sheet.specs.Again.{ReadsAs, WritesAs}

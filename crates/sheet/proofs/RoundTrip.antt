@@ -23,9 +23,9 @@ use Rattle.laws.proofs.Fields.{bitAt-below}
 use Rattle.bits.proofs.Pack.{length-bitsOf, length-packed, packed-none, packed-byte, bitsOf-add, drop-bitsOf, numberIn-bitsOf, packed-same, Same, same-prefix, same-zeros}
 use Rattle.bits.proofs.Window.{bitsAt-lt, bitsAt-whole}
 use Rattle.sheet.proofs.Checks.{accepted, front-passed, end-passes, reads, writes}
-use Rattle.sheet.proofs.Copying.{length-stepsAt}
+use Rattle.sheet.proofs.Rows.{length-stepsAt}
 use Rattle.sheet.proofs.Entries.{none-over}
-use Rattle.sheet.proofs.Fields.{markWidth-le, markWidth-suc}
+use Rattle.sheet.proofs.Widths.{markWidth-le, markWidth-suc}
 use Rattle.sheet.specs.Again.{ReadsAs, WritesAs}
 use Rattle.sheet.specs.Answers.{heading, headingOf}
 

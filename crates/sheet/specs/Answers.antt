@@ -1,5 +1,5 @@
 -- The answers of writing (8.3) and reading (8.4) a sheet: number, place and values for each case.
-use Prim.Native.Nat.{ℕ}
+use Prim.Native.Nat.{ℕ, _+_, _-_, _*_, _/_, _%_, min}
 use mathlib.Core.Bool.{Bool}
 use mathlib.Core.List.{List, [], _∷_, _++_}
 use lib.ListN.{take}
@@ -36,3 +36,7 @@ headingOf s = heading (stepsIn s) (sheetOf s .cost) (editionIn s) (sheetOf s .re
 unfoldable pub endCheck : List ℕ → Check
 endCheck s =
     inOrder (stepsChecks s (markWidth (editionIn s)) 53 (stepsIn s) ++ (check (endsAt s (sheetEnd (editionIn s) (stepsIn s))) 12 (sheetEnd (editionIn s) (stepsIn s)) ∷ []))
+
+-- 8.4: the first bit of the mark or the step that is cut short by the end of n bits
+unfoldable pub cutIn : ℕ → ℕ → ℕ
+cutIn w n = 53 + (n - 53) / (w + 10) * (w + 10) + min w ((n - 53) % (w + 10))

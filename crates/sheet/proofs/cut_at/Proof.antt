@@ -1,7 +1,7 @@
 -- The steps that are whole, and the mark of the next where it is there.
 use mathlib.Core.Path.{_≡_}
 use native.Mathlib.Omega.{arith}
-use Rattle.sheet.specs.Fields.{cutIn}
+use Rattle.sheet.specs.Answers.{cutIn}
 use borrow.Author.Needs.{needs}
 use Rattle.sheet.proofs.cut_at.Statement.{statement}
 use Rattle.sheet.proofs.cut_at.Tie as tie

@@ -1,6 +1,6 @@
 -- The edition is 1 or it is not.
 use native.Mathlib.Omega.{arith}
-use Rattle.sheet.proofs.Fields.{width-one, width-other}
+use Rattle.sheet.proofs.Widths.{width-one, width-other}
 use Rattle.sheet.proofs.mark_width.Statement.{statement}
 use Rattle.sheet.proofs.mark_width.Tie as tie
 

@@ -4,7 +4,7 @@ use Prim.Native.Nat.{_+_, _*_, _≤_}
 use native.Mathlib.Omega.{arith}
 use Rattle.planning.specs.Sheet.{sheetEnd, sheetOf, editionIn, stepsIn}
 use Rattle.sheet.proofs.Checks.{refuses, passes, end-cut, end-passes, end-fails}
-use Rattle.sheet.proofs.Copying.{marks-few}
+use Rattle.sheet.proofs.Widths.{marks-few}
 use Rattle.sheet.specs.Answers.{readingAs, headingOf, endCheck}
 use borrow.Author.Needs.{needs}
 use Rattle.sheet.proofs.read_end.Statement.{statement}
