@@ -2,9 +2,9 @@ use borrow.Author.Needs.{needs}
 use mathlib.Core.Path.{_≡_, sym, _∙_}
 use Prim.Native.Nat.{_/_, _%_}
 use Rattle.state.specs.Sets.{setsOf, modeOf}
-use Rattle.passes.proofs.Holding.{unmet-black, unmet-red}
-use Rattle.passes.proofs.unheld.Statement.{statement}
-use Rattle.passes.proofs.unheld.Tie as tie
+use Rattle.leads.proofs.Holding.{unmet-black, unmet-red}
+use Rattle.leads.proofs.unheld.Statement.{statement}
+use Rattle.leads.proofs.unheld.Tie as tie
 
 in-mode : (c : tie.After-member) → modeOf (c .before .args .set) (c .before .args .f / 64) ≡ c .member .result
 unfolding modeOf

@@ -1,7 +1,7 @@
 use borrow.Author.Needs.{needs}
-use Rattle.passes.proofs.Putting.{push-long, push-full, push-more}
-use Rattle.passes.proofs.push.Statement.{statement}
-use Rattle.passes.proofs.push.Tie as tie
+use Rattle.asking.proofs.Putting.{push-long, push-full, push-more}
+use Rattle.asking.proofs.push.Statement.{statement}
+use Rattle.asking.proofs.push.Tie as tie
 
 enum-known-w : tie.Need-enum-known-w
 enum-known-w c = search needs

@@ -1,8 +1,8 @@
 use mathlib.Core.Path.{sym, ap}
-use Rattle.passes.specs.Passes.{insertedBy}
+use Rattle.asking.specs.Asking.{insertedBy}
 use borrow.Author.Needs.{needs}
-use Rattle.passes.proofs.with_searches.Statement.{statement}
-use Rattle.passes.proofs.with_searches.Tie as tie
+use Rattle.asking.proofs.with_searches.Statement.{statement}
+use Rattle.asking.proofs.with_searches.Tie as tie
 
 enum-known-w : tie.Need-enum-known-w
 enum-known-w c = search needs

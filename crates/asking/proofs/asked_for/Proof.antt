@@ -1,7 +1,7 @@
 use native.Mathlib.Omega.{arith}
-use Rattle.passes.proofs.Putting.{askedFor-some, askedFor-none}
-use Rattle.passes.proofs.asked_for.Statement.{statement}
-use Rattle.passes.proofs.asked_for.Tie as tie
+use Rattle.asking.proofs.Putting.{askedFor-some, askedFor-none}
+use Rattle.asking.proofs.asked_for.Statement.{statement}
+use Rattle.asking.proofs.asked_for.Tie as tie
 
 returns : tie.Need-returns
 returns c = askedFor-some _ (omega (arith, c .if1 .taken))

@@ -10,9 +10,9 @@ use Rattle.planning.specs.Repair.{blackMet}
 use Rattle.task.specs.Task.{factsIn, effAt, endAt, taskIn}
 use Rattle.state.specs.Sets.{setsOf, modeOf}
 use Rattle.paths.proofs.Facts.{eff-facts, eff-inside}
-use Rattle.passes.proofs.Holding.{met-fails, met-passes, met-end}
-use Rattle.passes.proofs.adds_none.Statement.{statement}
-use Rattle.passes.proofs.adds_none.Tie as tie
+use Rattle.leads.proofs.Holding.{met-fails, met-passes, met-end}
+use Rattle.leads.proofs.adds_none.Statement.{statement}
+use Rattle.leads.proofs.adds_none.Tie as tie
 
 abbrev Inv-loop : tie.InvT-loop
 Inv-loop task ever i set end k₀ k = (effAt task i ≤ k) × (k ≤ end) × (end ≡ endAt task i)

@@ -1,7 +1,7 @@
 use native.Mathlib.Omega.{arith}
-use Rattle.passes.proofs.Putting.{after-some, after-none}
-use Rattle.passes.proofs.next_value.Statement.{statement}
-use Rattle.passes.proofs.next_value.Tie as tie
+use Rattle.asking.proofs.Putting.{after-some, after-none}
+use Rattle.asking.proofs.next_value.Statement.{statement}
+use Rattle.asking.proofs.next_value.Tie as tie
 
 returns : tie.Need-returns
 returns c = after-some _ _ (omega arith)

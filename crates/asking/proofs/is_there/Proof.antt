@@ -1,7 +1,7 @@
 use mathlib.Core.Path.{refl}
 use borrow.Author.Tests.{le-leb, lt-leb}
-use Rattle.passes.proofs.is_there.Statement.{statement}
-use Rattle.passes.proofs.is_there.Tie as tie
+use Rattle.asking.proofs.is_there.Statement.{statement}
+use Rattle.asking.proofs.is_there.Tie as tie
 
 returns : tie.Need-returns
 returns c = rw (le-leb 64 (c .before .args .d) (c .if1 .taken)) refl

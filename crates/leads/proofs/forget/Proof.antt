@@ -4,9 +4,9 @@ use mathlib.Core.Path.{refl}
 use Prim.Native.Nat.{_-_, _≤_}
 use lib.ListN.{length}
 use native.Mathlib.Omega.{arith}
-use Rattle.passes.proofs.Putting.{Forgetting, forgetting-turn}
-use Rattle.passes.proofs.forget.Statement.{statement}
-use Rattle.passes.proofs.forget.Tie as tie
+use Rattle.leads.proofs.Forgetting.{Forgetting, forgetting-turn}
+use Rattle.leads.proofs.forget.Statement.{statement}
+use Rattle.leads.proofs.forget.Tie as tie
 
 abbrev Inv-loop : tie.InvT-loop
 Inv-loop memo₀ k₀ memo k = Forgetting (length memo₀) memo k × (k ≤ 64)

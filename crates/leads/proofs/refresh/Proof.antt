@@ -4,10 +4,10 @@ use native.Mathlib.Omega.{arith}
 use Rattle.task.specs.Task.{taskIn}
 use Rattle.state.specs.Sets.{setsOf}
 use Rattle.paths.proofs.Memos.{memo-marks}
-use Rattle.passes.proofs.Putting.{blank-memo}
-use Rattle.passes.proofs.Holding.{refresh-kept}
-use Rattle.passes.proofs.refresh.Statement.{statement}
-use Rattle.passes.proofs.refresh.Tie as tie
+use Rattle.leads.proofs.Forgetting.{blank-memo}
+use Rattle.leads.proofs.Holding.{refresh-kept}
+use Rattle.leads.proofs.refresh.Statement.{statement}
+use Rattle.leads.proofs.refresh.Tie as tie
 
 adds-none-requires : tie.Need-adds-none-requires
 adds-none-requires c κs = search needs

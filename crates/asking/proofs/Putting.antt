@@ -1,4 +1,4 @@
--- Lists written into a list, one behind the other; the value that is asked; the memo with no lead.
+-- Lists written into a list, one behind the other; the value that is asked.
 use mathlib.Core.Path.{_≡_, refl, sym, ap, _∙_, subst}
 use mathlib.Core.Bool.{Bool, true, false, _||_}
 use mathlib.Core.List.{List, [], _∷_, append-assoc, append-nil}
@@ -6,11 +6,11 @@ use mathlib.Core.Option.{Option, none, some}
 use Prim.Native.Nat.{ℕ, _+_, _<_, _≤_}
 use native.Mathlib.Numerals.{add-one}
 use native.Mathlib.Omega.{arith}
-use native.Mathlib.Decide.{ℕ-discrete, decLt}
+use native.Mathlib.Decide.{decLt}
 use borrow.Author.Tests.{lt-ltb, le-ltb, le-leb, lt-leb, eqb-true}
 use lib.Dec.{T, eqb, leb}
-use lib.ListN.{length, getD, set, take, length-set, length-append}
-use lib.Seq.{take-suc-set, getD-set-same, getD-set-other}
+use lib.ListN.{length, set, take, length-append}
+use lib.Seq.{take-suc-set}
 use Rattle.planning.specs.Record.{Fact, Task}
 use Rattle.planning.specs.Runs.{State, look, count, act}
 use Rattle.planning.specs.Repair.{toward, after, askedFor}
@@ -18,14 +18,13 @@ use Rattle.laws.proofs.Tests.{true→T, or-l}
 use Rattle.laws.proofs.Facts.{look-some}
 use Rattle.laws.proofs.Formed.{Formed, sorted-has}
 use Rattle.state.specs.Sets.{Asked}
-use Rattle.paths.specs.Paths.{pathsOf, memoFor, slot, Memo, Put}
+use Rattle.paths.specs.Paths.{pathsOf, Put}
 use Rattle.paths.proofs.Walking.{put-none}
-use Rattle.paths.proofs.Memos.{slot-below}
 use Rattle.paths.specs.declared.Written.{Written}
 use Rattle.paths.specs.declared.Written.the-variants.{Upto, Long}
-use Rattle.passes.specs.Passes.{askedBy, Fitting, Blank, writtenIn, insertedBy, Searched, Behind}
-use Rattle.passes.specs.declared.Inserted.{Inserted}
-use Rattle.passes.specs.declared.Inserted.the-variants as inserted
+use Rattle.asking.specs.Asking.{askedBy, Fitting, writtenIn, insertedBy, Searched, Behind}
+use Rattle.asking.specs.declared.Inserted.{Inserted}
+use Rattle.asking.specs.declared.Inserted.the-variants as inserted
 
 pub asked-some : (d : ℕ) → d < 64 → askedBy d ≡ some d
 unfolding askedBy
@@ -145,18 +144,3 @@ inserted-put d₀ d a l Long k r q p = rw q p
 pub inserted-counts : (n : ℕ) (w : Written) (k : ℕ) (r : Inserted) → r ≡ insertedBy w k → k ≡ n → Searched n r
 inserted-counts n (Upto e) k r q h = rw q h
 inserted-counts n Long k r q h = rw q tt
-
--- forgetting
-pub record Forgetting (n : ℕ) (memo : List ℕ) (k : ℕ) : Type 0 where
-  pub long : length memo ≡ n
-  pub done : (x : ℕ) → x < k → getD memo x 0 ≡ 0
-
-pub forgetting-turn : (n : ℕ) (memo : List ℕ) (k : ℕ) → Forgetting n memo k → k < n → Forgetting n (set memo k 0) (k + 1)
-forgetting-turn n memo k f h = record { long = length-set memo k 0 ∙ f .long; done = λ x b. go x b (ℕ-discrete x k) }
-  where
-    go : (x : ℕ) → x < k + 1 → Dec (x ≡ k) → getD (set memo k 0) x 0 ≡ 0
-    go x b (yes e) = rw e (getD-set-same memo k 0 0 (omega (arith, f .long)))
-    go x b (no e) = getD-set-other memo k x 0 0 e ∙ f .done x (omega arith)
-
-pub blank-memo : (t : Task) (K : State) (memo : List ℕ) → length memo ≡ memoFor t → Blank memo → Memo t K memo
-blank-memo t K memo e B = record { long = e; leads = λ v d _ _ q. absurd (omega (arith, q, B (slot v d) (slot-below v d))) }
