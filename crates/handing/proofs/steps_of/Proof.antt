@@ -1,8 +1,8 @@
 use mathlib.Core.Path.{sym, ap}
 use Rattle.answers.specs.Plans.{stepsOf}
 use borrow.Author.Needs.{needs}
-use Rattle.planner.proofs.steps_of.Statement.{statement}
-use Rattle.planner.proofs.steps_of.Tie as tie
+use Rattle.handing.proofs.steps_of.Statement.{statement}
+use Rattle.handing.proofs.steps_of.Tie as tie
 
 enum-known-answer : tie.Need-enum-known-answer
 enum-known-answer c = search needs

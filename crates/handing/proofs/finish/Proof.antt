@@ -1,7 +1,7 @@
-use Rattle.planner.proofs.Settled.{list-finished, area-finished}
+use Rattle.handing.proofs.Filled.{list-finished, area-finished}
 use borrow.Author.Needs.{needs}
-use Rattle.planner.proofs.finish.Statement.{statement}
-use Rattle.planner.proofs.finish.Tie as tie
+use Rattle.handing.proofs.finish.Statement.{statement}
+use Rattle.handing.proofs.finish.Tie as tie
 
 steps-of-requires : tie.Need-steps-of-requires
 steps-of-requires c κs = tt
