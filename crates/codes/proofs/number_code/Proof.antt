@@ -1,8 +1,8 @@
 use mathlib.Core.Path.{refl}
 use Rattle.planning.specs.Basics.{code}
 use borrow.Author.Needs.{needs}
-use Rattle.mardiskos.proofs.number_code.Statement.{statement}
-use Rattle.mardiskos.proofs.number_code.Tie as tie
+use Rattle.codes.proofs.number_code.Statement.{statement}
+use Rattle.codes.proofs.number_code.Tie as tie
 
 enum-known-a : tie.Need-enum-known-a
 enum-known-a c = search needs

@@ -1,10 +1,10 @@
 use mathlib.Core.Path.{refl, sym, ap}
 use Rattle.planning.specs.Basics.{code}
 use Rattle.answers.specs.Plans.{answerOf}
-use Rattle.mardiskos.specs.Plans.{planResultOf}
+use Rattle.codes.specs.Plans.{planResultOf}
 use borrow.Author.Needs.{needs}
-use Rattle.mardiskos.proofs.plans.flat.Statement.{statement}
-use Rattle.mardiskos.proofs.plans.flat.Tie as tie
+use Rattle.codes.proofs.flat.Statement.{statement}
+use Rattle.codes.proofs.flat.Tie as tie
 
 enum-known-p : tie.Need-enum-known-p
 enum-known-p c = search needs

@@ -4,7 +4,7 @@ use mathlib.Core.Bool.{true, false}
 use lib.Dec.{eqb}
 use Rattle.planning.specs.Basics.{Answer, refused, done}
 use Rattle.planning.specs.Calls.{Planned}
-use Rattle.mardiskos.specs.declared.plans.PlanResult.{PlanResult}
+use Rattle.codes.specs.declared.PlanResult.{PlanResult}
 
 abbrev pub planResultOf : Answer Planned → PlanResult
 planResultOf (refused n p) = record { code = 32 * p + n; steps = 0; cost = 0; runs = 0; searches = 0; real = false }

@@ -1,8 +1,8 @@
 use mathlib.Core.Path.{refl}
 use Rattle.planning.specs.Basics.{code}
 use borrow.Author.Needs.{needs}
-use Rattle.mardiskos.proofs.plans.planned_code.Statement.{statement}
-use Rattle.mardiskos.proofs.plans.planned_code.Tie as tie
+use Rattle.codes.proofs.planned_code.Statement.{statement}
+use Rattle.codes.proofs.planned_code.Tie as tie
 
 enum-known-p : tie.Need-enum-known-p
 enum-known-p c = search needs

@@ -1,8 +1,8 @@
 use mathlib.Core.Path.{refl}
 use Rattle.planning.specs.Basics.{code}
 use borrow.Author.Needs.{needs}
-use Rattle.mardiskos.proofs.code_of.Statement.{statement}
-use Rattle.mardiskos.proofs.code_of.Tie as tie
+use Rattle.codes.proofs.code_of.Statement.{statement}
+use Rattle.codes.proofs.code_of.Tie as tie
 
 cast-result : tie.Need-cast-result
 cast-result c = search needs
