@@ -12,8 +12,8 @@ use Rattle.planning.specs.Record.{fieldCheck, headerChecks, variableChecks, var
 use Rattle.planning.specs.Painting.{acyclicCheck, returnCheck}
 use Rattle.planning.specs.Calls.{lengthCheck, relaxedCheck, roomCheck, goalsCheck, Planned, planCall, repairCall}
 use Rattle.answers.proofs.Stages.{answer-refused}
-use Rattle.mardiskos.specs.declared.plans.PlanResult.{PlanResult}
-use Rattle.mardiskos.specs.Plans.{planResultOf, answerIn}
+use Rattle.codes.specs.declared.PlanResult.{PlanResult}
+use Rattle.codes.specs.Plans.{planResultOf, answerIn}
 
 Numbered : Check → Type 0
 Numbered k = (n p : ℕ) → k ≡ refuse n p → (0 < n) × (n < 32)

@@ -4,32 +4,10 @@ mod runs;
 mod sheets;
 
 use answers::Checked;
-use answers::Number;
-use answers::Refusal;
 use judge::Judging;
 ghost use mathlib.Core.Path.{_≡_};
-ghost use Prim.Native.Nat.{ℕ};
-ghost use Rattle.planning.specs.Basics.{code, refused};
 ghost use Rattle.planning.specs.Calls.{checkCode, judgeCall};
-ghost use Rattle.answers.specs.Answers.{valueOf};
 ghost use Rattle.mardiskos.specs.Flat.{flatOf};
-
-// The code of a refusal.
-fn code_of(f: Refusal) -> u64
-    ensures { λ r. ⌜ r ≡ code {A = ℕ} (refused (f .number) (f .place)) ⌝ }
-{
-    32 * (f.place as u64) + (f.number as u64)
-}
-
-// The code of a number, or of its refusal.
-fn number_code(a: Number) -> u64
-    ensures { λ r. ⌜ r ≡ code (valueOf a) ⌝ }
-{
-    let Number::Refused(f) = a else {
-        return 0;
-    };
-    code_of(f)
-}
 
 // The check of a record: 0 for accepted, else 32 times the place and the number.
 #[no_mangle]
@@ -40,7 +18,7 @@ pub extern "C" fn mardiskos_check(bytes: &[u8]) -> u64
     let Checked::Refused(f) = c else {
         return 0;
     };
-    code_of(f)
+    codes::code_of(f)
 }
 
 // After a refusal every field but the code is zero.
@@ -63,7 +41,7 @@ pub extern "C" fn mardiskos_judge(bytes: &[u8], list: &[u16]) -> Judgement
     let j = judge::judge(bytes, list);
     let Judging::Judged(v) = j else {
         return Judgement {
-            code: code_of(judge::refusal_of(j)),
+            code: codes::code_of(judge::refusal_of(j)),
             relaxed_steps: 0,
             red_black_steps: 0,
             real_steps: 0,

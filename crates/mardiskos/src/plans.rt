@@ -1,66 +1,12 @@
 // The planner as C calls it. The code is 0, or 32 times the place and the number; after a refusal the other fields are 0.
-use crate::code_of;
-use answers::Planned;
+use codes::PlanResult;
 ghost use mathlib.Core.Path.{_≡_};
 ghost use lib.ListN.{length};
-ghost use Rattle.planning.specs.Basics.{code};
 ghost use Rattle.planning.specs.Record.{taskOf};
 ghost use Rattle.planning.specs.Relaxed.{relaxedPlan};
 ghost use Rattle.planning.specs.Calls.{planCall, planList, planMarks, repairCall, repairList, repairMarks, workList, planIn, marksIn};
 ghost use Rattle.planning.specs.Existence.{Demand3, Bounded, Ceiling, Recovers};
-ghost use Rattle.answers.specs.Plans.{answerOf};
-ghost use Rattle.mardiskos.specs.Plans.{planResultOf, answerIn};
-
-#[repr(C)]
-pub struct PlanResult {
-    pub code: u64,
-    pub steps: u32,
-    pub cost: u32,
-    pub runs: u32,
-    pub searches: u32,
-    pub real: bool,
-}
-
-// The code of an answer.
-fn planned_code(p: Planned) -> u64
-    ensures { λ r. ⌜ r ≡ code (answerOf p) ⌝ }
-{
-    let Planned::Refused(f) = p else {
-        return 0;
-    };
-    code_of(f)
-}
-
-// What C reads of an answer.
-fn flat(p: Planned) -> PlanResult
-    ensures { λ r. ⌜ r ≡ planResultOf (answerOf p) ⌝ }
-{
-    let Planned::Plan {
-        steps,
-        cost,
-        runs,
-        searches,
-        real,
-    } = p
-    else {
-        return PlanResult {
-            code: planned_code(p),
-            steps: 0,
-            cost: 0,
-            runs: 0,
-            searches: 0,
-            real: false,
-        };
-    };
-    PlanResult {
-        code: 0,
-        steps,
-        cost,
-        runs,
-        searches,
-        real,
-    }
-}
+ghost use Rattle.codes.specs.Plans.{planResultOf, answerIn};
 
 // The plan of a record in the front of the plan list and its marks in that of the mark area, or the refusal by 1 to 8, 10, 11. The work list
 // is 65,535 at the end.
@@ -80,7 +26,7 @@ pub extern "C" fn mardiskos_plan(
     ensures { λ r. ⌜ Ceiling (now (bytes .entry)) (relaxedPlan (taskOf (now (bytes .entry)))) (answerIn r) ⌝ }
     ensures { λ r. ⌜ Recovers (now (bytes .entry)) (relaxedPlan (taskOf (now (bytes .entry)))) (answerIn r) (planIn (answerIn r) (now (plan .exit))) (marksIn (answerIn r) (now (marks .exit))) ⌝ }
 {
-    flat(planner::plan(bytes, plan, work, marks))
+    codes::flat(planner::plan(bytes, plan, work, marks))
 }
 
 // The caller's list repaired, in the front of the plan list, and its marks in that of the mark area, or the refusal by 1 to 8, 13, 9, 11. The
@@ -101,5 +47,5 @@ pub extern "C" fn mardiskos_repair(
     ensures { λ r. ⌜ Ceiling (now (bytes .entry)) (now (list .entry)) (answerIn r) ⌝ }
     ensures { λ r. ⌜ Recovers (now (bytes .entry)) (now (list .entry)) (answerIn r) (planIn (answerIn r) (now (plan .exit))) (marksIn (answerIn r) (now (marks .exit))) ⌝ }
 {
-    flat(planner::repair(bytes, list, plan, work, marks))
+    codes::flat(planner::repair(bytes, list, plan, work, marks))
 }

@@ -1,6 +1,6 @@
 // Sheets as C calls them.
-use crate::code_of;
-use crate::number_code;
+use codes::code_of;
+use codes::number_code;
 use answers::Number;
 use sheet::Reading;
 ghost use mathlib.Core.Path.{_≡_};

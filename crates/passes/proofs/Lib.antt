@@ -1,4 +1,2 @@
-pub mod Putting
 pub mod Passing
-pub mod Holding
 pub mod Serving

@@ -16,8 +16,9 @@ use Rattle.state.specs.Sets.{Asked}
 use Rattle.paths.specs.Paths.{pathsOf, Memo, Put}
 use Rattle.paths.specs.declared.Written.{Written}
 use Rattle.paths.specs.declared.Written.the-variants.{Upto, Long}
-use Rattle.passes.specs.Passes.{askedBy, passOf, Entries}
-use Rattle.passes.proofs.Putting.{asked-is, pre-fitting, after-fits, put-as}
+use Rattle.asking.specs.Asking.{askedBy, Entries}
+use Rattle.passes.specs.Passes.{passOf}
+use Rattle.asking.proofs.Putting.{asked-is, pre-fitting, after-fits, put-as}
 
 pub record Passing (t : Task) (K : State) (v : ℕ) (w : List Fact) (whole plan₀ plan memo : List ℕ) (c e j : ℕ) : Type 0 where
   pub within : e ≤ j

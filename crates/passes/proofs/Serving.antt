@@ -15,8 +15,9 @@ use Rattle.state.specs.Sets.{Asked}
 use Rattle.paths.specs.Paths.{pathsOf, Put}
 use Rattle.paths.specs.declared.Written.{Written}
 use Rattle.paths.specs.declared.Written.the-variants.{Upto, Long}
-use Rattle.passes.specs.Passes.{askedBy, passOf, unasked}
-use Rattle.passes.proofs.Putting.{asked-is, asked-as}
+use Rattle.asking.specs.Asking.{askedBy}
+use Rattle.passes.specs.Passes.{passOf, unasked}
+use Rattle.asking.proofs.Putting.{asked-is, asked-as}
 
 -- one entry more
 module _ (t : Task) (v i d : ℕ) (l : List ℕ) (q : Asked (look (act t i .pre) v) d) where

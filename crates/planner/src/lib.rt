@@ -13,12 +13,12 @@ ghost use lib.ListN.{length};
 ghost use Rattle.planning.specs.Record.{taskOf, recordCheck};
 ghost use Rattle.planning.specs.Runs.{relaxed, isPlan};
 ghost use Rattle.planning.specs.Relaxed.{relaxedPlan};
-ghost use Rattle.planning.specs.Calls.{planCall, planList, planMarks, repairCall, repairList, repairMarks, workList, planIn, marksIn, runnable, lent, lentBytes};
+ghost use Rattle.planning.specs.Calls.{planCall, planList, planMarks, repairCall, repairList, repairMarks, workList, planIn, marksIn, runnable};
 ghost use Rattle.planning.specs.Existence.{Demand3, Bounded, Ceiling, Recovers};
 ghost use Rattle.task.specs.Task.{taskIn, Loaded};
 ghost use Rattle.size.specs.Size.{taskSize, RoomIn};
 ghost use Rattle.task.specs.Links.{Prepared};
-ghost use Rattle.answers.specs.Plans.{answerOf, stepsOf};
+ghost use Rattle.answers.specs.Plans.{answerOf};
 ghost use Rattle.repair.specs.Answers.{roomIn};
 ghost use Rattle.planner.specs.Drafts.{Drafted, Sourced, Painted, Called};
 
@@ -136,33 +136,6 @@ fn plan_checked(
     plan_sized(bytes, size::room_for(bytes), given, list, plan, work, marks)
 }
 
-// The steps of an answer, 0 after a refusal.
-fn steps_of(answer: Planned) -> usize
-    ensures { λ r. ⌜ r ≡ stepsOf answer ⌝ }
-{
-    let Planned::Plan {
-        steps,
-        cost: _,
-        runs: _,
-        searches: _,
-        real: _,
-    } = answer
-    else {
-        return 0;
-    };
-    steps as usize
-}
-
-// What stands behind the plan is 65,535, and behind the marks 0.
-fn finish(answer: Planned, plan: &mut [u16], marks: &mut [u8])
-    ensures { λ _. ⌜ now (plan .exit) ≡ lent (answerOf answer) (length (now (plan .entry))) (planIn (answerOf answer) (now (plan .entry))) ⌝ }
-    ensures { λ _. ⌜ now (marks .exit) ≡ lentBytes (answerOf answer) (length (now (marks .entry))) (marksIn (answerOf answer) (now (marks .entry))) ⌝ }
-{
-    let steps = steps_of(answer);
-    lists::blank_from(plan, steps);
-    lists::clear_from(marks, steps);
-}
-
 // The planner: from a record to a repaired plan and its marks. Checks 1 to 8, 10, 11.
 pub fn plan(bytes: &[u8], plan: &mut [u16], work: &mut [u16], marks: &mut [u8]) -> Planned
     ensures { λ r. ⌜ answerOf r ≡ planCall (now (bytes .entry)) (length (now (plan .entry))) (length (now (work .entry))) (length (now (marks .entry))) ⌝ }
@@ -175,7 +148,7 @@ pub fn plan(bytes: &[u8], plan: &mut [u16], work: &mut [u16], marks: &mut [u8]) 
     ensures { λ r. ⌜ Recovers (now (bytes .entry)) (relaxedPlan (taskOf (now (bytes .entry)))) (answerOf r) (planIn (answerOf r) (now (plan .exit))) (marksIn (answerOf r) (now (marks .exit))) ⌝ }
 {
     let r = plan_checked(bytes, false, &[], plan, work, marks);
-    finish(r, plan, marks);
+    handing::finish(r, plan, marks);
     lists::blank(work);
     r
 }
@@ -197,7 +170,7 @@ pub fn repair(
     ensures { λ r. ⌜ Recovers (now (bytes .entry)) (now (list .entry)) (answerOf r) (planIn (answerOf r) (now (plan .exit))) (marksIn (answerOf r) (now (marks .exit))) ⌝ }
 {
     let r = plan_checked(bytes, true, list, plan, work, marks);
-    finish(r, plan, marks);
+    handing::finish(r, plan, marks);
     lists::blank(work);
     r
 }

@@ -16,7 +16,7 @@ use Rattle.laws.proofs.Formed.{Formed}
 use Rattle.lists.proofs.Laying.{capacity-le, room-fits, room-short}
 use Rattle.paths.specs.Paths.{fewValues, memoFor, Memo}
 use Rattle.paths.proofs.Memos.{memo-marks}
-use Rattle.passes.proofs.Putting.{blank-memo}
+use Rattle.leads.proofs.Forgetting.{blank-memo}
 use Rattle.answers.specs.declared.Planned.{Planned}
 use Rattle.answers.specs.Plans.{answerOf}
 use Rattle.repair.specs.Answers.{Held}

@@ -27,10 +27,10 @@ use Rattle.state.specs.Sets.{setsOf, redBlackOf}
 use Rattle.state.proofs.RedBlack.{redBlack-step, redBlack-initial}
 use Rattle.paths.specs.Paths.{Memo, Put}
 use Rattle.paths.specs.declared.Written.the-variants as written
-use Rattle.passes.specs.declared.Inserted.{Inserted}
-use Rattle.passes.specs.declared.Inserted.the-variants.{Upto, Long}
-use Rattle.passes.specs.Passes.{Entries, writtenIn, Searched}
-use Rattle.passes.proofs.Putting.{told-as, counts-as}
+use Rattle.asking.specs.declared.Inserted.{Inserted}
+use Rattle.asking.specs.declared.Inserted.the-variants.{Upto, Long}
+use Rattle.asking.specs.Asking.{Entries, writtenIn, Searched}
+use Rattle.asking.proofs.Putting.{told-as, counts-as}
 use Rattle.counts.specs.declared.Counts.{Counts}
 use Rattle.counts.specs.Counting.{noCounts, Onward, Small, Few}
 use Rattle.counts.specs.Marks.{marksFor}

@@ -1,7 +1,7 @@
 // The repair of a relaxed plan. Steps so far stand in the front of the plan list, the moves under construction behind them, and a pass
 // works in the same place. Passes only insert and applying only appends, so as soon as steps and moves do not fit, the whole plan does not.
 use answers::Planned;
-use passes::Inserted;
+use asking::Inserted;
 use state::State;
 ghost use mathlib.Core.Path.{_≡_};
 ghost use Prim.Native.Nat.{_≤_};
@@ -47,7 +47,7 @@ fn walk(task: &[u16], list: &[u16], plan: &mut [u16], marks: &mut [u8], memo: &m
             continue;
         }
         c = counts::counted(task, &s.newest.values, i, c);
-        passes::refresh(task, &s.sets, memo, i, needs);
+        leads::refresh(task, &s.sets, memo, i, needs);
         s = s.step(task, i);
     }
     counts::verdict(task, &s.newest.values, c, searched)

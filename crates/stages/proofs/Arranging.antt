@@ -15,10 +15,11 @@ use Rattle.paths.proofs.Facts.{pre-facts}
 use Rattle.paths.specs.Paths.{Put}
 use Rattle.paths.specs.declared.Written.{Written}
 use Rattle.paths.specs.declared.Written.the-variants.{Upto}
-use Rattle.passes.specs.declared.Inserted.{Inserted}
-use Rattle.passes.specs.declared.Inserted.the-variants as inserted
-use Rattle.passes.specs.Passes.{factsOf, writtenIn, Searched}
-use Rattle.passes.proofs.Putting.{pre-fitting, told-as, counts-as}
+use Rattle.asking.specs.declared.Inserted.{Inserted}
+use Rattle.asking.specs.declared.Inserted.the-variants as inserted
+use Rattle.asking.specs.Asking.{writtenIn, Searched}
+use Rattle.passes.specs.Passes.{factsOf}
+use Rattle.asking.proofs.Putting.{pre-fitting, told-as, counts-as}
 use Rattle.stages.specs.Stages.{Wanted, filled, moved, stepsFor, lastMoves, stageOf, filledSearches, movedSearches, stageSearches}
 
 pub moves-none : (t : Task) (K s : State) (w : List Fact) (plan : List ℕ) (a : ℕ) → blackMet (black t) s w ≡ true → a ≤ length plan → Put plan plan a (moved t K s w) (Upto a)

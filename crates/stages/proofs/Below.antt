@@ -19,7 +19,8 @@ use Rattle.laws.proofs.Best.{best-below}
 use Rattle.laws.proofs.Fill.{fill-searches}
 use Rattle.laws.proofs.Formed.{Formed}
 use Rattle.laws.proofs.Order.{clientsFirst-le}
-use Rattle.passes.specs.Passes.{passOf, Entries}
+use Rattle.asking.specs.Asking.{Entries}
+use Rattle.passes.specs.Passes.{passOf}
 use Rattle.paths.specs.Paths.{pathsOf}
 use Rattle.stages.specs.Stages.{fillFrom, filled, moved, stageOf, filledSearches, movedSearches, stageSearches}
 

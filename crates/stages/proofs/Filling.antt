@@ -14,10 +14,11 @@ use Rattle.planning.specs.Repair.{fill, value, order, passSearches, fillSearche
 use Rattle.laws.proofs.Fill.{fill-grows, pass-searches}
 use Rattle.paths.specs.Paths.{pathsOf, Memo, Put}
 use Rattle.paths.specs.declared.Written.the-variants as written
-use Rattle.passes.specs.declared.Inserted.{Inserted}
-use Rattle.passes.specs.declared.Inserted.the-variants.{Upto, Long}
-use Rattle.passes.specs.Passes.{served, Entries, writtenIn, Searched}
-use Rattle.passes.proofs.Putting.{told-as, counts-as}
+use Rattle.asking.specs.declared.Inserted.{Inserted}
+use Rattle.asking.specs.declared.Inserted.the-variants.{Upto, Long}
+use Rattle.asking.specs.Asking.{Entries, writtenIn, Searched}
+use Rattle.passes.specs.Passes.{served}
+use Rattle.asking.proofs.Putting.{told-as, counts-as}
 use Rattle.stages.specs.Stages.{Present, fillFrom, filled, searchesOver, filledSearches}
 use Rattle.stages.proofs.Below.{pass-entries, order-at}
 

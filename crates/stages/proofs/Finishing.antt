@@ -15,8 +15,9 @@ use Rattle.state.specs.declared.Goals.{Goals}
 use Rattle.state.proofs.Listing.{between-inside}
 use Rattle.paths.specs.Paths.{Put}
 use Rattle.paths.specs.declared.Written.{Written}
-use Rattle.passes.specs.Passes.{Fitting, factsOf, Searched}
-use Rattle.passes.specs.declared.Inserted.{Inserted}
+use Rattle.asking.specs.Asking.{Fitting, Searched}
+use Rattle.passes.specs.Passes.{factsOf}
+use Rattle.asking.specs.declared.Inserted.{Inserted}
 use Rattle.stages.specs.Stages.{Wanted, moved, movedSearches}
 
 module _ (t : Task) (F : Formed t) (g : Goals) (G : GoalsOf t g) (few : g .count ≤ length (g .facts)) where

@@ -10,7 +10,8 @@ use Rattle.planning.specs.Repair.{order, fill, value, blackMet, fillSearches}
 use Rattle.task.specs.Task.{taskIn}
 use Rattle.state.specs.Sets.{setsOf, valuesOf, redBlackOf}
 use Rattle.paths.specs.Paths.{pathsOf}
-use Rattle.passes.specs.Passes.{factsOf, Fitting}
+use Rattle.asking.specs.Asking.{Fitting}
+use Rattle.passes.specs.Passes.{factsOf}
 
 -- r is the fact, 64 × variable + value, that v has in the state s
 pub record Present (t : Task) (s : State) (v r : ℕ) : Type 0 where

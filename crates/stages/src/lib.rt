@@ -1,6 +1,6 @@
 // The steps of one stage of the repair: moves for the black preconditions of an entry, and the entry, or in the end moves for the goals.
 // They are built where they stay, in the plan list behind the steps so far. Passes only insert, so as soon as moves do not fit, the stage does not.
-use passes::Inserted;
+use asking::Inserted;
 use state::Goals;
 ghost use mathlib.Core.Path.{_≡_};
 ghost use mathlib.Core.Bool.{not, _&&_};
@@ -13,7 +13,8 @@ ghost use Rattle.task.specs.Task.{taskIn, Loaded};
 ghost use Rattle.task.specs.Links.{Prepared};
 ghost use Rattle.state.specs.Sets.{setsOf, valuesOf};
 ghost use Rattle.paths.specs.Paths.{Memo, Put};
-ghost use Rattle.passes.specs.Passes.{factsOf, Entries, writtenIn, Searched};
+ghost use Rattle.asking.specs.Asking.{Entries, writtenIn, Searched};
+ghost use Rattle.passes.specs.Passes.{factsOf};
 ghost use Rattle.stages.specs.Stages.{Present, Wanted, filledIn, movedIn, stepsIn, lastIn, stageIn};
 ghost use Rattle.stages.specs.Stages.{filledSearchesIn, movedSearchesIn, stepsSearchesIn, lastSearchesIn, stageSearchesIn};
 
@@ -152,7 +153,7 @@ fn arrange(
     let from = task::pre_start(task, k);
     let to = task::eff_start(task, k);
     let w = moves(task, newest, ever, memo, &task[from..to], plan, at);
-    passes::push(w, i, plan)
+    asking::push(w, i, plan)
 }
 
 // The moves for the goals, at the end of the plan.

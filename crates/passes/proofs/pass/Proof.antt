@@ -15,8 +15,9 @@ use Rattle.laws.proofs.Fill.{askedFor-one}
 use Rattle.laws.proofs.Formed.{Formed}
 use Rattle.task.specs.Task.{taskIn}
 use Rattle.state.specs.Sets.{setsOf}
-use Rattle.passes.specs.Passes.{askedBy, served, factsOf}
-use Rattle.passes.proofs.Putting.{asked-as, asked-fits, pre-fitting, inserted-put, inserted-counts}
+use Rattle.asking.specs.Asking.{askedBy}
+use Rattle.passes.specs.Passes.{served, factsOf}
+use Rattle.asking.proofs.Putting.{asked-as, asked-fits, pre-fitting, inserted-put, inserted-counts}
 use Rattle.passes.proofs.Passing.{Passing, passing-start, passing-entry, passing-end, Tally, tally-start, tally-end, Led, led-length, led-long, led-fits, led-turn, led-tally}
 use Rattle.passes.proofs.pass.Statement.{statement}
 use Rattle.passes.proofs.pass.Tie as tie

@@ -13,8 +13,9 @@ use Rattle.state.specs.Sets.{setsOf}
 use Rattle.paths.specs.Paths.{pathsOf, Put}
 use Rattle.paths.specs.declared.Written.{Written}
 use Rattle.paths.specs.declared.Written.the-variants.{Upto}
-use Rattle.passes.specs.Passes.{askedBy, servedIn, unasked, factsOf, writtenIn, Searched}
-use Rattle.passes.proofs.Putting.{asked-fits, lead-there, not-there, lead-some, inserted-put, inserted-counts}
+use Rattle.asking.specs.Asking.{askedBy, writtenIn, Searched}
+use Rattle.passes.specs.Passes.{servedIn, unasked, factsOf}
+use Rattle.asking.proofs.Putting.{asked-fits, lead-there, not-there, lead-some, inserted-put, inserted-counts}
 use Rattle.passes.proofs.Serving.{served-behind, served-counts, served-moved}
 use Rattle.passes.proofs.serve.Statement.{statement}
 use Rattle.passes.proofs.serve.Tie as tie

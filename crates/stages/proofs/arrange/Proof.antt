@@ -5,7 +5,7 @@ use lib.ListN.{length}
 use Rattle.planning.specs.Runs.{act}
 use Rattle.task.specs.Task.{taskIn}
 use Rattle.state.specs.Sets.{setsOf}
-use Rattle.passes.specs.Passes.{writtenIn}
+use Rattle.asking.specs.Asking.{writtenIn}
 use Rattle.stages.specs.Stages.{moved, shownBy}
 use Rattle.stages.proofs.Arranging.{pre-bounds, part-wanted, moves-pre, searches-pre}
 use Rattle.stages.proofs.arrange.Statement.{statement}

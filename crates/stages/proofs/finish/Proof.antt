@@ -6,7 +6,7 @@ use lib.ListN.{length}
 use lib.Seq.{length-take-le}
 use Rattle.task.specs.Task.{taskIn}
 use Rattle.state.specs.Sets.{setsOf}
-use Rattle.passes.specs.Passes.{writtenIn}
+use Rattle.asking.specs.Asking.{writtenIn}
 use Rattle.stages.specs.Stages.{shownBy}
 use Rattle.stages.proofs.Finishing.{goals-wanted, goals-moves, goals-searches}
 use Rattle.stages.proofs.finish.Statement.{statement}
