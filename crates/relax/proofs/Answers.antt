@@ -15,7 +15,7 @@ use Rattle.lists.specs.Lent.{laid}
 use Rattle.state.specs.Sets.{setsOf}
 use Rattle.state.proofs.Members.{inSet-empty}
 use Rattle.forward.specs.Answers.{called}
-use Rattle.forward.proofs.Chains.{zeros}
+use Rattle.ready.proofs.Bits.{zeros}
 use Rattle.forward.proofs.Answers.{called-unsolved, called-whole, called-short, called-list, called-refused, called-accepts, lent-refused}
 use Rattle.relax.specs.Keeping.{Joined, Front, Found, Unfound}
 use Rattle.relax.specs.Answers.{relaxOf, relaxIn}

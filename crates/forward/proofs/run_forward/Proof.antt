@@ -1,6 +1,6 @@
 use borrow.Author.Needs.{needs}
 use native.Mathlib.Omega.{arith}
-use Rattle.forward.proofs.Chains.{free-new}
+use Rattle.waiting.proofs.Chains.{free-new}
 use Rattle.forward.proofs.run_forward.Statement.{statement}
 use Rattle.forward.proofs.run_forward.Tie as tie
 
