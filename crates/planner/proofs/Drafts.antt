@@ -19,7 +19,7 @@ use Rattle.laws.proofs.Plans.{isPlan-elim}
 use Rattle.laws.proofs.Checks.{check-none, andThen-last, andThen-assoc, inOrder-pass, inOrder-++}
 use Rattle.answers.specs.declared.Refusal.{Refusal}
 use Rattle.answers.proofs.Stages.{answer-done}
-use Rattle.relax.specs.Keeping.{Unfound}
+use Rattle.relax.specs.Kept.{Unfound}
 use Rattle.repair.specs.Answers.{Held}
 use Rattle.stages.proofs.Below.{all-entries}
 use Rattle.judge.specs.Answers.{Entries, callerCheck}

@@ -9,10 +9,11 @@ use Rattle.planning.specs.Relaxed.{reachedNeeded}
 use Rattle.task.specs.Task.{taskIn}
 use Rattle.state.specs.Sets.{setsOf}
 use borrow.Author.Needs.{needs}
-use Rattle.relax.specs.Keeping.{byOf, Keeping}
-use Rattle.relax.proofs.Laws.{keeping-start, entry-below, keeping-no, keeping-room, keeping-yes, keeping-entry, keeping-end}
-use Rattle.relax.proofs.keep_back.Statement.{statement}
-use Rattle.relax.proofs.keep_back.Tie as tie
+use Rattle.keeping.specs.Keeping.{byOf, Keeping}
+use Rattle.achievers.proofs.Achievers.{entry-below}
+use Rattle.keeping.proofs.Keeping.{keeping-start, keeping-no, keeping-room, keeping-yes, keeping-entry, keeping-end}
+use Rattle.keeping.proofs.keep_back.Statement.{statement}
+use Rattle.keeping.proofs.keep_back.Tie as tie
 
 abbrev Inv-loop : tie.InvT-loop
 Inv-loop task first n needed₀ run k₀ m₀ needed kept k m = Keeping (taskIn task) run n needed kept k m

@@ -1,9 +1,9 @@
 use mathlib.Core.Path.{sym, _∙_}
 use Rattle.state.specs.Sets.{setsOf}
-use Rattle.relax.proofs.Laws.{needed-not, needed-is}
+use Rattle.keeping.proofs.Keeping.{needed-not, needed-is}
 use borrow.Author.Needs.{needs}
-use Rattle.relax.proofs.first_needed.Statement.{statement}
-use Rattle.relax.proofs.first_needed.Tie as tie
+use Rattle.keeping.proofs.first_needed.Statement.{statement}
+use Rattle.keeping.proofs.first_needed.Tie as tie
 
 mul-wide : tie.Need-mul-wide
 mul-wide c = search needs

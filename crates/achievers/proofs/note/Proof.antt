@@ -8,10 +8,10 @@ use Rattle.planning.specs.Runs.{has}
 use Rattle.task.specs.Task.{effAt, endAt, actionIn}
 use Rattle.state.proofs.Listed.{Listed}
 use Rattle.state.proofs.Listing.{loaded-listed}
-use Rattle.relax.specs.Keeping.{Noted}
-use Rattle.relax.proofs.Laws.{Noting, noting-turn, noting-end}
-use Rattle.relax.proofs.note.Statement.{statement}
-use Rattle.relax.proofs.note.Tie as tie
+use Rattle.achievers.specs.Achievers.{Noted}
+use Rattle.achievers.proofs.Achievers.{Noting, noting-turn, noting-end}
+use Rattle.achievers.proofs.note.Statement.{statement}
+use Rattle.achievers.proofs.note.Tie as tie
 
 abbrev Inv-loop : tie.InvT-loop
 Inv-loop task i first₀ to k₀ first k = (to ≡ endAt task i) × Noting task (effAt task i) (endAt task i) i first₀ first k

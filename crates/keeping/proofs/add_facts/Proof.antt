@@ -5,9 +5,9 @@ use native.Mathlib.Omega.{arith}
 use lib.Bits.{bitOr}
 use lib.ListN.{getD}
 use borrow.Author.Needs.{needs}
-use Rattle.relax.proofs.Laws.{Adding, adding-turn, adding-end}
-use Rattle.relax.proofs.add_facts.Statement.{statement}
-use Rattle.relax.proofs.add_facts.Tie as tie
+use Rattle.keeping.proofs.Keeping.{Adding, adding-turn, adding-end}
+use Rattle.keeping.proofs.add_facts.Statement.{statement}
+use Rattle.keeping.proofs.add_facts.Tie as tie
 
 abbrev Inv-loop : tie.InvT-loop
 Inv-loop sets₀ facts from to k₀ sets k = Adding facts from to sets₀ sets k

@@ -6,10 +6,10 @@ use native.Mathlib.Omega.{arith}
 use lib.ListN.{length, drop, length-replicate}
 use Rattle.planning.specs.Relaxed.{forwardRun}
 use Rattle.task.specs.Task.{taskIn}
-use Rattle.relax.specs.Keeping.{Setters}
-use Rattle.relax.proofs.Laws.{setters-start, setters-turn, entry-below}
-use Rattle.relax.proofs.note_run.Statement.{statement}
-use Rattle.relax.proofs.note_run.Tie as tie
+use Rattle.achievers.specs.Achievers.{Setters}
+use Rattle.achievers.proofs.Achievers.{setters-start, setters-turn, entry-below}
+use Rattle.achievers.proofs.note_run.Statement.{statement}
+use Rattle.achievers.proofs.note_run.Tie as tie
 
 abbrev Inv-loop : tie.InvT-loop
 Inv-loop task run n first₀ k₀ first k = (k ≤ n) × (length first ≡ 4096) × Setters (taskIn task) (drop k (forwardRun (taskIn task))) first

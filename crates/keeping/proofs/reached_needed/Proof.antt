@@ -10,10 +10,10 @@ use Rattle.task.specs.Task.{factsIn, effAt, endAt, actionIn, taskIn}
 use Rattle.state.specs.Sets.{setsOf}
 use Rattle.state.proofs.Listed.{Listed}
 use Rattle.state.proofs.Listing.{loaded-listed}
-use Rattle.relax.specs.Keeping.{byOf}
-use Rattle.relax.proofs.Laws.{reachedNeeded-hit, reachedNeeded-miss, reachedNeeded-end}
-use Rattle.relax.proofs.reached_needed.Statement.{statement}
-use Rattle.relax.proofs.reached_needed.Tie as tie
+use Rattle.keeping.specs.Keeping.{byOf}
+use Rattle.keeping.proofs.Keeping.{reachedNeeded-hit, reachedNeeded-miss, reachedNeeded-end}
+use Rattle.keeping.proofs.reached_needed.Statement.{statement}
+use Rattle.keeping.proofs.reached_needed.Tie as tie
 
 abbrev Inv-loop : tie.InvT-loop
 Inv-loop needed first task i to k₀ k =

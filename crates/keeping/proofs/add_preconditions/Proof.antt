@@ -1,9 +1,9 @@
 use native.Mathlib.Omega.{arith}
 use borrow.Author.Needs.{needs}
 use Rattle.state.proofs.Listing.{loaded-listed}
-use Rattle.relax.proofs.Laws.{joined-pre}
-use Rattle.relax.proofs.add_preconditions.Statement.{statement}
-use Rattle.relax.proofs.add_preconditions.Tie as tie
+use Rattle.keeping.proofs.Keeping.{joined-pre}
+use Rattle.keeping.proofs.add_preconditions.Statement.{statement}
+use Rattle.keeping.proofs.add_preconditions.Tie as tie
 
 pre-start-requires : tie.Need-pre-start-requires
 pre-start-requires c κs = search needs

@@ -6,9 +6,9 @@ use native.Mathlib.Omega.{arith}
 use Rattle.planning.specs.Runs.{variables}
 use Rattle.laws.proofs.Formed.{Formed}
 use Rattle.task.specs.Task.{taskIn}
-use Rattle.relax.proofs.Laws.{Unsetting, unsetting-start, unsetting-turn, unsetting-end}
-use Rattle.relax.proofs.unset_initial.Statement.{statement}
-use Rattle.relax.proofs.unset_initial.Tie as tie
+use Rattle.achievers.proofs.Achievers.{Unsetting, unsetting-start, unsetting-turn, unsetting-end}
+use Rattle.achievers.proofs.unset_initial.Statement.{statement}
+use Rattle.achievers.proofs.unset_initial.Tie as tie
 
 abbrev Inv-loop : tie.InvT-loop
 Inv-loop task first₀ n v₀ first v = (n ≡ variables (taskIn task)) × Unsetting (taskIn task) first₀ first v
