@@ -10,9 +10,9 @@ use Rattle.planning.specs.Runs.{act, actions, holds, relaxed}
 use Rattle.task.specs.Task.{taskIn}
 use Rattle.state.specs.Sets.{setsOf}
 use Rattle.state.proofs.RedBlack.{step-held}
-use Rattle.judge.proofs.Going.{Going, going-at, going-turn, going-stop, going-end}
-use Rattle.judge.proofs.judge_relaxed.Statement.{statement}
-use Rattle.judge.proofs.judge_relaxed.Tie as tie
+use Rattle.callers.proofs.Going.{Going, going-at, going-turn, going-stop, going-end}
+use Rattle.callers.proofs.judge_relaxed.Statement.{statement}
+use Rattle.callers.proofs.judge_relaxed.Tie as tie
 
 abbrev Inv-loop : tie.InvT-loop
 Inv-loop task list from s₀ k₀ s k = Going (taskIn task) relaxed list (setsOf (s .sets)) k

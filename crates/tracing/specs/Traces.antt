@@ -1,18 +1,13 @@
 -- One pass over a list: the red-black run up to where it stops, and the steps that run for real.
 use mathlib.Core.Path.{_≡_}
 use mathlib.Core.List.{List}
-use Prim.Native.Nat.{ℕ, _≤_}
-use lib.ListN.{take}
+use Prim.Native.Nat.{ℕ}
 use Rattle.planning.specs.Record.{Task}
-use Rattle.planning.specs.Runs.{State, relaxed, real, black, act, initial, run, stepsRun}
+use Rattle.planning.specs.Runs.{State, real, black, act, initial, stepsRun}
 use Rattle.planning.specs.Newest.{Values, redBlackSteps, stopsIn}
 use Rattle.state.specs.Sets.{setsOf, valuesOf, redBlackOf}
-use Rattle.judge.specs.declared.Trace.{Trace}
-
--- the first k steps of the list l run relaxed, and the state behind them is s
-pub record Relaxes (t : Task) (l : List ℕ) (s : State) (k : ℕ) : Type 0 where
-  pub runs : k ≤ stepsRun (act t) relaxed l (initial t)
-  pub held : s ≡ run (act t) relaxed (take k l) (initial t)
+use Rattle.callers.specs.Callers.{Relaxes}
+use Rattle.tracing.specs.declared.Trace.{Trace}
 
 -- 3.13: the parts of a pass for the verdicts. Where the red-black run stops, the values held so far and the newest ones, which show its state;
 -- how many steps run for real, and again those newest values

@@ -12,9 +12,9 @@ use Rattle.planning.specs.Runs.{Mode, holds, actions, act, black}
 use Rattle.task.specs.Task.{taskIn}
 use Rattle.state.specs.Sets.{setsOf, valuesOf, modeOf, redBlackOf, Known}
 use Rattle.state.proofs.Knowing.{known-none, known-held}
-use Rattle.judge.proofs.Tracing.{tracing-few, tracing-stop, tracing-end, applied, Following, following-start, following-turn, following-held, follows-painted, follows-real, follows-relaxed}
-use Rattle.judge.proofs.follow.Statement.{statement}
-use Rattle.judge.proofs.follow.Tie as tie
+use Rattle.tracing.proofs.Tracing.{tracing-few, tracing-stop, tracing-end, applied, Following, following-start, following-turn, following-held, follows-painted, follows-real, follows-relaxed}
+use Rattle.tracing.proofs.follow.Statement.{statement}
+use Rattle.tracing.proofs.follow.Tie as tie
 
 abbrev Inv-loop : tie.InvT-loop
 Inv-loop task list paint s₀ known₀ k₀ runs₀ s known k runs =

@@ -22,8 +22,9 @@ use Rattle.laws.proofs.Newest.{newestAfter, track-sets, track-newest, real-appl
 use Rattle.state.specs.Sets.{further, redBlackOf}
 use Rattle.state.proofs.Running.{further-fails, further-stopped, further-steps}
 use Rattle.state.proofs.RedBlack.{redBlack-step, redBlack-initial, step-held}
-use Rattle.judge.specs.Traces.{StopsAs, RunsAs, Relaxes}
-use Rattle.judge.proofs.Modes.{redBlack-further, relaxed-further, judged-of}
+use Rattle.tracing.specs.Traces.{StopsAs, RunsAs}
+use Rattle.callers.specs.Callers.{Relaxes}
+use Rattle.tracing.proofs.Modes.{redBlack-further, relaxed-further, judged-of}
 
 module _ (t : Task) (l : List ℕ) where
   pub record Tracing (s : State) (f : Values) (k runs : ℕ) : Type 0 where

@@ -16,10 +16,10 @@ use Rattle.planning.specs.Record.{Task}
 use Rattle.planning.specs.Runs.{State, holds, step, act, actions, initial, goals, relaxed, run, runs, stepsRun, isPlan, Judged, judged, runBy, runsBy, stepsBy}
 use Rattle.planning.specs.Calls.{lengthCheck, entriesCheck, relaxedFault, relaxedCheck}
 use Rattle.laws.proofs.Calls.{relaxedCheck-of}
-use Rattle.judge.specs.Answers.{leading}
-use Rattle.judge.specs.Traces.{Relaxes}
-use Rattle.judge.proofs.Lists.{leading-cons, leading-none, leading-below, entries-below, allBelow-of, short-checked}
-use Rattle.judge.proofs.Going.{stepsRun-pass, stepsRun-stop, runs-pass, run-more}
+use Rattle.entries.specs.Entries.{leading}
+use Rattle.callers.specs.Callers.{Relaxes}
+use Rattle.entries.proofs.Lists.{leading-cons, leading-none, leading-below, entries-below, allBelow-of, short-checked}
+use Rattle.callers.proofs.Going.{stepsRun-pass, stepsRun-stop, runs-pass, run-more}
 
 module _ (t : Task) (s : State) (k i : ℕ) (l : List ℕ) where
   fault-pass : i < actions t → holds s (act t i .pre) ≡ true → relaxedFault t s k (i ∷ l) ≡ relaxedFault t (step relaxed (act t i) s) (suc k) l

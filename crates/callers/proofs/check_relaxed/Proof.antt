@@ -8,11 +8,11 @@ use lib.Seq.{length-take-le}
 use Rattle.task.specs.Task.{taskIn}
 use Rattle.planning.specs.Runs.{actions}
 use Rattle.planning.specs.Calls.{relaxedCheck}
-use Rattle.judge.specs.Answers.{leading}
-use Rattle.judge.proofs.Lists.{long-refused, entries-below}
-use Rattle.judge.proofs.Relaxed.{front-entries, relaxed-passed, relaxed-refused, relaxes-none}
-use Rattle.judge.proofs.check_relaxed.Statement.{statement}
-use Rattle.judge.proofs.check_relaxed.Tie as tie
+use Rattle.entries.specs.Entries.{leading}
+use Rattle.entries.proofs.Lists.{long-refused, entries-below}
+use Rattle.callers.proofs.Relaxed.{front-entries, relaxed-passed, relaxed-refused, relaxes-none}
+use Rattle.callers.proofs.check_relaxed.Statement.{statement}
+use Rattle.callers.proofs.check_relaxed.Tie as tie
 
 returns : tie.Need-returns
 returns c = let a = c .before .before .before .args in long-refused (relaxedCheck (taskIn (a .task .now)) (a .list .now)) (a .list .now) (omega arith)

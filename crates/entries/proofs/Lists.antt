@@ -8,14 +8,15 @@ use native.Mathlib.Numerals.{add-one}
 use native.Mathlib.Omega.{arith}
 use native.Mathlib.Decide.{decLt}
 use borrow.Author.Tests.{lt-ltb, le-ltb, lt-leb, le-leb}
+use lib.Dec.{leb→le}
 use lib.ListN.{length, getD, take, drop, drop-of-length-le}
 use lib.Seq.{drop-cons}
 use Rattle.planning.specs.Basics.{Check, done, refused, answer, inOrder, andThen, check, refuseAt}
 use Rattle.planning.specs.Runs.{allBelow, actions}
 use Rattle.planning.specs.Record.{Task}
 use Rattle.planning.specs.Calls.{notBelow, lengthCheck, entriesCheck}
-use Rattle.laws.proofs.Checks.{refuseAt-none, andThen-last}
-use Rattle.judge.specs.Answers.{leading}
+use Rattle.laws.proofs.Checks.{refuseAt-none, andThen-last, check-none, inOrder-passed}
+use Rattle.entries.specs.Entries.{Entries, listCheck, leading}
 
 notBelow-cons : (n k i : ℕ) (l : List ℕ) → i < n → notBelow n k (i ∷ l) ≡ notBelow n (suc k) l
 unfolding notBelow
@@ -111,3 +112,10 @@ module _ (t : Task) (l : List ℕ) (n : ℕ) (s : length l ≤ 32768) (e : n ≡
   pub list-passed : length l ≤ n → n ≤ length l → done n ≡ answer (inOrder (lengthCheck l ∷ entriesCheck t l ∷ [])) (length l)
   unfolding entriesCheck answer refuseAt
   list-passed h b = rw (short-checked (entriesCheck t l) l s, notBelow-none (actions t) 0 l (omega (arith, e))) (ap done (omega arith))
+
+-- a list that passed
+pub list-ready : (t : Task) (l : List ℕ) → listCheck t l ≡ none → (length l ≤ 32768) × Entries t l
+unfolding lengthCheck
+list-ready t l h =
+    let P = inOrder-passed (lengthCheck l ∷ entriesCheck t l ∷ []) h in
+    (leb→le (length l) 32768 (check-none _ 13 32768 (P .0)), entries-below t l (P .1 .0))

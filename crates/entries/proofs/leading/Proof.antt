@@ -4,10 +4,10 @@ use mathlib.Core.Path.{_≡_}
 use Prim.Native.Nat.{_+_, _-_, _≤_}
 use native.Mathlib.Omega.{arith}
 use lib.ListN.{length, drop}
-use Rattle.judge.specs.Answers.{leading}
-use Rattle.judge.proofs.Lists.{leading-turn, leading-stop, leading-end}
-use Rattle.judge.proofs.leading.Statement.{statement}
-use Rattle.judge.proofs.leading.Tie as tie
+use Rattle.entries.specs.Entries.{leading}
+use Rattle.entries.proofs.Lists.{leading-turn, leading-stop, leading-end}
+use Rattle.entries.proofs.leading.Statement.{statement}
+use Rattle.entries.proofs.leading.Tie as tie
 
 abbrev Inv-loop : tie.InvT-loop
 Inv-loop list n k₀ k = (k ≤ length list) × (leading n list ≡ k + leading n (drop k list))

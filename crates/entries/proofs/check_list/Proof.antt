@@ -5,10 +5,10 @@ use native.Mathlib.Omega.{arith}
 use Rattle.task.specs.Task.{taskIn}
 use Rattle.planning.specs.Runs.{actions}
 use Rattle.planning.specs.Calls.{entriesCheck}
-use Rattle.judge.specs.Answers.{leading}
-use Rattle.judge.proofs.Lists.{long-refused, list-refused, list-passed}
-use Rattle.judge.proofs.check_list.Statement.{statement}
-use Rattle.judge.proofs.check_list.Tie as tie
+use Rattle.entries.specs.Entries.{leading}
+use Rattle.entries.proofs.Lists.{long-refused, list-refused, list-passed}
+use Rattle.entries.proofs.check_list.Statement.{statement}
+use Rattle.entries.proofs.check_list.Tie as tie
 
 returns : tie.Need-returns
 returns c = let a = c .before .before .before .args in long-refused (entriesCheck (taskIn (a .task .now)) (a .list .now)) (a .list .now) (omega arith)
