@@ -18,7 +18,7 @@ use Rattle.answers.specs.declared.Refusal.{Refusal}
 use Rattle.answers.proofs.Stages.{stage-passes}
 use Rattle.lists.proofs.Laying.{room-fits, room-short}
 use Rattle.state.specs.Sets.{valuesOf}
-use Rattle.judge.specs.Answers.{listCheck}
+use Rattle.entries.specs.Entries.{listCheck}
 use Rattle.newest.specs.declared.Board.{Board}
 use Rattle.newest.specs.declared.Progress.the-variants.{Run}
 use Rattle.newest.specs.Answers.{emptyBy, shownOf, Shows, Tells, Called}

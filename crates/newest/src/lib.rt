@@ -43,7 +43,7 @@ fn tell_loaded(task: &[u16], list: &[u16], room: usize) -> Board
     requires { ⌜ Loaded (now task) ⌝ }
     ensures { λ r. ⌜ Tells (taskIn (now (task .entry))) (now (list .entry)) room r ⌝ }
 {
-    let l = judge::check_list(task, list);
+    let l = entries::check_list(task, list);
     let Number::Value(_) = l else {
         return empty(answers::refusal_of(l));
     };
@@ -54,7 +54,7 @@ fn tell_loaded(task: &[u16], list: &[u16], room: usize) -> Board
             place: room as u32,
         });
     }
-    let x = judge::follow(task, list);
+    let x = tracing::follow(task, list);
     let steps = x.steps as u32;
     let runs = x.runs as u32;
     let newest = x.state.newest;

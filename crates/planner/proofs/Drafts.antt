@@ -19,10 +19,11 @@ use Rattle.laws.proofs.Plans.{isPlan-elim}
 use Rattle.laws.proofs.Checks.{check-none, andThen-last, andThen-assoc, inOrder-pass, inOrder-++}
 use Rattle.answers.specs.declared.Refusal.{Refusal}
 use Rattle.answers.proofs.Stages.{answer-done}
-use Rattle.relax.specs.Keeping.{Unfound}
+use Rattle.relax.specs.Kept.{Unfound}
 use Rattle.repair.specs.Answers.{Held}
 use Rattle.stages.proofs.Below.{all-entries}
-use Rattle.judge.specs.Answers.{Entries, callerCheck}
+use Rattle.entries.specs.Entries.{Entries}
+use Rattle.callers.specs.Callers.{callerCheck}
 use Rattle.answers.specs.declared.Planned.{Planned}
 use Rattle.answers.specs.declared.Planned.the-variants.{Plan, Refused}
 use Rattle.answers.specs.Plans.{answerOf}

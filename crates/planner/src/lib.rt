@@ -43,7 +43,7 @@ fn plan_prepared(
     ensures { λ r. ⌜ Sourced given (taskIn (now (task .entry))) (now (list .entry)) (roomIn (now (plan .entry)) (now (work .entry)) (now (marks .entry))) (now (plan .exit)) (now (marks .exit)) r ⌝ }
 {
     if given {
-        let l = judge::check_relaxed(task, list);
+        let l = callers::check_relaxed(task, list);
         let Number::Value(_) = l else {
             return Planned::Refused(answers::refusal_of(l));
         };

@@ -17,7 +17,8 @@ use Rattle.state.proofs.Members.{inSet-empty}
 use Rattle.forward.specs.Answers.{called}
 use Rattle.ready.proofs.Bits.{zeros}
 use Rattle.forward.proofs.Answers.{called-unsolved, called-whole, called-short, called-list, called-refused, called-accepts, lent-refused}
-use Rattle.relax.specs.Keeping.{Joined, Front, Found, Unfound}
+use Rattle.keeping.specs.Keeping.{Joined}
+use Rattle.relax.specs.Kept.{Front, Found, Unfound}
 use Rattle.relax.specs.Answers.{relaxOf, relaxIn}
 
 -- once the record is accepted

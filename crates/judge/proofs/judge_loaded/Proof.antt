@@ -3,8 +3,9 @@ use mathlib.Core.Option.{none}
 use Rattle.answers.specs.Answers.{refusalOf}
 use Rattle.answers.proofs.Stages.{passed, handed-on}
 use Rattle.task.specs.Task.{taskIn}
-use Rattle.judge.specs.Answers.{listCheck}
-use Rattle.judge.proofs.Entry.{list-refused-by, list-judged, list-ready}
+use Rattle.entries.specs.Entries.{listCheck}
+use Rattle.judge.proofs.Entry.{list-refused-by, list-judged}
+use Rattle.entries.proofs.Lists.{list-ready}
 use borrow.Author.Needs.{needs}
 use Rattle.judge.proofs.judge_loaded.Statement.{statement}
 use Rattle.judge.proofs.judge_loaded.Tie as tie

@@ -2,8 +2,8 @@ use borrow.Author.Needs.{needs}
 use mathlib.Core.Path.{refl, sym, subst}
 use native.Mathlib.Omega.{arith}
 use Rattle.answers.proofs.Stages.{passed, handed-on}
-use Rattle.judge.proofs.Entry.{list-ready}
-use Rattle.judge.proofs.Tracing.{stops-few, runs-few}
+use Rattle.entries.proofs.Lists.{list-ready}
+use Rattle.tracing.proofs.Tracing.{stops-few, runs-few}
 use Rattle.newest.specs.Answers.{Tells}
 use Rattle.newest.proofs.Boards.{list-refused, room-refused, values-told}
 use Rattle.newest.proofs.tell_loaded.Statement.{statement}

@@ -8,7 +8,7 @@ use Rattle.laws.proofs.Checks.{inOrder-passed}
 use Rattle.answers.proofs.Stages.{passed, handed-on}
 use Rattle.answers.specs.Answers.{refusalOf}
 use Rattle.task.specs.Task.{taskIn}
-use Rattle.relax.specs.Keeping.{KeptOf, Found}
+use Rattle.relax.specs.Kept.{KeptOf, Found}
 use Rattle.planner.proofs.Drafts.{drafted-stop, given-check, own-check, given-source, own-source, sourced, unfound-check, found-check}
 use borrow.Author.Needs.{needs}
 use Rattle.planner.proofs.plan_prepared.Statement.{statement}

@@ -3,7 +3,7 @@ use native.Mathlib.Omega.{arith}
 use lib.ListN.{length}
 use borrow.Author.Needs.{needs}
 use Rattle.planning.specs.Runs.{has}
-use Rattle.relax.proofs.Laws.{achieved-of}
+use Rattle.achievers.proofs.Achievers.{achieved-of}
 use Rattle.relax.proofs.Answers.{joined-alone, front-of}
 use Rattle.relax.proofs.keep_run.Statement.{statement}
 use Rattle.relax.proofs.keep_run.Tie as tie

@@ -6,7 +6,7 @@ use lib.Seq.{length-take-le}
 use borrow.Author.Needs.{needs}
 use Rattle.answers.specs.Answers.{checkOf, valueOf}
 use Rattle.task.specs.Task.{taskIn}
-use Rattle.relax.specs.Keeping.{Found, KeptOf}
+use Rattle.relax.specs.Kept.{Found, KeptOf}
 use Rattle.relax.proofs.Answers.{relax-unsolved, relax-whole, relax-short, relax-list}
 use Rattle.relax.proofs.relax_loaded.Statement.{statement}
 use Rattle.relax.proofs.relax_loaded.Tie as tie

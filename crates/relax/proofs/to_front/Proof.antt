@@ -2,7 +2,7 @@
 use borrow.Author.Needs.{needs}
 use Prim.Native.Nat.{_-_}
 use native.Mathlib.Omega.{arith}
-use Rattle.relax.proofs.Laws.{Fronting, fronting-start, fronting-turn, fronting-end}
+use Rattle.relax.proofs.Fronting.{Fronting, fronting-start, fronting-turn, fronting-end}
 use Rattle.relax.proofs.to_front.Statement.{statement}
 use Rattle.relax.proofs.to_front.Tie as tie
 
