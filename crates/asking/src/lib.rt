@@ -60,4 +60,3 @@ pub fn push(w: Inserted, i: u16, list: &mut [u16]) -> Inserted
         searches,
     }
 }
-

@@ -62,4 +62,3 @@ pub fn refresh(task: &[u16], ever: &[u64; 64], memo: &mut [u16], i: usize, needs
     }
     forget(memo);
 }
-

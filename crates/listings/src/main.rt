@@ -1,6 +1,6 @@
 // Writes the listings of several records. Standard input has the records one after another, each behind the count of its bytes:
 // two bytes, the most significant first. rust/generate/src/bin/write-listings.rs writes what stands in `stdin` and `stdout`.
-use report::Input;
+use input::Input;
 ghost use mathlib.Core.Path.{_≡_};
 ghost use Prim.Native.Nat.{_<_};
 
@@ -13,7 +13,7 @@ fn wide(x: u8) -> usize
 // The count in front of a record; 65,536 if the input ends there.
 fn read_count() -> usize {
     let mut count = [0u8; 2];
-    let input = report::read(&mut count);
+    let input = input::read(&mut count);
     let Input::Bytes(n) = input else {
         return 65536;
     };
@@ -29,7 +29,7 @@ fn list_next(bytes: &mut [u8]) -> bool {
     if bytes.len() < n {
         return false;
     }
-    let input = report::read(&mut bytes[..n]);
+    let input = input::read(&mut bytes[..n]);
     let Input::Bytes(m) = input else {
         return false;
     };

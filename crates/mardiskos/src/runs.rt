@@ -1,8 +1,8 @@
 // The forward run, the relaxed plan and the newest values of a list as C calls them. The code is 0, or 32 times the place and the number; after a refusal
 // the other fields are 0.
+use answers::Number;
 use codes::code_of;
 use codes::number_code;
-use answers::Number;
 use forward::Found;
 use newest::Progress;
 ghost use mathlib.Core.Path.{_≡_};

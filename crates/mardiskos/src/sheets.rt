@@ -1,7 +1,7 @@
 // Sheets as C calls them.
+use answers::Number;
 use codes::code_of;
 use codes::number_code;
-use answers::Number;
 use sheet::Reading;
 ghost use mathlib.Core.Path.{_≡_};
 ghost use lib.ListN.{length, take};

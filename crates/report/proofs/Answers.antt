@@ -8,7 +8,7 @@ use lib.ListN.{length, take, replicate, length-take, length-append}
 use Rattle.planning.specs.Basics.{Answer, refused, done}
 use Rattle.planning.specs.Record.{taskOf}
 use Rattle.planning.specs.Relaxed.{factsReached, relaxedPlan}
-use Rattle.planning.specs.Calls.{forwardCall, relaxCall, relaxList, Planned as Result, planOf, planCall, planList, runnable}
+use Rattle.planning.specs.Calls.{relaxCall, Planned as Result, planOf, planCall, planList, runnable}
 use Rattle.planning.specs.Listing.{line, reachedWord, relaxedWord, planWord, refusedWord, verdictWord, listingOf}
 use Rattle.text.specs.Put.{Put}
 use Rattle.text.proofs.Texts.{put-then}
@@ -16,22 +16,13 @@ use Rattle.answers.specs.declared.Refusal.{Refusal}
 use Rattle.answers.specs.declared.Planned.{Planned}
 use Rattle.answers.specs.declared.Planned.the-variants.{Plan, Refused}
 use Rattle.answers.specs.Plans.{answerOf}
-use Rattle.report.specs.Answers.{factsIn, stepsIn, keptIn, runsText, refusalOf}
+use Rattle.lines.specs.Answers.{stepsIn, keptIn, runsText, refusalOf}
 use Rattle.laws.proofs.Listing.{relaxed-few, forward-done, relax-done, relaxed-front, plan-front, runs-front, listing-lines, listing-refused}
 
 pub runnable-few : (a : Answer Result) (l : List ℕ) → length (runnable a l) ≤ length l
 unfolding runnable
 runnable-few (refused n p) l = omega arith
 runnable-few (done p) l = omega (arith, length-take (p .runs) l)
-
-pub kept-le : (s : List ℕ) (n m k : ℕ) → m ≡ n → k ≡ stepsIn (relaxCall s m) → stepsIn (relaxCall s n) ≤ 4032 → k ≤ 4032
-kept-le s n m k em ek h = rw (ek, em) h
-
--- the first two lines; the list keeps its length
-pub put-runs : {o o′ o″ : List ℕ} {e e′ : ℕ} (s : List ℕ) (n m f k : ℕ) (l t : List ℕ) → m ≡ n → f ≡ factsIn (forwardCall s n) → k ≡ stepsIn (relaxCall s m)
-    → l ≡ relaxList s m → t ≡ take k l → Put o 0 (line reachedWord (f ∷ [])) o′ e → Put o′ e (line relaxedWord (length t ∷ t)) o″ e′ → Put o 0 (runsText s n) o″ e′
-unfolding runsText keptIn
-put-runs s n m f k l t em ef ek el et P Q = put-then (rw (et, ef, ek, el, em) refl) P Q
 
 -- the planner's answer to s, and its list
 pub record Told (s : List ℕ) (r : Planned) (plan : List ℕ) : Type 0 where

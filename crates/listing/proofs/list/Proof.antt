@@ -1,5 +1,5 @@
 use mathlib.Core.Path.{subst}
-use Rattle.report.specs.Inputs.{Front}
+use Rattle.input.specs.Inputs.{Front}
 use borrow.Author.Needs.{needs}
 use Rattle.listing.proofs.list.Statement.{statement}
 use Rattle.listing.proofs.list.Tie as tie

@@ -3,7 +3,8 @@ use mathlib.Core.Path.{_≡_, refl}
 use native.Mathlib.Omega.{arith}
 use lib.ListN.{length, length-replicate}
 use borrow.Author.Needs.{needs}
-use Rattle.report.proofs.Answers.{Told, told, written-refusal, kept-few, kept-le, written}
+use Rattle.lines.proofs.Texts.{kept-le}
+use Rattle.report.proofs.Answers.{Told, told, written-refusal, kept-few, written}
 use Rattle.report.proofs.write.Statement.{statement}
 use Rattle.report.proofs.write.Tie as tie
 

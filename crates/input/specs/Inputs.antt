@@ -2,8 +2,8 @@
 use mathlib.Core.List.{List}
 use Prim.Native.Nat.{ℕ}
 use Rattle.io.specs.Counts.{Counts}
-use Rattle.report.specs.declared.Input.{Input}
-use Rattle.report.specs.declared.Input.the-variants.{Bytes, Failed}
+use Rattle.input.specs.declared.Input.{Input}
+use Rattle.input.specs.declared.Input.the-variants.{Bytes, Failed}
 
 -- the bytes read stand in the front of xs
 abbrev pub Front : Input → List ℕ → Type 0

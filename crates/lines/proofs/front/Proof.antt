@@ -2,8 +2,8 @@ use mathlib.Core.Path.{refl, sym}
 use native.Mathlib.Omega.{arith}
 use lib.ListN.{length-take}
 use lib.Seq.{length-take-le, take-all}
-use Rattle.report.proofs.front.Statement.{statement}
-use Rattle.report.proofs.front.Tie as tie
+use Rattle.lines.proofs.front.Statement.{statement}
+use Rattle.lines.proofs.front.Tie as tie
 
 slice-aggregate-result : tie.Need-slice-aggregate-result
 slice-aggregate-result c = sym (length-take-le _ _ (omega arith))

@@ -1,8 +1,8 @@
 use mathlib.Core.Path.{sym, ap}
-use Rattle.report.specs.Answers.{refusalOf}
+use Rattle.lines.specs.Answers.{refusalOf}
 use borrow.Author.Needs.{needs}
-use Rattle.report.proofs.refusal_of.Statement.{statement}
-use Rattle.report.proofs.refusal_of.Tie as tie
+use Rattle.lines.proofs.refusal_of.Statement.{statement}
+use Rattle.lines.proofs.refusal_of.Tie as tie
 
 enum-known-answer : tie.Need-enum-known-answer
 enum-known-answer c = search needs

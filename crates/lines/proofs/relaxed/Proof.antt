@@ -1,9 +1,9 @@
 use mathlib.Core.Path.{sym, ap, _∙_}
 use Rattle.answers.specs.Answers.{valueOf}
-use Rattle.report.specs.Answers.{stepsIn}
+use Rattle.lines.specs.Answers.{stepsIn}
 use borrow.Author.Needs.{needs}
-use Rattle.report.proofs.relaxed.Statement.{statement}
-use Rattle.report.proofs.relaxed.Tie as tie
+use Rattle.lines.proofs.relaxed.Statement.{statement}
+use Rattle.lines.proofs.relaxed.Tie as tie
 
 relax-requires : tie.Need-relax-requires
 relax-requires c κs = search needs

@@ -1,9 +1,9 @@
 use mathlib.Core.Path.{sym, ap, _∙_}
 use Rattle.forward.specs.Answers.{foundOf}
-use Rattle.report.specs.Answers.{factsIn}
+use Rattle.lines.specs.Answers.{factsIn}
 use borrow.Author.Needs.{needs}
-use Rattle.report.proofs.reached.Statement.{statement}
-use Rattle.report.proofs.reached.Tie as tie
+use Rattle.lines.proofs.reached.Statement.{statement}
+use Rattle.lines.proofs.reached.Tie as tie
 
 forward-requires : tie.Need-forward-requires
 forward-requires c κs = search needs

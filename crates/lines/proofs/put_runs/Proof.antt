@@ -3,9 +3,9 @@ use mathlib.Core.Path.{_≡_}
 use native.Mathlib.Omega.{arith}
 use lib.ListN.{length}
 use borrow.Author.Needs.{needs}
-use Rattle.report.proofs.Answers.{kept-le, put-runs}
-use Rattle.report.proofs.put_runs.Statement.{statement}
-use Rattle.report.proofs.put_runs.Tie as tie
+use Rattle.lines.proofs.Texts.{kept-le, put-runs}
+use Rattle.lines.proofs.put_runs.Statement.{statement}
+use Rattle.lines.proofs.put_runs.Tie as tie
 
 -- the points of the code, from the last to the first
 abbrev reached-to-start : tie.After-reached → tie.Start
