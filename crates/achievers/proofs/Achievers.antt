@@ -19,9 +19,10 @@ use Rattle.laws.proofs.Tests.{T→true, F→false, and-l, and-r}
 use Rattle.laws.proofs.Steps.{All}
 use Rattle.laws.proofs.Formed.{Formed, initial-holds, initial-elim}
 use Rattle.laws.proofs.Forward.{forwardRun-ran}
+use Rattle.laws.proofs.Lists.{all-at}
 use Rattle.task.specs.Task.{factOf, factsIn, taskIn}
-use Rattle.state.specs.Sets.{choose}
-use Rattle.state.proofs.Effects.{factsIn-cons, factsIn-none}
+use Rattle.sets.specs.Sets.{choose}
+use Rattle.sets.proofs.Effects.{factsIn-cons, factsIn-none}
 use Rattle.achievers.specs.Achievers.{Noted, achiever, AchievedFrom, Achieved, Setters, Replay}
 
 -- one action is noted: the facts from place k on are still to be written
@@ -169,11 +170,6 @@ module _ (t : Task) (F : Formed t) (fst₀ : List ℕ) where
       whole : (u d : ℕ) (h : Bool) → initial t u d ≡ h → (ltb u v && h) ≡ h
       whole u d false q = and-false (ltb u v)
       whole u d true q = let E = initial-elim t u d (rw q tt) in rw (T→true (ltb u v) (lt→ltb u v (omega (arith, E .0)))) refl
-
-all-at : (P : ℕ → Type 0) (l : List ℕ) → All P l → (k : ℕ) → k < length l → P (getD l k 0)
-all-at P [] h k b = absurd (omega arith)
-all-at P (i ∷ l) h zero b = h .0
-all-at P (i ∷ l) h (suc k) b = all-at P l (h .1) k (omega arith)
 
 -- the run at hand, from its end
 module _ {task run : List ℕ} {n : ℕ} (R : Replay task run n) where

@@ -8,7 +8,7 @@ use Rattle.planning.specs.Record.{Task}
 use Rattle.planning.specs.Runs.{State, has, act, initial}
 use Rattle.planning.specs.Relaxed.{forwardRun, firstAchiever}
 use Rattle.task.specs.Task.{taskIn, Loaded}
-use Rattle.state.specs.Sets.{choose}
+use Rattle.sets.specs.Sets.{choose}
 
 -- i stands in the place of each of the facts f, and what stands in other places is kept
 pub record Noted (f : State) (i : ℕ) (before after : List ℕ) : Type 0 where

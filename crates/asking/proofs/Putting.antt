@@ -17,7 +17,7 @@ use Rattle.planning.specs.Repair.{toward, after, askedFor}
 use Rattle.laws.proofs.Tests.{true→T, or-l}
 use Rattle.laws.proofs.Facts.{look-some}
 use Rattle.laws.proofs.Formed.{Formed, sorted-has}
-use Rattle.state.specs.Sets.{Asked}
+use Rattle.sets.specs.Sets.{Asked}
 use Rattle.paths.specs.Paths.{pathsOf, Put}
 use Rattle.paths.proofs.Walking.{put-none}
 use Rattle.paths.specs.declared.Written.{Written}

@@ -10,7 +10,7 @@ ghost use Rattle.planning.specs.Basics.{answer};
 ghost use Rattle.planning.specs.Runs.{relaxed, judged};
 ghost use Rattle.answers.specs.Answers.{valueOf};
 ghost use Rattle.task.specs.Task.{taskIn, Loaded};
-ghost use Rattle.state.specs.Sets.{setsOf};
+ghost use Rattle.sets.specs.Sets.{setsOf};
 ghost use Rattle.entries.specs.Entries.{Ready};
 ghost use Rattle.callers.specs.Answers.{judgedOf};
 ghost use Rattle.callers.specs.Callers.{callerCheck, Relaxes};
@@ -31,12 +31,12 @@ pub fn judge_relaxed(task: &[u16], list: &[u16], start: State, from: usize) -> V
     let mut k = from;
     while k < list.len() {
         let i = list[k] as usize;
-        if !state::applies(&s.sets, task, i) {
+        if !applying::applies(&s.sets, task, i) {
             let steps = k as u32;
             return Verdict { steps, plan: false };
         }
         k += 1;
-        if state::has_effects(&s.sets, task, i) {
+        if applying::has_effects(&s.sets, task, i) {
             continue;
         }
         s = s.step(task, i);
@@ -46,7 +46,7 @@ pub fn judge_relaxed(task: &[u16], list: &[u16], start: State, from: usize) -> V
     let steps = k as u32;
     Verdict {
         steps,
-        plan: state::all_hold(&s.sets, &g.facts, 0, n),
+        plan: sets::all_hold(&s.sets, &g.facts, 0, n),
     }
 }
 

@@ -20,7 +20,7 @@ use Rattle.laws.proofs.Formed.{Formed, sorted-has, goals-sorted}
 use Rattle.laws.proofs.Prefixes.{runBy-behind, stepsBy-le}
 use Rattle.laws.proofs.Sizes.{costOf-le}
 use Rattle.laws.proofs.Newest.{newestAfter, real-holds}
-use Rattle.state.proofs.Running.{further-steps}
+use Rattle.applying.proofs.Running.{further-steps}
 use Rattle.counts.specs.declared.Counts.{Counts}
 use Rattle.counts.specs.Counting.{noCounts, Onward, Few, judgedBy}
 

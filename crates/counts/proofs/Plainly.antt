@@ -13,10 +13,10 @@ use Rattle.planning.specs.Runs.{State, Mode, holds, step, relaxed, act, black}
 use Rattle.planning.specs.Newest.{Values, newer, alone}
 use Rattle.laws.proofs.Tests.{T→true, and-l, and-r}
 use Rattle.task.specs.Task.{factsIn, factOf}
-use Rattle.state.specs.Sets.{valuesOf, redBlackOf, further, listed, Known, WithOnly}
-use Rattle.state.proofs.Effects.{factsIn-cons, factsIn-none}
-use Rattle.state.proofs.Knowing.{known-none, known-step, known-held, listed-none}
-use Rattle.state.proofs.RedBlack.{redBlack-black}
+use Rattle.sets.specs.Sets.{valuesOf, redBlackOf, further, listed, Known, WithOnly}
+use Rattle.sets.proofs.Effects.{factsIn-cons, factsIn-none}
+use Rattle.applying.proofs.Knowing.{known-none, known-step, known-held, listed-none}
+use Rattle.applying.proofs.RedBlack.{redBlack-black}
 use Rattle.counts.specs.declared.Counts.{Counts}
 use Rattle.counts.specs.declared.Glided.{Glided}
 use Rattle.counts.specs.Counting.{Onward, Few}

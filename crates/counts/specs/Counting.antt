@@ -7,7 +7,7 @@ use Rattle.planning.specs.Record.{Action}
 use Rattle.planning.specs.Runs.{holds}
 use Rattle.planning.specs.Newest.{Values, alone}
 use Rattle.planning.specs.Calls.{Planned}
-use Rattle.state.specs.Sets.{further}
+use Rattle.sets.specs.Sets.{further}
 use Rattle.counts.specs.declared.Counts.{Counts}
 
 -- nothing is counted

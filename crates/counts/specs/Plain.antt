@@ -8,7 +8,7 @@ use lib.ListN.{getD}
 use Rattle.planning.specs.Record.{Fact, Action, Task}
 use Rattle.planning.specs.Runs.{State, Mode, act, black}
 use Rattle.planning.specs.Newest.{Values, newer}
-use Rattle.state.specs.Sets.{valuesOf, further, listed, Known}
+use Rattle.sets.specs.Sets.{valuesOf, further, listed, Known}
 use Rattle.counts.specs.declared.Counts.{Counts}
 use Rattle.counts.specs.Counting.{Onward}
 use Rattle.counts.specs.declared.Glided.{Glided}

@@ -14,7 +14,7 @@ ghost use Rattle.planning.specs.Basics.{oneIf, done, refused};
 ghost use Rattle.planning.specs.Runs.{holds, step, relaxed, actions, act, black, goals};
 ghost use Rattle.planning.specs.Newest.{alone};
 ghost use Rattle.task.specs.Task.{taskIn, Loaded};
-ghost use Rattle.state.specs.Sets.{setsOf, valuesOf};
+ghost use Rattle.sets.specs.Sets.{setsOf, valuesOf};
 ghost use Rattle.asking.specs.Asking.{Entries};
 ghost use Rattle.answers.specs.Plans.{answerOf};
 ghost use Rattle.counts.specs.Marks.{marksFor};
@@ -68,7 +68,7 @@ pub fn counted(task: &[u16], newest: &[u8; 64], i: usize, c: Counts) -> Counts
 {
     Counts {
         steps: c.steps + 1,
-        runs: state::further(newest, task, i, c.runs, c.steps),
+        runs: applying::further(newest, task, i, c.runs, c.steps),
         cost: c.cost + task::cost(task, i),
     }
 }
@@ -115,7 +115,7 @@ pub fn glide(
     while r.steps < to {
         let k = r.steps;
         i = lists::wide(plan[k]);
-        if !state::is_listed(plain, i) {
+        if !sets::is_listed(plain, i) {
             break;
         }
         r = passed(task, i, r);
@@ -149,13 +149,13 @@ pub fn effects_held(task: &[u16], ever: &[u64; 64], i: usize, plain: &mut [u64; 
     ensures { λ r. ⌜ r ≡ holds (setsOf (now (ever .entry))) (act (taskIn (now (task .entry))) i .eff) ⌝ }
     ensures { λ _. ⌜ Plain (taskIn (now (task .entry))) (step relaxed (act (taskIn (now (task .entry))) i) (setsOf (now (ever .entry)))) (now (plain .exit)) ⌝ }
 {
-    if state::is_listed(plain, i) {
+    if sets::is_listed(plain, i) {
         return true;
     }
     if needs_black(task, i) {
-        return state::knows_effects(ever, task, i, plain);
+        return applying::knows_effects(ever, task, i, plain);
     }
-    state::has_effects(ever, task, i)
+    applying::has_effects(ever, task, i)
 }
 
 // Each goal is the newest value of its variable.
@@ -166,7 +166,7 @@ fn at_goals(task: &[u16], newest: &[u8; 64]) -> bool
     let goals = Goals::load(task);
     let facts = goals.facts;
     let count = goals.count;
-    state::all_newest(newest, &facts, 0, count)
+    applying::all_newest(newest, &facts, 0, count)
 }
 
 // The answer for a list with these counts, newest values and searches.

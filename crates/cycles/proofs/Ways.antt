@@ -21,8 +21,8 @@ use Rattle.laws.proofs.Tests.{T→true, true→T, F→false, bool-same, or-l, o
 use Rattle.laws.proofs.Below.{below-cases, some-intro, some-elim}
 use Rattle.laws.proofs.Graph.{reach-here, reach-move, reach-cases, reach-zero, reach-bound}
 use Rattle.laws.proofs.Painting.{black-inside}
-use Rattle.state.specs.Sets.{inSet, setsOf, modeOf}
-use Rattle.state.proofs.Members.{inSet-or}
+use Rattle.sets.specs.Sets.{inSet, setsOf, modeOf}
+use Rattle.sets.proofs.Members.{inSet-or}
 use Rattle.graph.specs.Graph.{Rows}
 use Rattle.cycles.specs.Cycles.{through, via, StartBelow}
 use Rattle.graph.proofs.Searches.{first-same}

@@ -8,7 +8,7 @@ ghost use lib.ListN.{length};
 ghost use Rattle.planning.specs.Basics.{first};
 ghost use Rattle.planning.specs.Painting.{blackArc, cyclic};
 ghost use Rattle.task.specs.Task.{taskIn, Loaded};
-ghost use Rattle.state.specs.Sets.{inSet, setsOf, modeOf};
+ghost use Rattle.sets.specs.Sets.{inSet, setsOf, modeOf};
 ghost use Rattle.graph.specs.Graph.{Rows, foundOf};
 ghost use Rattle.cycles.specs.Cycles.{through, via, StartBelow};
 
@@ -17,7 +17,7 @@ fn extended(row: u64, k: usize, onward: u64) -> u64
     requires { ⌜ k < 64 ⌝ }
     ensures { λ r. ⌜ modeOf r ≡ (λ v. inSet row v || (inSet row k && inSet onward v)) ⌝ }
 {
-    if state::member(row, k) {
+    if sets::member(row, k) {
         row | onward
     } else {
         row
@@ -57,7 +57,7 @@ fn lowest_on_cycle(rows: &[u64; 64], n: usize) -> Found
 {
     let mut v: usize = 0;
     while v < n {
-        if state::member(rows[v], v) {
+        if sets::member(rows[v], v) {
             return Found::At(v);
         }
         v += 1;

@@ -13,7 +13,7 @@ use Rattle.planning.specs.Relaxed.{forwardRun, forwardEnd, reachesGoals, factsR
 use Rattle.planning.specs.Calls.{lent, capacity, roomCheck, goalsCheck, Forward, forwardCall, forwardList}
 use Rattle.laws.proofs.Checks.{andThen-last}
 use Rattle.laws.proofs.Formed.{Formed}
-use Rattle.state.specs.Sets.{Within}
+use Rattle.sets.specs.Sets.{Within}
 use Rattle.state.proofs.Count.{size-facts, within-initial, within-step}
 use Rattle.answers.proofs.Stages.{skip, hit}
 use Rattle.lists.specs.Lent.{laid}

@@ -4,8 +4,8 @@ use mathlib.Core.Bool.{Bool, true, false, not, _&&_, _||_}
 use Prim.Native.Nat.{ℕ, _^_}
 use lib.Bits.{bitOr, bitXor}
 use lib.Dec.{eqb}
-use Rattle.state.specs.Sets.{inSet}
-use Rattle.state.proofs.Members.{inSet-single, inSet-or, inSet-xor, xor}
+use Rattle.sets.specs.Sets.{inSet}
+use Rattle.sets.proofs.Members.{inSet-single, inSet-or, inSet-xor, xor}
 
 without : (a e : Bool) → xor (a || e) e ≡ (not e && a)
 without true true = refl

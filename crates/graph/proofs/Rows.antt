@@ -19,11 +19,12 @@ use Rattle.planning.specs.Painting.{without, reducedEffects, causalArc, blackAr
 use Rattle.laws.proofs.Tests.{T→true, bool-same, or-l, or-r, or-cases, and-l, and-r, and-i, T-cases}
 use Rattle.laws.proofs.Facts.{has→touches, touches→has}
 use Rattle.laws.proofs.Arcs.{reduced-elim, unchanged}
+use Rattle.laws.proofs.Lists.{getD-zeros}
 use Rattle.task.specs.Task.{factOf, factsIn, preAt, effAt, endAt, actionIn, taskIn}
-use Rattle.state.specs.Sets.{inSet, setsOf, modeOf, Facts}
-use Rattle.state.proofs.Members.{inSet-single, inSet-empty, inSet-or}
-use Rattle.state.proofs.Effects.{factsIn-cons, factsIn-none}
-use Rattle.state.proofs.Listed.{Listed}
+use Rattle.sets.specs.Sets.{inSet, setsOf, modeOf, Facts}
+use Rattle.sets.proofs.Members.{inSet-single, inSet-empty, inSet-or}
+use Rattle.sets.proofs.Effects.{factsIn-cons, factsIn-none}
+use Rattle.sets.proofs.Listed.{Listed}
 use Rattle.graph.specs.Graph.{Rows, withAction}
 use Rattle.graph.proofs.Bits.{inSet-without}
 
@@ -308,13 +309,8 @@ unfolding arcsBelow someBelow setsOf
 drawing-start t n = record {
   within = omega arith;
   long = refl;
-  drawn = fun-ext (λ u. fun-ext (λ v. rw (zeros 64 u, inSet-empty v, and-false (not (eqb u v))) (sym (and-false (black t u && black t v)))));
+  drawn = fun-ext (λ u. fun-ext (λ v. rw (getD-zeros 64 u, inSet-empty v, and-false (not (eqb u v))) (sym (and-false (black t u && black t v)))));
 }
-  where
-    zeros : (n w : ℕ) → _≡_ {A = ℕ} (getD (replicate n 0) w 0) 0
-    zeros zero w = refl
-    zeros (suc n) zero = refl
-    zeros (suc n) (suc w) = zeros n w
 
 module _ (t : Task) (n : ℕ) (rows : List ℕ) (i : ℕ) (D : Drawing t n rows i) where
   pub drawing-turn : i < n → (paint : ℕ) → modeOf paint ≡ black t → (rows′ : List ℕ) → Rows rows′ (withAction (modeOf paint) (act t i) (setsOf rows)) → Drawing t n rows′ (i + 1)

@@ -9,7 +9,7 @@ use lib.ListN.{length}
 use Rattle.planning.specs.Record.{Action}
 use Rattle.planning.specs.Runs.{Mode, touches}
 use Rattle.planning.specs.Painting.{reducedEffects}
-use Rattle.state.specs.Sets.{setsOf}
+use Rattle.sets.specs.Sets.{setsOf}
 use Rattle.graph.specs.declared.Found.{Found}
 use Rattle.graph.specs.declared.Found.the-variants.{At, Nothing}
 

@@ -7,7 +7,7 @@ ghost use lib.ListN.{length};
 ghost use Rattle.planning.specs.Runs.{has, touches, actions, act, black};
 ghost use Rattle.planning.specs.Painting.{reducedEffects, blackArc};
 ghost use Rattle.task.specs.Task.{factsIn, taskIn, Loaded};
-ghost use Rattle.state.specs.Sets.{inSet, setsOf, modeOf, Facts};
+ghost use Rattle.sets.specs.Sets.{inSet, setsOf, modeOf, Facts};
 ghost use Rattle.graph.specs.Graph.{Rows, withAction};
 
 // Effect f of action i is of a black variable and not among its preconditions.
@@ -15,8 +15,8 @@ pub fn changes(task: &[u16], i: usize, f: usize, paint: u64) -> bool
     requires { ⌜ Loaded (now task) × (i < actions (taskIn (now task))) × (f < 4096) ⌝ }
     ensures { λ r. ⌜ r ≡ (inSet paint (f / 64) && not (has (act (taskIn (now (task .entry))) i .pre) (f / 64) (f % 64))) ⌝ }
 {
-    if state::member(paint, f / 64) {
-        return !state::needs_fact(task, i, f);
+    if sets::member(paint, f / 64) {
+        return !sets::needs_fact(task, i, f);
     }
     false
 }
@@ -32,7 +32,7 @@ fn changed(task: &[u16], i: usize, paint: u64) -> u64
     while k < end {
         let f = lists::wide(task[k]);
         if changes(task, i, f, paint) {
-            set = set | state::single(f / 64);
+            set = set | sets::single(f / 64);
         }
         k += 1;
     }
@@ -44,8 +44,8 @@ fn joined(row: u64, targets: u64, u: usize, paint: u64) -> u64
     requires { ⌜ u < 64 ⌝ }
     ensures { λ r. ⌜ modeOf r ≡ (λ v. inSet row v || ((inSet paint u && not (eqb u v)) && inSet targets v)) ⌝ }
 {
-    if state::member(paint, u) {
-        let own = state::single(u);
+    if sets::member(paint, u) {
+        let own = sets::single(u);
         row | ((targets | own) ^ own)
     } else {
         row

@@ -11,7 +11,7 @@ ghost use Rattle.planning.specs.Runs.{real, black, judged, judgement};
 ghost use Rattle.planning.specs.Calls.{judgeCall};
 ghost use Rattle.task.specs.Task.{taskIn, Loaded};
 ghost use Rattle.size.specs.Size.{RoomIn};
-ghost use Rattle.state.specs.Sets.{setsOf, valuesOf};
+ghost use Rattle.sets.specs.Sets.{setsOf, valuesOf};
 ghost use Rattle.entries.specs.Entries.{Ready};
 ghost use Rattle.callers.specs.Answers.{judgedOf};
 ghost use Rattle.tracing.specs.Traces.{StopsAs, RunsAs};
@@ -34,12 +34,12 @@ fn judge_red_black(task: &[u16], list: &[u16], s: State, steps: usize) -> Verdic
             plan: false,
         };
     }
-    let paint = state::painted(task);
+    let paint = sets::painted(task);
     let g = Goals::load(task);
     let n = g.count;
     Verdict {
         steps: steps as u32,
-        plan: state::all_hold_red_black(paint, &s.sets, &s.newest.values, &g.facts, 0, n),
+        plan: applying::all_hold_red_black(paint, &s.sets, &s.newest.values, &g.facts, 0, n),
     }
 }
 
@@ -58,7 +58,7 @@ fn judge_real(task: &[u16], list: &[u16], newest: &[u8; 64], runs: usize) -> Ver
     let n = g.count;
     Verdict {
         steps: runs as u32,
-        plan: state::all_newest(newest, &g.facts, 0, n),
+        plan: applying::all_newest(newest, &g.facts, 0, n),
     }
 }
 

@@ -18,10 +18,10 @@ use Rattle.planning.specs.Relaxed.{forwardRun, firstAchiever, is, reachedNeeded
 use Rattle.laws.proofs.Tests.{or-l, or-r, and-i}
 use Rattle.laws.proofs.Formed.{Formed, sorted-has}
 use Rattle.task.specs.Task.{factOf, factsIn, preAt, effAt, actionIn, taskIn}
-use Rattle.state.specs.Sets.{inSet, setsOf}
-use Rattle.state.proofs.Members.{inSet-or, inSet-single}
-use Rattle.state.proofs.Listed.{Listed}
-use Rattle.state.proofs.Effects.{factsIn-cons, factsIn-none}
+use Rattle.sets.specs.Sets.{inSet, setsOf}
+use Rattle.sets.proofs.Members.{inSet-or, inSet-single}
+use Rattle.sets.proofs.Listed.{Listed}
+use Rattle.sets.proofs.Effects.{factsIn-cons, factsIn-none}
 use Rattle.achievers.specs.Achievers.{achiever, AchievedFrom, Achieved, Replay}
 use Rattle.achievers.proofs.Achievers.{run-long, entry-below, from-k}
 use Rattle.keeping.specs.Keeping.{Joined, byOf, Keeping}

@@ -9,7 +9,7 @@ use lib.ListN.{length, getD, take, drop}
 use Rattle.planning.specs.Record.{Task}
 use Rattle.planning.specs.Runs.{State, act, initial, goals}
 use Rattle.planning.specs.Relaxed.{forwardRun, firstAchiever, keep}
-use Rattle.state.specs.Sets.{setsOf}
+use Rattle.sets.specs.Sets.{setsOf}
 
 -- the facts f joined the sets
 pub record Joined (f : State) (before after : List ℕ) : Type 0 where

@@ -6,7 +6,7 @@ ghost use lib.ListN.{length, getD, drop};
 ghost use Rattle.planning.specs.Runs.{has, goals, actions, act};
 ghost use Rattle.planning.specs.Relaxed.{forwardRun, is, reachedNeeded, relaxedPlan};
 ghost use Rattle.task.specs.Task.{factsIn, taskIn, Loaded};
-ghost use Rattle.state.specs.Sets.{setsOf};
+ghost use Rattle.sets.specs.Sets.{setsOf};
 ghost use Rattle.achievers.specs.Achievers.{Achieved, Replay};
 ghost use Rattle.keeping.specs.Keeping.{Joined, byOf};
 
@@ -19,7 +19,7 @@ pub fn add_facts(sets: &mut [u64; 64], facts: &[u16], from: usize, to: usize)
     while k < to {
         let f = lists::wide(facts[k]);
         let v = f / 64;
-        sets[v] = sets[v] | state::single(f % 64);
+        sets[v] = sets[v] | sets::single(f % 64);
         k += 1;
     }
 }
@@ -42,7 +42,7 @@ fn first_needed(needed: &[u64; 64], first: &[u16; 4096], f: usize, i: usize) -> 
     if i != lists::wide(first[f]) {
         return false;
     }
-    state::holds(needed, f)
+    sets::holds(needed, f)
 }
 
 // Action i first reached a needed fact.

@@ -8,7 +8,7 @@ use native.Mathlib.Decide.{ℕ-discrete, decLt}
 use lib.Dec.{T}
 use lib.ListN.{length, getD, set, length-set}
 use lib.Seq.{getD-set-same, getD-set-other}
-use Rattle.state.specs.Sets.{inSet}
+use Rattle.sets.specs.Sets.{inSet}
 use Rattle.labels.specs.Labels.{Member, lower}
 
 pub record Marking (old labels : List ℕ) (m l c : ℕ) : Type 0 where

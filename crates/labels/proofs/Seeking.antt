@@ -6,7 +6,7 @@ use native.Mathlib.Omega.{arith}
 use native.Mathlib.Decide.{ℕ-discrete, decLt}
 use lib.Dec.{T}
 use lib.ListN.{getD}
-use Rattle.state.specs.Sets.{inSet}
+use Rattle.sets.specs.Sets.{inSet}
 use Rattle.labels.specs.Labels.{Member, Nearest}
 
 -- the nearest of the members before c, and its label

@@ -11,19 +11,9 @@ use lib.Bits.{bitXor}
 use lib.Count.{trailingZeros, under}
 use lib.Dec.{T, eqb, ltb}
 use lib.Pow.{shr-shr, pow-pos}
-use Rattle.state.specs.Sets.{inSet}
-use Rattle.state.proofs.Members.{inSet-empty, inSet-xor, xor}
+use Rattle.sets.specs.Sets.{inSet}
+use Rattle.sets.proofs.Members.{inSet-empty, inSet-xor, xor, inSet-zero, inSet-half}
 use Rattle.labels.specs.Labels.{Member}
-
-inSet-zero : (m : ℕ) → inSet m 0 ≡ eqb (m % 2) 1
-unfolding inSet
-inSet-zero m = let e : m / 2 ^ 0 ≡ m = omega arith in rw e refl
-
-inSet-suc : (m x : ℕ) → inSet m (suc x) ≡ inSet (m / 2) x
-unfolding inSet
-inSet-suc m x =
-    let e : m / 2 ^ 1 ≡ m / 2 = refl in
-    rw (← one-add x, ← shr-shr m 1 x, e) refl
 
 pub inSet-shift : (m a x : ℕ) → inSet (m / 2 ^ a) x ≡ inSet m (a + x)
 unfolding inSet
@@ -36,7 +26,7 @@ trail-out (suc k) m x h t = go (m % 2) refl x h t (trail-out k (m / 2))
   where
     go : (b : ℕ) → m % 2 ≡ b → (x : ℕ) → x < under b (trailingZeros k (m / 2)) → T (inSet m x) → ((x : ℕ) → x < trailingZeros k (m / 2) → T (inSet (m / 2) x) → ⊥) → ⊥
     go zero e zero h t f = rw (inSet-zero m, e) at t
-    go zero e (suc x) h t f = f x (omega arith) (rw inSet-suc at t)
+    go zero e (suc x) h t f = f x (omega arith) (rw inSet-half at t)
     go (suc b) e x h t f = omega arith
 
 trail-in : (k m : ℕ) → trailingZeros k m < k → T (inSet m (trailingZeros k m))
@@ -45,7 +35,7 @@ trail-in zero m h = absurd (omega arith)
 trail-in (suc k) m h = go (m % 2) refl h (trail-in k (m / 2))
   where
     go : (b : ℕ) → m % 2 ≡ b → under b (trailingZeros k (m / 2)) < suc k → (trailingZeros k (m / 2) < k → T (inSet (m / 2) (trailingZeros k (m / 2)))) → T (inSet m (under b (trailingZeros k (m / 2))))
-    go zero e h f = rw inSet-suc (f (omega arith))
+    go zero e h f = rw inSet-half (f (omega arith))
     go (suc b) e h f = let z : m % 2 ≡ 1 = omega arith in rw (inSet-zero m, z) tt
 
 -- the least member from a on
@@ -99,4 +89,4 @@ inSet-all (suc n) zero =
     rw (inSet-zero, e) (sym (lt-ltb 0 (suc n) (omega arith)))
 inSet-all (suc n) (suc x) =
     let e : (2 ^ suc n - 1) / 2 ≡ 2 ^ n - 1 = rw pow-suc (omega (arith, pow-pos n)) in
-    rw (inSet-suc, e) (inSet-all n x ∙ ltb-suc x n)
+    rw (inSet-half, e) (inSet-all n x ∙ ltb-suc x n)

@@ -4,7 +4,7 @@ use mathlib.Core.List.{List}
 use Prim.Native.Nat.{ℕ, _<_, _≤_, min}
 use lib.Dec.{T}
 use lib.ListN.{getD}
-use Rattle.state.specs.Sets.{inSet}
+use Rattle.sets.specs.Sets.{inSet}
 
 -- r is the least member of the set from a on, 64 if there is none
 pub record Member (set a r : ℕ) : Type 0 where

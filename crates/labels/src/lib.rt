@@ -3,7 +3,7 @@
 ghost use mathlib.Core.Path.{_≡_};
 ghost use Prim.Native.Nat.{ℕ, _<_, _≤_, min};
 ghost use lib.ListN.{length, getD};
-ghost use Rattle.state.specs.Sets.{inSet};
+ghost use Rattle.sets.specs.Sets.{inSet};
 ghost use Rattle.labels.specs.Labels.{Member, lower, Nearest};
 
 fn wider(x: u32) -> usize

@@ -9,7 +9,7 @@ use lib.Dec.{eqb}
 use Rattle.planning.specs.Record.{Task}
 use Rattle.planning.specs.Runs.{State, look, act, count}
 use Rattle.laws.proofs.Formed.{Formed}
-use Rattle.state.specs.Sets.{Asked}
+use Rattle.sets.specs.Sets.{Asked}
 use Rattle.graph.proofs.Searches.{some-found, some-lacks}
 use Rattle.returns.specs.Returns.{returned}
 use Rattle.lacking.specs.Lacking.{unreturnedFrom, arcsBy, lacksBy}

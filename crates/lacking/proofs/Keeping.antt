@@ -11,7 +11,7 @@ use Rattle.planning.specs.Record.{Task}
 use Rattle.planning.specs.Runs.{actions, act, count}
 use Rattle.laws.proofs.Formed.{Formed}
 use Rattle.task.specs.Task.{factsIn, preAt, effAt, taskIn, Loaded}
-use Rattle.state.proofs.Listing.{loaded-listed}
+use Rattle.sets.proofs.Listing.{loaded-listed}
 use Rattle.returns.specs.Returns.{markAll, marked, returned}
 use Rattle.lacking.specs.Lacking.{Unmarked, unreturnedFrom, Complete, Kept, Ready}
 use Rattle.returns.proofs.Walks.{pre-facts}

@@ -175,7 +175,7 @@ pub fn lacks_marked(
     ensures ready { λ _. ⌜ Ready (taskIn (now (task .entry))) (2 * i + 2) (now (marks .exit)) (now (kept .exit)) ⌝ }
 {
     let own = (2 * i) as u16;
-    let d = state::need(task, i, f / 64);
+    let d = sets::need(task, i, f / 64);
     if d < 64 {
         return lacks_between(task, marks, own, f, d, d + 1, last);
     }

@@ -170,7 +170,7 @@ module _ (act : ℕ → Action) (A : ℕ) (goal : List Fact) where
 
 -- the forward run of a task
 module _ (t : Task) (F : Formed t) where
-  eff-ranged : (i v e : ℕ) → i < actions t → T (has (act t i .eff) v e) → (v < variables t) × (e < count t v)
+  pub eff-ranged : (i v e : ℕ) → i < actions t → T (has (act t i .eff) v e) → (v < variables t) × (e < count t v)
   eff-ranged i v e b h = let I = sorted-has (variables t) (count t) 0 (act t i .eff) (F .eff-sorted i) v e h in (I .var-below, I .val-below)
 
   -- the initial state has a fact of each variable

@@ -7,6 +7,7 @@ pub mod Graph
 pub mod Facts
 pub mod Prefixes
 pub mod Steps
+pub mod Lists
 pub mod Fields
 pub mod Formed
 pub mod Plans

@@ -14,8 +14,8 @@ use Rattle.laws.proofs.Facts.{has-nil, has-cases}
 use Rattle.laws.proofs.Steps.{step-keep, step-cases}
 use Rattle.laws.proofs.Tests.{true→T, and-l, and-r}
 use Rattle.task.specs.Task.{factOf, factsIn}
-use Rattle.state.specs.Sets.{modeOf}
-use Rattle.state.proofs.Effects.{factsIn-cons, factsIn-none}
+use Rattle.sets.specs.Sets.{modeOf}
+use Rattle.sets.proofs.Effects.{factsIn-cons, factsIn-none}
 use Rattle.paths.specs.Paths.{Memo, Covers}
 use Rattle.paths.proofs.Needing.{memo-same}
 

@@ -7,7 +7,7 @@ ghost use lib.ListN.{length};
 ghost use Rattle.planning.specs.Runs.{relaxed, step, actions, act};
 ghost use Rattle.planning.specs.Repair.{blackMet};
 ghost use Rattle.task.specs.Task.{taskIn, Loaded};
-ghost use Rattle.state.specs.Sets.{setsOf, modeOf};
+ghost use Rattle.sets.specs.Sets.{setsOf, modeOf};
 ghost use Rattle.paths.specs.Paths.{Memo, Covers};
 ghost use Rattle.leads.specs.Leads.{Blank};
 
@@ -28,8 +28,8 @@ fn unheld(set: u64, sets: &[u64; 64], f: usize) -> bool
     requires { ⌜ f < 4096 ⌝ }
     ensures { λ r. ⌜ r ≡ (modeOf set (f / 64) && not (setsOf (now (sets .entry)) (f / 64) (f % 64))) ⌝ }
 {
-    if state::member(set, f / 64) {
-        !state::holds(sets, f)
+    if sets::member(set, f / 64) {
+        !sets::holds(sets, f)
     } else {
         false
     }

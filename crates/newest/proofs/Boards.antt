@@ -17,7 +17,7 @@ use Rattle.laws.proofs.Newest.{tabulate-length}
 use Rattle.answers.specs.declared.Refusal.{Refusal}
 use Rattle.answers.proofs.Stages.{stage-passes}
 use Rattle.lists.proofs.Laying.{room-fits, room-short}
-use Rattle.state.specs.Sets.{valuesOf}
+use Rattle.sets.specs.Sets.{valuesOf}
 use Rattle.entries.specs.Entries.{listCheck}
 use Rattle.newest.specs.declared.Board.{Board}
 use Rattle.newest.specs.declared.Progress.the-variants.{Run}

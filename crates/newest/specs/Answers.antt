@@ -9,7 +9,7 @@ use Rattle.planning.specs.Runs.{variables}
 use Rattle.planning.specs.Newest.{Progress as Result, progress, tabulate, newestValues}
 use Rattle.planning.specs.Calls.{lengthCheck, entriesCheck, roomCheck, newestCall}
 use Rattle.answers.specs.declared.Refusal.{Refusal}
-use Rattle.state.specs.Sets.{valuesOf}
+use Rattle.sets.specs.Sets.{valuesOf}
 use Rattle.newest.specs.declared.Board.{Board}
 use Rattle.newest.specs.declared.Progress.{Progress}
 use Rattle.newest.specs.declared.Progress.the-variants.{Run, Refused}

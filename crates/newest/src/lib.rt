@@ -11,7 +11,7 @@ ghost use Rattle.planning.specs.Newest.{tabulate};
 ghost use Rattle.planning.specs.Calls.{newestCall, newestList};
 ghost use Rattle.task.specs.Task.{taskIn, Loaded};
 ghost use Rattle.size.specs.Size.{RoomIn};
-ghost use Rattle.state.specs.Sets.{valuesOf};
+ghost use Rattle.sets.specs.Sets.{valuesOf};
 ghost use Rattle.newest.specs.Answers.{answerOf, emptyBy, Tells, Called};
 
 // How many steps of the list run red-black and for real; or the refusal.

@@ -8,11 +8,8 @@ use native.Mathlib.Omega.{arith}
 use native.Mathlib.Decide.{ℕ-discrete}
 use lib.Dec.{eqb}
 use lib.Pow.{shr-shr}
-use Rattle.state.specs.Sets.{inSet}
-
-inSet-half : (n d : ℕ) → inSet n (suc d) ≡ inSet (n / 2) d
-unfolding inSet
-inSet-half n d = let e : n / 2 ^ suc d ≡ n / 2 / 2 ^ d = rw (← one-add d) (sym (shr-shr n 1 d)) in rw e refl
+use Rattle.sets.proofs.Members.{inSet-half}
+use Rattle.sets.specs.Sets.{inSet}
 
 low : (n : ℕ) → inSet n 0 ≡ false → n % 2 ≡ 0
 unfolding inSet

@@ -21,8 +21,8 @@ use Rattle.planning.specs.Repair.{ready, clientsFirst, order}
 use Rattle.laws.proofs.Tests.{T→true, true→T, F→false, bool-same, and-l, and-r, and-i}
 use Rattle.laws.proofs.Below.{First?, first-is, some-intro, some-elim}
 use Rattle.laws.proofs.Painting.{black-inside}
-use Rattle.state.specs.Sets.{inSet, setsOf, modeOf}
-use Rattle.state.proofs.Members.{inSet-empty, inSet-single, inSet-and, inSet-xor, xor}
+use Rattle.sets.specs.Sets.{inSet, setsOf, modeOf}
+use Rattle.sets.proofs.Members.{inSet-empty, inSet-single, inSet-and, inSet-xor, xor}
 use Rattle.task.specs.Task.{cell, taskIn}
 use Rattle.task.specs.Links.{orderIn}
 use Rattle.order.specs.Order.{Filled, Ordered}

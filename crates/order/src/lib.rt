@@ -7,7 +7,7 @@ ghost use Rattle.planning.specs.Basics.{someBelow, first};
 ghost use Rattle.planning.specs.Runs.{black};
 ghost use Rattle.planning.specs.Painting.{blackArc};
 ghost use Rattle.task.specs.Task.{taskIn, Loaded};
-ghost use Rattle.state.specs.Sets.{inSet, setsOf, modeOf};
+ghost use Rattle.sets.specs.Sets.{inSet, setsOf, modeOf};
 ghost use Rattle.graph.specs.Graph.{foundOf};
 ghost use Rattle.order.specs.Order.{Filled, Ordered};
 
@@ -16,7 +16,7 @@ fn is_ready(row: u64, left: u64, v: usize) -> bool
     requires { ⌜ v < 64 ⌝ }
     ensures { λ r. ⌜ r ≡ (inSet left v && not (someBelow 64 (λ u. inSet left u && inSet row u))) ⌝ }
 {
-    if state::member(left, v) {
+    if sets::member(left, v) {
         row & left == 0
     } else {
         false
@@ -52,7 +52,7 @@ fn fill_order(task: &mut [u16], rows: &[u64; 64], paint: u64) -> usize
             return k;
         };
         task::set_order(task, k, v);
-        left = left ^ state::single(v);
+        left = left ^ sets::single(v);
         k += 1;
     }
     k

@@ -20,7 +20,7 @@ use Rattle.laws.proofs.Painting.{black-inside, one-black}
 use Rattle.task.specs.Task.{linksEnd, headsAt, taskIn, Heads, Loaded}
 use Rattle.task.specs.Links.{headAt, nextAt, linked, Next, Changes, Chained, Link, Relinked, Unlinked}
 use Rattle.task.proofs.Relinking.{heads-fewer, heads-kept, relinked-task, relinked-loaded, relinked-none, relinked-link, relinked-trans, head-new, head-old, next-new, next-old}
-use Rattle.state.specs.Sets.{modeOf}
+use Rattle.sets.specs.Sets.{modeOf}
 use Rattle.graph.proofs.Searches.{false-not}
 use Rattle.order.specs.Order.{Ordered}
 use Rattle.painting.specs.Chains.{moveOf, linkedMove, Acyclic, Linked}

@@ -20,7 +20,7 @@ use Rattle.answers.specs.Answers.{checkOf}
 use Rattle.task.specs.Task.{taskIn}
 use Rattle.task.specs.Links.{Chained, Relinked}
 use Rattle.task.proofs.Relinking.{relinked-task, relinked-none, relinked-trans}
-use Rattle.state.specs.Sets.{setsOf}
+use Rattle.sets.specs.Sets.{setsOf}
 use Rattle.graph.proofs.Searches.{Searched, searched-start, searched-turn, searched-hit, searched-end}
 use Rattle.order.specs.Order.{Ordered}
 use Rattle.returns.specs.Returns.{markAll, marked}

@@ -8,7 +8,7 @@ use Rattle.planning.specs.Record.{Fact}
 use Rattle.planning.specs.Runs.{has}
 use Rattle.planning.specs.Painting.{without}
 use Rattle.task.specs.Task.{factOf}
-use Rattle.state.specs.Sets.{inSet, modeOf}
+use Rattle.sets.specs.Sets.{inSet, modeOf}
 use Rattle.painting.specs.Chains.{moveOf}
 use Rattle.returns.proofs.Walks.{number}
 

@@ -10,7 +10,7 @@ use Rattle.planning.specs.Runs.{Mode, black}
 use Rattle.planning.specs.Painting.{cyclic}
 use Rattle.task.specs.Task.{taskIn, Loaded}
 use Rattle.task.specs.Links.{linked, Chained, Relinked}
-use Rattle.state.specs.Sets.{modeOf}
+use Rattle.sets.specs.Sets.{modeOf}
 
 -- the first fact of the list on a variable of m, as 64 × variable + value; 65,535 if there is none
 unfoldable pub moveOf : Mode → List Fact → ℕ

@@ -13,7 +13,7 @@ ghost use Rattle.planning.specs.Painting.{reducedEffects, blackArc, unreturned}
 ghost use Rattle.answers.specs.Answers.{checkOf};
 ghost use Rattle.task.specs.Task.{taskIn, Loaded};
 ghost use Rattle.task.specs.Links.{Chained};
-ghost use Rattle.state.specs.Sets.{modeOf, setsOf};
+ghost use Rattle.sets.specs.Sets.{modeOf, setsOf};
 ghost use Rattle.graph.specs.Graph.{foundOf};
 ghost use Rattle.lacking.specs.Lacking.{Unmarked, Ready};
 ghost use Rattle.painting.specs.Chains.{moveOf, linkedMove, Acyclic, Linked};
@@ -151,7 +151,7 @@ pub fn prepare(task: &mut [u16]) -> Checked
     requires { ⌜ Loaded (now task) ⌝ }
     ensures { λ r. ⌜ Readied (now (task .entry)) r (now (task .exit)) ⌝ }
 {
-    let paint = state::painted(task);
+    let paint = sets::painted(task);
     let rows = graph::graph(task, paint);
     let seven = refused_at(7, cycles::cycle(task, rows));
     let Checked::Accepted = seven else {

@@ -12,7 +12,7 @@ use Rattle.planning.specs.Runs.{State, look, actions, count, act}
 use Rattle.planning.specs.Repair.{toward, after, pass, askedFor, passSearches}
 use Rattle.laws.proofs.Fill.{pass-grows, askedFor-one}
 use Rattle.laws.proofs.Formed.{Formed}
-use Rattle.state.specs.Sets.{Asked}
+use Rattle.sets.specs.Sets.{Asked}
 use Rattle.paths.specs.Paths.{pathsOf, Memo, Put}
 use Rattle.paths.specs.declared.Written.{Written}
 use Rattle.paths.specs.declared.Written.the-variants.{Upto, Long}

@@ -11,7 +11,7 @@ use lib.Seq.{drop-cons, drop-length, length-take-le, getD-take}
 use Rattle.planning.specs.Record.{Fact, Task}
 use Rattle.planning.specs.Runs.{State, look, act}
 use Rattle.planning.specs.Repair.{toward, after, pass, askedFor, passSearches}
-use Rattle.state.specs.Sets.{Asked}
+use Rattle.sets.specs.Sets.{Asked}
 use Rattle.paths.specs.Paths.{pathsOf, Put}
 use Rattle.paths.specs.declared.Written.{Written}
 use Rattle.paths.specs.declared.Written.the-variants.{Upto, Long}

@@ -8,7 +8,7 @@ use Rattle.planning.specs.Record.{Fact, Task}
 use Rattle.planning.specs.Runs.{State, look, act}
 use Rattle.planning.specs.Repair.{pass, passSearches}
 use Rattle.task.specs.Task.{factsIn, taskIn}
-use Rattle.state.specs.Sets.{setsOf}
+use Rattle.sets.specs.Sets.{setsOf}
 use Rattle.paths.specs.Paths.{pathsOf}
 
 -- the pass for v, whose value is c, over the list l, where the facts K are known and the facts w are wanted

@@ -10,7 +10,7 @@ ghost use Rattle.planning.specs.Runs.{count, black};
 ghost use Rattle.planning.specs.Repair.{toward};
 ghost use Rattle.task.specs.Task.{taskIn, Loaded};
 ghost use Rattle.task.specs.Links.{Prepared};
-ghost use Rattle.state.specs.Sets.{setsOf};
+ghost use Rattle.sets.specs.Sets.{setsOf};
 ghost use Rattle.paths.specs.Paths.{pathsOf, Memo, Put};
 ghost use Rattle.asking.specs.Asking.{askedBy, Fitting, Entries, writtenIn, Searched};
 ghost use Rattle.passes.specs.Passes.{servedIn, servedSearchesIn, unasked, factsOf};
@@ -62,7 +62,7 @@ fn pass(
     let mut j = at;
     while j < plan.len() {
         let i = plan[j];
-        let d = state::need(task, lists::wide(i), v);
+        let d = sets::need(task, lists::wide(i), v);
         let w = lead_to(task, ever, memo, v, c, d, &mut plan[..j], e);
         let Written::Upto(x) = w else {
             return Inserted::Long;
@@ -73,7 +73,7 @@ fn pass(
         searches += asking::asked_for(d);
         j += 1;
     }
-    let d = state::asked(want, 0, want.len(), v);
+    let d = sets::asked(want, 0, want.len(), v);
     let w = lead_to(task, ever, memo, v, c, d, plan, e);
     asking::with_searches(w, searches + asking::asked_for(d))
 }
@@ -85,7 +85,7 @@ fn idle(task: &[u16], v: usize, list: &[u16], e: usize) -> bool
 {
     let mut k: usize = 0;
     while k < e {
-        if state::need(task, lists::wide(list[k]), v) < 64 {
+        if sets::need(task, lists::wide(list[k]), v) < 64 {
             return false;
         }
         k += 1;
@@ -114,7 +114,7 @@ pub fn serve(
 {
     let v = f / 64;
     if idle(task, v, plan, e) {
-        let d = state::asked(want, 0, want.len(), v);
+        let d = sets::asked(want, 0, want.len(), v);
         if asking::is_there(f % 64, d) {
             return asking::with_searches(Written::Upto(e), asking::asked_for(d));
         }

@@ -8,7 +8,7 @@ use Rattle.planning.specs.Record.{Action}
 use Rattle.planning.specs.Runs.{variables, actions, count, act}
 use Rattle.task.specs.Task.{factsIn, preAt, effAt, endAt, actionIn, taskIn, Loaded}
 use Rattle.task.proofs.Reading.{taskIn-act}
-use Rattle.state.proofs.Listing.{between-inside}
+use Rattle.sets.proofs.Listing.{between-inside}
 
 -- the facts of an action, as places of the loaded task
 module _ (task : List ℕ) (L : Loaded task) (i : ℕ) (b : i < actions (taskIn task)) where

@@ -20,7 +20,7 @@ use Rattle.planning.specs.Repair.{usableArc, isPath}
 use Rattle.laws.proofs.Tests.{T-cases}
 use Rattle.laws.proofs.Formed.{Formed}
 use Rattle.laws.proofs.Best.{Better, Best, arcs-inside, best-cases, best-of, best-short, best-onward, path-cons, path-uncons, path-nil, path-here}
-use Rattle.state.specs.Sets.{inSet}
+use Rattle.sets.specs.Sets.{inSet}
 use Rattle.search.specs.Search.{unreached, through, Into, Done, Settled}
 use Rattle.paths.specs.Paths.{leadOf, leadTo, pathsOf, unknown, leadBy}
 

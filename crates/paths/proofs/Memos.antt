@@ -17,7 +17,7 @@ use Rattle.laws.proofs.Tests.{T→true, true→T, F→false, T-cases}
 use Rattle.laws.proofs.Below.{some-intro, some-elim}
 use Rattle.laws.proofs.Formed.{Formed}
 use Rattle.laws.proofs.Painting.{black-inside}
-use Rattle.state.specs.Sets.{inSet}
+use Rattle.sets.specs.Sets.{inSet}
 use Rattle.search.specs.Search.{Done, Settled}
 use Rattle.paths.specs.Paths.{leadTo, unknown, leadBy, Leads, fewValues, memoFor, slot, leadIn, Memo, Leading}
 use Rattle.paths.proofs.Labels.{settled-lead}

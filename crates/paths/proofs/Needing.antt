@@ -20,9 +20,9 @@ use Rattle.laws.proofs.Arcs.{reduced-elim}
 use Rattle.laws.proofs.Fields.{act-past}
 use Rattle.laws.proofs.Tests.{bool-same, or-l, or-r, or-cases, and-l, and-r, and-i}
 use Rattle.task.specs.Task.{factOf, factsIn}
-use Rattle.state.specs.Sets.{inSet}
-use Rattle.state.proofs.Effects.{factsIn-cons, factsIn-none}
-use Rattle.state.proofs.Members.{inSet-or, inSet-single}
+use Rattle.sets.specs.Sets.{inSet}
+use Rattle.sets.proofs.Effects.{factsIn-cons, factsIn-none}
+use Rattle.sets.proofs.Members.{inSet-or, inSet-single}
 use Rattle.paths.specs.Paths.{leadOf, leadTo, unknown, slot, leadIn, Memo, anyBlack, Covers}
 
 -- one turn of a loop over facts, and its end

@@ -11,7 +11,7 @@ use Rattle.planning.specs.Record.{Fact, Action, Task}
 use Rattle.planning.specs.Runs.{State, touches, variables, actions, count, act, black}
 use Rattle.planning.specs.Painting.{target}
 use Rattle.planning.specs.Repair.{bestPath}
-use Rattle.state.specs.Sets.{inSet}
+use Rattle.sets.specs.Sets.{inSet}
 use Rattle.search.specs.Search.{unreached}
 use Rattle.paths.specs.declared.Written.{Written}
 use Rattle.paths.specs.declared.Written.the-variants.{Upto, Long}

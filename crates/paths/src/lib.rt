@@ -9,7 +9,7 @@ ghost use lib.ListN.{length};
 ghost use Rattle.planning.specs.Runs.{touches, actions, count, act, black};
 ghost use Rattle.task.specs.Task.{taskIn, Loaded};
 ghost use Rattle.task.specs.Links.{Prepared};
-ghost use Rattle.state.specs.Sets.{inSet, setsOf};
+ghost use Rattle.sets.specs.Sets.{inSet, setsOf};
 ghost use Rattle.paths.specs.Paths.{pathsOf, leadBy, fewValues, slot, Memo, Leading, anyBlack, Covers, Put};
 
 // The memo has a mark for each of 64 slots, and behind them 64 leads for each value, one a slot: for 15 values where no variable has more, else
@@ -48,7 +48,7 @@ fn lead(l: u64, c: usize, rest: u64) -> u16
     requires { ⌜ c < 64 ⌝ }
     ensures { λ r. ⌜ r ≡ leadBy (inSet rest c) l c ⌝ }
 {
-    if state::member(rest, c) {
+    if sets::member(rest, c) {
         (64 + c) as u16
     } else if l == UNREACHED {
         c as u16
@@ -164,7 +164,7 @@ fn with_needs(task: &[u16], i: usize, set: u64) -> u64
     let mut m = set;
     let mut k = task::pre_start(task, i);
     while k < end {
-        m = m | state::single(lists::wide(task[k]) / 64);
+        m = m | sets::single(lists::wide(task[k]) / 64);
         k += 1;
     }
     m

@@ -15,18 +15,11 @@ use lib.Dec.{T, not-T, eqb, eqb→eq, eqb-refl, eqb·suc-suc, eqb·suc-zero, eqb
 use lib.ListN.{getD, set, length-set, replicate, length-replicate, getD-replicate, List·getD-eq-default}
 use lib.Pow.{shr-shr}
 use lib.Seq.{getD-set-same, getD-set-other, set-getD}
+use Rattle.laws.proofs.Lists.{getD-zeros}
 use Rattle.laws.proofs.Tests.{T→true, or-l}
-use Rattle.state.specs.Sets.{inSet, setsOf}
-use Rattle.state.proofs.Members.{inSet-or, inSet-single, inSet-empty}
+use Rattle.sets.specs.Sets.{inSet, setsOf}
+use Rattle.sets.proofs.Members.{inSet-or, inSet-single, inSet-empty, inSet-half, inSet-zero}
 use Rattle.ready.specs.Ready.{member, Ready, LowestIn, Lowest, With, Without}
-
-inSet-half : (m x : ℕ) → inSet m (suc x) ≡ inSet (m / 2) x
-unfolding inSet
-inSet-half m x = rw (← one-add x, ← shr-shr m 1 x) refl
-
-inSet-zero : (m : ℕ) → inSet m 0 ≡ eqb (m % 2) 1
-unfolding inSet
-inSet-zero m = let e : m / 2 ^ 0 ≡ m = omega arith in rw e refl
 
 inSet-odd : (m : ℕ) → T (inSet m 0) → m % 2 ≡ 1
 inSet-odd m h = eqb→eq (m % 2) 1 (rw inSet-zero at h)
@@ -218,10 +211,6 @@ module _ (ready : List ℕ) (i m : ℕ) (b : i < 1024) (R : Ready ready) where
       rw (← set-getD (set ready (i / 64 + 1) m) 0 0)
       (not-last ready i m (getD (set ready (i / 64 + 1) m) 0 0) b R h e z front-kept)
 
--- sets that hold nothing
-pub zeros : (n x : ℕ) → _≡_ {A = ℕ} (getD (replicate n 0) x 0) 0
-zeros n x = let z : ℕ = 0 in elim (decLt x n) [ yes l ↦ getD-replicate n x z z l | no l ↦ List·getD-eq-default (replicate n z) z (rw (length-replicate n z) (omega arith)) ]
-
 -- no rank is ready
 pub ready-none : Ready (replicate 17 0)
-ready-none = record { long = length-replicate {A = ℕ} 17 0; filled = λ w. rw (zeros 17 0, zeros 17 (w + 1), inSet-empty w) refl }
+ready-none = record { long = length-replicate {A = ℕ} 17 0; filled = λ w. rw (getD-zeros 17 0, getD-zeros 17 (w + 1), inSet-empty w) refl }

@@ -5,7 +5,7 @@ use mathlib.Core.List.{List}
 use Prim.Native.Nat.{ℕ, _+_, _/_, _%_, _<_, _≤_}
 use lib.Dec.{T, eqb}
 use lib.ListN.{length, getD}
-use Rattle.state.specs.Sets.{inSet, setsOf}
+use Rattle.sets.specs.Sets.{inSet, setsOf}
 
 -- A set of numbers below 1,024 is 17 entries: 16 sets of 64 behind one that says which of them have a member. Number i is in it:
 unfoldable pub member : List ℕ → ℕ → Bool

@@ -33,8 +33,8 @@ pub fn mark(ready: &mut [u64; SETS], i: usize)
     ensures { λ _. ⌜ With (now (ready .entry)) i (now (ready .exit)) ⌝ }
 {
     let w = i / 64;
-    ready[w + 1] = ready[w + 1] | state::single(i % 64);
-    ready[0] = ready[0] | state::single(w);
+    ready[w + 1] = ready[w + 1] | sets::single(i % 64);
+    ready[0] = ready[0] | sets::single(w);
 }
 
 pub fn unmark(ready: &mut [u64; SETS], i: usize)
@@ -42,9 +42,9 @@ pub fn unmark(ready: &mut [u64; SETS], i: usize)
     ensures { λ _. ⌜ Without (now (ready .entry)) i (now (ready .exit)) ⌝ }
 {
     let w = i / 64;
-    let rest = ready[w + 1] - state::single(i % 64);
+    let rest = ready[w + 1] - sets::single(i % 64);
     ready[w + 1] = rest;
     if rest == 0 {
-        ready[0] = ready[0] - state::single(w);
+        ready[0] = ready[0] - sets::single(w);
     }
 }

@@ -17,9 +17,10 @@ use Rattle.planning.specs.Record.{variablesIn, actionsIn, countIn, headerChecks
 use Rattle.planning.specs.Record.{actionsEnd, fieldCheck, goalFits, variableChecks, variablesChecks, endsAt, recordEnd, factChecks, factsChecks, actionChecks}
 use Rattle.planning.specs.Record.{actionsChecks}
 use Rattle.laws.proofs.Tests.{and-l, and-r}
-use Rattle.laws.proofs.Checks.{check-none, andThen-none, inOrder-++, inOrder-passed}
-use Rattle.laws.proofs.Fields.{actionEnd-le, actionsEnd-le}
-use Rattle.bits.proofs.Window.{bitsAt-lt, bitsAt-add}
+use Rattle.laws.proofs.Checks.{check-none, andThen-none, inOrder-++, inOrder-passed, check-true}
+use Rattle.laws.proofs.Fields.{actionEnd-le, actionsEnd-le, bitsAt-below}
+use Rattle.laws.proofs.Lists.{getD-zeros}
+use Rattle.bits.proofs.Window.{bitsAt-add}
 use Rattle.answers.proofs.Stages.{stage-passes, skip, skip-stage, stops-stage, pass-end}
 use Rattle.bits.specs.Windows.{Leading}
 use Rattle.answers.specs.declared.Refusal.{Refusal}
@@ -28,11 +29,6 @@ use Rattle.answers.specs.declared.Number.the-variants.{Refused}
 use Rattle.answers.specs.Answers.{valueOf}
 use Rattle.record.specs.Stages.{Counts, Sound, Few, Unsound, SoundHeader, SoundVariable}
 use Rattle.record.specs.Stages.{fromEnd, fromActions, fromVariables, fromActionCount, fromVariableCount, actionFactsChecks, initialChecks, goalChecks}
-
-check-true : (b : Bool) (n p : ℕ) → check b n p ≡ none → b ≡ true
-unfolding check
-check-true true n p e = refl
-check-true false n p e = let z : _≡_ {A = ℕ} 0 1 = cc in absurd (omega arith)
 
 pub false-not : false ≡ true → ⊥
 false-not e = let z : _≡_ {A = ℕ} 0 1 = cc in absurd (omega arith)
@@ -60,7 +56,7 @@ take-short s p w v h = rw (field-short s p w h) refl
 
 -- fewer than 26 bits fit 32
 pub bitsAt-u32 : (s : List ℕ) (p w r : ℕ) → r ≡ bitsAt s p w → w ≤ 25 → r < 2 ^ 32
-bitsAt-u32 s p w r e h = rw e (lt-of-lt-of-le (bitsAt-lt s p w) (pow-mono {j = 32} (omega arith)))
+bitsAt-u32 s p w r e h = rw e (lt-of-lt-of-le (bitsAt-below s p w) (pow-mono {j = 32} (omega arith)))
 
 -- the end: a wrong count of bytes, padding that is not 0, and neither
 module _ (s : List ℕ) (p : ℕ) (e : p ≡ recordEnd s) where
@@ -79,10 +75,10 @@ module _ (s : List ℕ) (p : ℕ) (e : p ≡ recordEnd s) where
 -- a fact's two fields in one
 module _ (s : List ℕ) (p w : ℕ) (e : w ≡ bitsAt s p 12) where
   fact-var : w / 64 ≡ bitsAt s p 6
-  fact-var = omega (arith, bitsAt-add s p 6 6, bitsAt-lt s (p + 6) 6)
+  fact-var = omega (arith, bitsAt-add s p 6 6, bitsAt-below s (p + 6) 6)
 
   fact-val : w % 64 ≡ bitsAt s (p + 6) 6
-  fact-val = omega (arith, bitsAt-add s p 6 6, bitsAt-lt s (p + 6) 6)
+  fact-val = omega (arith, bitsAt-add s p 6 6, bitsAt-below s (p + 6) 6)
 
 -- the checks of a fact: its variable, and its value against the count of that variable
 module _ (s : List ℕ) (p low n v : ℕ) (en : n ≡ variablesIn s) (ev : bitsAt s p 6 ≡ v) where
@@ -101,11 +97,11 @@ module _ (s : List ℕ) (p low n v : ℕ) (en : n ≡ variablesIn s) (ev : bitsA
 module _ (s : List ℕ) (p v l d : ℕ) (ev : bitsAt s p 6 ≡ v) (el : l ≡ countIn s v) (ed : bitsAt s (p + 6) 6 ≡ d) where
   pub val-above : l ≤ d % 64 → check (ltb (bitsAt s (p + 6) 6) (countIn s (bitsAt s p 6))) 4 (p + 6) ≡ refuse 4 (p + 6)
   unfolding check
-  val-above h = rw (ev, ← el, ed, le-ltb d l (omega (arith, ed, bitsAt-lt s (p + 6) 6))) refl
+  val-above h = rw (ev, ← el, ed, le-ltb d l (omega (arith, ed, bitsAt-below s (p + 6) 6))) refl
 
   pub val-right : d % 64 < l → check (ltb (bitsAt s (p + 6) 6) (countIn s (bitsAt s p 6))) 4 (p + 6) ≡ none
   unfolding check
-  val-right h = rw (ev, ← el, ed, lt-ltb d l (omega (arith, ed, bitsAt-lt s (p + 6) 6))) refl
+  val-right h = rw (ev, ← el, ed, lt-ltb d l (omega (arith, ed, bitsAt-below s (p + 6) 6))) refl
 
 -- a run of facts: one more that is right, one that is refused, and the end
 module _ (s : List ℕ) (p low n i : ℕ) (h : i < n) where
@@ -176,7 +172,7 @@ fact-sound s p low f counts e C h =
 -- fact k of a window
 pub leading-fact : (s : List ℕ) (p w k : ℕ) → Leading s p w → k ≤ 3 → p + 12 * (k + 1) ≤ 8 * length s → w / 2 ^ (64 - (12 * k + 12)) % 4096 ≡ bitsAt s (p + 12 * k) 12
 leading-fact s p w k L h l =
-    rw (L (12 * k + 12) (omega arith) (omega arith)) (omega (arith, bitsAt-add s p (12 * k) 12, bitsAt-lt s (p + 12 * k) 12))
+    rw (L (12 * k + 12) (omega arith) (omega arith)) (omega (arith, bitsAt-add s p (12 * k) 12, bitsAt-below s (p + 12 * k) 12))
 
 -- the facts of a window: none, and one more
 pub few-none : (w low : ℕ) (counts : List ℕ) → Few w 0 low counts low
@@ -266,7 +262,7 @@ module _ (s : List ℕ) (p last b g : ℕ) (eb : bitsAt s (p + 13) 1 ≡ b) (eg 
   goal-test (suc (suc b)) h = absurd (omega arith)
 
   fit : goalFits (bitsAt s (p + 13) 1) (bitsAt s (p + 14) 6) (last + 1) ≡ leb g (last * b)
-  fit = rw (eb, eg) (goal-test b (omega (arith, eb, bitsAt-lt s (p + 13) 1)))
+  fit = rw (eb, eg) (goal-test b (omega (arith, eb, bitsAt-below s (p + 13) 1)))
 
   pub goal-above : last * b < g → check (goalFits (bitsAt s (p + 13) 1) (bitsAt s (p + 14) 6) (last + 1)) 4 (p + 14) ≡ refuse 4 (p + 14)
   unfolding check
@@ -299,10 +295,10 @@ module _ (s : List ℕ) (p b : ℕ) (e : b ≡ bitsAt s p 20) where
       let f2 = bitsAt-add s p 13 1 in
       let f3 = bitsAt-add s p 7 6 in
       let f4 = bitsAt-add s p 6 1 in
-      let g1 = bitsAt-lt s (p + 14) 6 in
-      let g2 = bitsAt-lt s (p + 13) 1 in
-      let g3 = bitsAt-lt s (p + 7) 6 in
-      let g4 = bitsAt-lt s (p + 6) 1 in
+      let g1 = bitsAt-below s (p + 14) 6 in
+      let g2 = bitsAt-below s (p + 13) 1 in
+      let g3 = bitsAt-below s (p + 7) 6 in
+      let g4 = bitsAt-below s (p + 6) 1 in
       (omega arith, omega arith, omega arith, omega arith)
 
   pub variable-sound : p + 20 ≤ 8 * length s → SoundVariable b → done (b / 16384) ≡ answer (inOrder (variableChecks s p)) (bitsAt s p 6)
@@ -358,11 +354,11 @@ module _ (s : List ℕ) (p b : ℕ) (e : b ≡ bitsAt s (p + 16) 8) where
 
   pub pre-count : b / 16 ≡ preconditionsIn s p
   unfolding preconditionsIn
-  pre-count = omega (arith, both, bitsAt-lt s (p + 20) 4)
+  pre-count = omega (arith, both, bitsAt-below s (p + 20) 4)
 
   pub eff-count : b % 16 ≡ effectsIn s p
   unfolding effectsIn
-  eff-count = omega (arith, both, bitsAt-lt s (p + 20) 4)
+  eff-count = omega (arith, both, bitsAt-below s (p + 20) 4)
 
 -- an action whose head is there and whose facts pass
 pub action-sound :
@@ -461,16 +457,11 @@ count-is s v last e = ap (λ (x : ℕ). x + 1) (sym e)
 
 pub count-below : (s : List ℕ) (v : ℕ) → countIn s v ≤ 64
 unfolding countIn
-count-below s v = omega (arith, bitsAt-lt s (22 + 20 * v) 6)
+count-below s v = omega (arith, bitsAt-below s (22 + 20 * v) 6)
 
 -- a run of variables: where it starts, one more that is right, and the end
 pub no-counts : (s : List ℕ) (n : ℕ) → Counts s (replicate n 0) 0
-no-counts s n = record { right = λ v h. absurd (omega arith); behind = λ v h. zeros n v }
-  where
-    zeros : (n v : ℕ) → _≡_ {A = ℕ} (getD (replicate n 0) v 0) 0
-    zeros zero v = refl
-    zeros (suc n) zero = refl
-    zeros (suc n) (suc v) = zeros n v
+no-counts s n = record { right = λ v h. absurd (omega arith); behind = λ v h. getD-zeros n v }
 
 pub record Seen (s : List ℕ) (count : ℕ) (counts : List ℕ) (i : ℕ) : Type 0 where
   pub within : i ≤ count
@@ -586,8 +577,8 @@ module _ (s : List ℕ) (b : ℕ) (e : b ≡ bitsAt s 0 22) where
   split-22 =
       let f1 = bitsAt-add s 0 11 11 in
       let f2 = bitsAt-add s 0 4 7 in
-      let g1 = bitsAt-lt s 11 11 in
-      let g2 = bitsAt-lt s 4 7 in
+      let g1 = bitsAt-below s 11 11 in
+      let g2 = bitsAt-below s 4 7 in
       (omega arith, omega arith, omega arith)
 
   pub header-sound : 22 ≤ 8 * length s → SoundHeader b → inOrder (headerChecks s) ≡ none

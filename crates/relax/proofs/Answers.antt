@@ -11,11 +11,11 @@ use Rattle.planning.specs.Record.{Task, taskOf, recordCheck}
 use Rattle.planning.specs.Runs.{State}
 use Rattle.planning.specs.Relaxed.{factsReached, relaxedPlan}
 use Rattle.planning.specs.Calls.{capacity, roomCheck, relaxCall, relaxList}
+use Rattle.laws.proofs.Lists.{getD-zeros}
 use Rattle.lists.specs.Lent.{laid}
-use Rattle.state.specs.Sets.{setsOf}
-use Rattle.state.proofs.Members.{inSet-empty}
+use Rattle.sets.specs.Sets.{setsOf}
+use Rattle.sets.proofs.Members.{inSet-empty}
 use Rattle.forward.specs.Answers.{called}
-use Rattle.ready.proofs.Bits.{zeros}
 use Rattle.forward.proofs.Answers.{called-unsolved, called-whole, called-short, called-list, called-refused, called-accepts, lent-refused}
 use Rattle.keeping.specs.Keeping.{Joined}
 use Rattle.relax.specs.Kept.{Front, Found, Unfound}
@@ -55,7 +55,7 @@ module _ (s : List ℕ) (m : ℕ) where
 -- the facts of a list alone: those that join sets that hold nothing
 pub joined-alone : (f : State) (before after : List ℕ) → before ≡ replicate 64 0 → Joined f before after → setsOf after ≡ f
 unfolding setsOf
-joined-alone f before after e J = fun-ext (λ v. fun-ext (λ d. J .are v d ∙ rw (e, zeros 64 v, inSet-empty d) (or-false (f v d))))
+joined-alone f before after e J = fun-ext (λ v. fun-ext (λ d. J .are v d ∙ rw (e, getD-zeros 64 v, inSet-empty d) (or-false (f v d))))
 
 -- the kept actions, moved to the front
 pub front-of : (t : Task) (kept new : List ℕ) (m n : ℕ) → m ≤ 1024 → length kept ≡ 1024 → drop m kept ≡ relaxedPlan t → n ≡ 1024 - m → length new ≡ 1024 → take (1024 - m) new ≡ drop m kept

@@ -12,8 +12,8 @@ use Rattle.planning.specs.Newest.{Values, newer, alone}
 use Rattle.planning.specs.Repair.{repaired}
 use Rattle.laws.proofs.Tests.{T→true}
 use Rattle.laws.proofs.Formed.{Formed}
-use Rattle.state.specs.Sets.{setsOf, valuesOf}
-use Rattle.state.proofs.RedBlack.{step-held}
+use Rattle.sets.specs.Sets.{setsOf, valuesOf}
+use Rattle.applying.proofs.RedBlack.{step-held}
 use Rattle.counts.specs.declared.Counts.{Counts}
 use Rattle.counts.specs.declared.Glided.{Glided}
 use Rattle.counts.specs.Counting.{Onward}

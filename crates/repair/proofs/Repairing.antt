@@ -23,8 +23,8 @@ use Rattle.laws.proofs.Known.{_≈_, known-start, known-run, everAfter-now}
 use Rattle.laws.proofs.Tests.{bool-same, and-l, and-r}
 use Rattle.laws.proofs.Prefixes.{runBy-behind}
 use Rattle.laws.proofs.Formed.{Formed, eff-func}
-use Rattle.state.specs.Sets.{setsOf, redBlackOf}
-use Rattle.state.proofs.RedBlack.{redBlack-step, redBlack-initial}
+use Rattle.sets.specs.Sets.{setsOf, redBlackOf}
+use Rattle.applying.proofs.RedBlack.{redBlack-step, redBlack-initial}
 use Rattle.paths.specs.Paths.{Memo, Put}
 use Rattle.paths.specs.declared.Written.the-variants as written
 use Rattle.asking.specs.declared.Inserted.{Inserted}

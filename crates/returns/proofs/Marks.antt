@@ -9,8 +9,8 @@ use lib.ListN.{length, getD, set, length-set}
 use Rattle.planning.specs.Record.{Fact}
 use Rattle.planning.specs.Runs.{variables, actions}
 use Rattle.task.specs.Task.{preAt, endAt, factOf, factsIn, taskIn, Loaded}
-use Rattle.state.proofs.Effects.{factsIn-cons, factsIn-none}
-use Rattle.state.specs.Sets.{Facts}
+use Rattle.sets.proofs.Effects.{factsIn-cons, factsIn-none}
+use Rattle.sets.specs.Sets.{Facts}
 use Rattle.returns.specs.Returns.{place, markAll, Spans, Markable}
 use Rattle.returns.proofs.Walks.{fact-inside, facts-rest, number}
 

@@ -18,7 +18,7 @@ use Rattle.laws.proofs.Facts.{look-some}
 use Rattle.laws.proofs.Arcs.{reduced-intro}
 use Rattle.task.specs.Task.{taskIn}
 use Rattle.task.specs.Links.{headAt, nextAt, Next, Changes}
-use Rattle.state.specs.Sets.{Asked}
+use Rattle.sets.specs.Sets.{Asked}
 use Rattle.graph.proofs.Searches.{false-not, some-found, some-lacks}
 use Rattle.returns.specs.Returns.{returnsBy, returned, OnChain, InChain, Serves}
 

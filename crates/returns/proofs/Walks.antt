@@ -13,10 +13,10 @@ use Rattle.planning.specs.Record.{Fact, Action}
 use Rattle.planning.specs.Runs.{State, holds, variables, actions, act, count}
 use Rattle.laws.proofs.Formed.{Sorted}
 use Rattle.task.specs.Task.{factOf, factsIn, preAt, effAt, endAt, actionIn, taskIn, Loaded}
-use Rattle.state.specs.Sets.{Facts}
-use Rattle.state.proofs.Listed.{Listed}
-use Rattle.state.proofs.Listing.{between-inside, loaded-listed}
-use Rattle.state.proofs.Effects.{factsIn-cons, factsIn-none}
+use Rattle.sets.specs.Sets.{Facts}
+use Rattle.sets.proofs.Listed.{Listed}
+use Rattle.sets.proofs.Listing.{between-inside, loaded-listed}
+use Rattle.sets.proofs.Effects.{factsIn-cons, factsIn-none}
 use Rattle.graph.proofs.Rows.{factsIn-split}
 use Rattle.returns.specs.Returns.{marked, Spans}
 

@@ -12,7 +12,7 @@ use Rattle.planning.specs.Runs.{State, has, holds, variables, actions, act, bla
 use Rattle.planning.specs.Painting.{reducedEffects}
 use Rattle.task.specs.Task.{taskIn, Loaded, preAt, effAt}
 use Rattle.task.specs.Links.{Changes, Chained}
-use Rattle.state.specs.Sets.{Facts}
+use Rattle.sets.specs.Sets.{Facts}
 
 abbrev pub pickPlace : Bool → ℕ → ℕ → ℕ
 pickPlace true g f = f

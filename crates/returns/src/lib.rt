@@ -109,10 +109,10 @@ fn later_return(
     if task::actions(task) <= h {
         return 65535;
     }
-    if state::target(task, h, f / 64) != f % 64 {
+    if sets::target(task, h, f / 64) != f % 64 {
         return 65535;
     }
-    if state::needs_fact(task, h, f) {
+    if sets::needs_fact(task, h, f) {
         return 65535;
     }
     first_return(task, marks, i, f, h, last)

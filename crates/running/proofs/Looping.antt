@@ -20,10 +20,11 @@ use Rattle.laws.proofs.Facts.{_⊆_, holds→sub, sub→holds}
 use Rattle.laws.proofs.Steps.{step-eff, step-keep, step-cases}
 use Rattle.task.specs.Task.{factsIn, effAt, endAt, actionIn, taskIn, Loaded}
 use Rattle.state.specs.declared.Goals.{Goals}
-use Rattle.state.specs.Sets.{setsOf, GoalsOf, Facts}
-use Rattle.state.proofs.Listed.{Listed}
-use Rattle.state.proofs.Listing.{loaded-listed}
-use Rattle.state.proofs.Effects.{factsIn-none}
+use Rattle.sets.specs.Sets.{setsOf, Facts}
+use Rattle.state.specs.Goals.{GoalsOf}
+use Rattle.sets.proofs.Listed.{Listed}
+use Rattle.sets.proofs.Listing.{loaded-listed}
+use Rattle.sets.proofs.Effects.{factsIn-none}
 use Rattle.running.specs.declared.Ran.{Ran}
 use Rattle.ready.specs.Ready.{member, Lowest, Without}
 use Rattle.waiting.specs.Waiting.{reaches, Passing, Unmet, Settled, Headed, ByCost}

@@ -18,10 +18,10 @@ use Rattle.laws.proofs.Tests.{T→true, F→false}
 use Rattle.laws.proofs.Below.{total-le, total-pred, total-one, tally-pos}
 use Rattle.laws.proofs.Steps.{All, run-append}
 use Rattle.laws.proofs.Formed.{Formed, sorted-has, initial-holds}
-use Rattle.laws.proofs.Forward.{Once, forward-take, forward-goal, forward-none, forwardRun-ran, forwardRun-once}
+use Rattle.laws.proofs.Forward.{Once, forward-take, forward-goal, forward-none, forwardRun-ran, forwardRun-once, eff-ranged}
 use Rattle.task.specs.Task.{factsIn}
 use Rattle.waiting.specs.Waiting.{reaches, Each, Passing}
-use Rattle.state.specs.Sets.{setsOf}
+use Rattle.sets.specs.Sets.{setsOf}
 use Rattle.running.specs.declared.Ran.{Ran}
 use Rattle.running.specs.Running.{RanOf}
 use Rattle.waiting.proofs.Places.{holds-each, each-holds}
@@ -62,9 +62,6 @@ pub record Going (t : Task) (plan : List ℕ) (s : State) (n : ℕ) : Type 0 whe
   pub state : s ≡ run (act t) relaxed (take n plan) (initial t)
 
 module _ {t : Task} (F : Formed t) where
-  eff-ranged : (i v e : ℕ) → i < actions t → T (has (act t i .eff) v e) → (v < variables t) × (e < count t v)
-  eff-ranged i v e b h = let I = sorted-has (variables t) (count t) 0 (act t i .eff) (F .eff-sorted i) v e h in (I .var-below, I .val-below)
-
   pub going-start : (plan : List ℕ) (s : State) → length plan ≡ 1024 → s ≡ initial t → Going t plan s 0
   unfolding forwardRun runBy
   going-start plan s n q = record {
@@ -79,7 +76,7 @@ module _ {t : Task} (F : Formed t) where
   module _ {plan : List ℕ} {s : State} {n : ℕ} (G : Going t plan s n) where
     pub going-on : (i : ℕ) → holds s (goals t) ≡ false → choice (act t) (actions t) s ≡ some i → n < 1024
     going-on i h e =
-        let T₁ = forward-take (act t) (actions t) (variables t) (count t) (goals t) eff-ranged (G .k) i s (G .fuel) h e in
+        let T₁ = forward-take (act t) (actions t) (variables t) (count t) (goals t) (eff-ranged t F) (G .k) i s (G .fuel) h e in
         let r : List ℕ = forward (act t) (actions t) (goals t) (pred (G .k)) (step relaxed (act t i) s) in
         let e₂ : forwardRun t ≡ take n plan ++ (i ∷ r) = G .so-far ∙ rw (T₁ .0) refl in
         omega (arith, forwardRun-few t F, ap length e₂, length-append (take n plan) (i ∷ r), length-take-le n plan (omega (arith, G .long, G .within)))
@@ -88,7 +85,7 @@ module _ {t : Task} (F : Formed t) where
         → Going t (set plan n i) s′ (n + 1)
     unfolding runBy
     going-take i s′ h e es =
-        let T₁ = forward-take (act t) (actions t) (variables t) (count t) (goals t) eff-ranged (G .k) i s (G .fuel) h e in
+        let T₁ = forward-take (act t) (actions t) (variables t) (count t) (goals t) (eff-ranged t F) (G .k) i s (G .fuel) h e in
         let b = going-on i h e in
         let p : take (n + 1) (set plan n i) ≡ take n plan ++ (i ∷ []) = rw (add-one, take-suc-set plan n i (omega (arith, G .long))) refl in
         record {

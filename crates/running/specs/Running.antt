@@ -5,7 +5,7 @@ use Prim.Native.Nat.{ℕ, _≤_}
 use lib.ListN.{length, take}
 use Rattle.planning.specs.Record.{Task}
 use Rattle.planning.specs.Relaxed.{forwardRun, forwardEnd, reachesGoals}
-use Rattle.state.specs.Sets.{setsOf}
+use Rattle.sets.specs.Sets.{setsOf}
 use Rattle.running.specs.declared.Ran.{Ran}
 
 -- the run in the front of the list, and what is said of it

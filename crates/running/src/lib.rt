@@ -52,7 +52,7 @@ pub fn run_ranked(
         }
         ready::unmark(&mut ready, rank);
         let i = lists::wide(order[rank]);
-        if !state::has_effects(&s.sets, task, i) {
+        if !applying::has_effects(&s.sets, task, i) {
             plan[steps] = i as u16;
             steps += 1;
             from = task::eff_start(task, i);

@@ -20,8 +20,8 @@ use Rattle.laws.proofs.Formed.{Formed}
 use Rattle.laws.proofs.Painting.{black-inside}
 use Rattle.task.specs.Task.{taskIn}
 use Rattle.task.specs.Links.{Next, Changes, Prepared, headAt, nextAt}
-use Rattle.state.specs.Sets.{inSet}
-use Rattle.state.proofs.Members.{inSet-or}
+use Rattle.sets.specs.Sets.{inSet}
+use Rattle.sets.proofs.Members.{inSet-or}
 use Rattle.labels.specs.Labels.{lower}
 use Rattle.search.specs.Search.{sourceOf, through, Into, Lowered}
 use Rattle.search.proofs.Arcs.{arc-changes, arc-target, arc-is, arc-fits}

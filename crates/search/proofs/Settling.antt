@@ -22,8 +22,8 @@ use Rattle.laws.proofs.Tests.{and-l, and-r, and-i, T-cases}
 use Rattle.laws.proofs.Below.{tally-le, tally-cases}
 use Rattle.laws.proofs.Formed.{Formed}
 use Rattle.laws.proofs.Best.{arcs-inside}
-use Rattle.state.specs.Sets.{inSet}
-use Rattle.state.proofs.Members.{inSet-empty, inSet-single}
+use Rattle.sets.specs.Sets.{inSet}
+use Rattle.sets.proofs.Members.{inSet-empty, inSet-single}
 use Rattle.labels.specs.Labels.{Nearest}
 use Rattle.labels.proofs.Sets.{inSet-either, either, inSet-all}
 use Rattle.search.specs.Search.{unreached, dearest, highest, through, Into, Lowered, Done, Settled}

@@ -11,8 +11,8 @@ use lib.Dec.{eqb}
 use Rattle.planning.specs.Record.{Task}
 use Rattle.planning.specs.Runs.{State, look, holds, act}
 use Rattle.planning.specs.Painting.{fits}
-use Rattle.state.specs.Sets.{inSet, Asked}
-use Rattle.state.proofs.Members.{inSet-single, inSet-empty, inSet-and}
+use Rattle.sets.specs.Sets.{inSet, Asked}
+use Rattle.sets.proofs.Members.{inSet-single, inSet-empty, inSet-and}
 use Rattle.search.specs.Search.{sourceOf}
 
 eqb-comm : (a b : ℕ) → eqb a b ≡ eqb b a

@@ -10,7 +10,7 @@ use Rattle.planning.specs.Record.{Task}
 use Rattle.planning.specs.Runs.{State, look, holds, actions, count, act}
 use Rattle.planning.specs.Painting.{target, fits}
 use Rattle.planning.specs.Repair.{usableArc}
-use Rattle.state.specs.Sets.{inSet}
+use Rattle.sets.specs.Sets.{inSet}
 
 -- action i is usable and gives an arc of v from c, or stays at c
 unfoldable pub sourceOf : Task → State → ℕ → ℕ → ℕ → Bool

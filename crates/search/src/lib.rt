@@ -9,7 +9,7 @@ ghost use lib.ListN.{length, getD, replicate};
 ghost use Rattle.planning.specs.Runs.{holds, actions, count, act, black};
 ghost use Rattle.task.specs.Task.{factsIn, taskIn, Loaded};
 ghost use Rattle.task.specs.Links.{Prepared};
-ghost use Rattle.state.specs.Sets.{inSet, setsOf, Facts};
+ghost use Rattle.sets.specs.Sets.{inSet, setsOf, Facts};
 ghost use Rattle.search.specs.Search.{sourceOf, unreached, through, highest, Into, Lowered, Done, Settled};
 
 // The set of all 64 values.
@@ -23,7 +23,7 @@ fn if_held(ever: &[u64; 64], facts: &[u16], from: usize, to: usize, set: u64) ->
     if set == 0 {
         return 0;
     }
-    if state::all_hold(ever, facts, from, to) {
+    if sets::all_hold(ever, facts, from, to) {
         set
     } else {
         0
@@ -39,12 +39,12 @@ fn usable_sources(ever: &[u64; 64], task: &[u16], i: usize, v: usize, rest: u64)
     let mut k = task::pre_start(task, i);
     while k < to {
         let f = lists::wide(task[k]);
-        if !state::holds(ever, f) {
+        if !sets::holds(ever, f) {
             return 0;
         }
         k += 1;
         if f / 64 == v {
-            return if_held(ever, task, k, to, rest & state::single(f % 64));
+            return if_held(ever, task, k, to, rest & sets::single(f % 64));
         }
     }
     rest
@@ -101,10 +101,10 @@ pub fn settle(
 {
     labels[d] = d as u64;
     let mut rest = ALL >> (64 - task::count(task, v));
-    let mut front = state::single(d);
+    let mut front = sets::single(d);
     let mut x = d;
     while x < 64 {
-        let one = state::single(x);
+        let one = sets::single(x);
         rest = rest ^ one;
         if x == c && !whole {
             return rest;

@@ -13,7 +13,7 @@ use Rattle.planning.specs.Basics.{Check, check, refuse, andThen, inOrder, refus
 use Rattle.planning.specs.Calls.{Read, lengthCheck, roomCheck, notBelow, capacity, writeCall, readCall}
 use Rattle.planning.specs.Record.{endsAt}
 use Rattle.planning.specs.Sheet.{Sheet, markWidth, sheetSize, sheetEnd, sheetField, stepsChecks, sheetChecks, sheetCheck, editionIn, stepsIn}
-use Rattle.laws.proofs.Checks.{andThen-none}
+use Rattle.laws.proofs.Checks.{andThen-none, check-true}
 use Rattle.sheet.specs.Answers.{endCheck, headingOf, cutIn}
 use Rattle.sheet.proofs.Widths.{markWidth-le}
 
@@ -187,11 +187,6 @@ pub record Accepted (s : List ℕ) : Type 0 where
   pub few : stepsIn s ≤ 32768
   pub ends : length s ≡ (sheetEnd (editionIn s) (stepsIn s) + 7) / 8
   pub padding : bitsAt s (sheetEnd (editionIn s) (stepsIn s)) (8 * length s - sheetEnd (editionIn s) (stepsIn s)) ≡ 0
-
-check-true : (b : Bool) (n p : ℕ) → check b n p ≡ none → b ≡ true
-unfolding check
-check-true true n p e = refl
-check-true false n p e = let u : _≡_ {A = ℕ} 0 1 = cc in absurd (omega arith)
 
 head-none : (k : Check) (ks : List Check) → inOrder (k ∷ ks) ≡ none → k ≡ none
 unfolding inOrder

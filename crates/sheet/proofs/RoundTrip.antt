@@ -19,9 +19,9 @@ use Rattle.planning.specs.Calls.{notBelow, lent, lentBytes, readCall, readList,
 use Rattle.planning.specs.Record.{endsAt}
 use Rattle.planning.specs.Sheet.{Sheet, bitsOf, markWidth, editionOf, markOf, marksOf, stepBits, sheetBits, numberIn, packed, sheetEnd, sheetSize, sheetBytes}
 use Rattle.planning.specs.Sheet.{stepsAt, marksAt, editionIn, stepsIn, sheetOf, sheetCheck}
-use Rattle.laws.proofs.Fields.{bitAt-below}
+use Rattle.laws.proofs.Fields.{bitAt-below, bitsAt-below}
 use Rattle.bits.proofs.Pack.{length-bitsOf, length-packed, packed-none, packed-byte, bitsOf-add, drop-bitsOf, numberIn-bitsOf, packed-same, Same, same-prefix, same-zeros}
-use Rattle.bits.proofs.Window.{bitsAt-lt, bitsAt-whole}
+use Rattle.bits.proofs.Window.{bitsAt-whole}
 use Rattle.sheet.proofs.Checks.{accepted, front-passed, end-passes, reads, writes}
 use Rattle.sheet.proofs.Rows.{length-stepsAt}
 use Rattle.sheet.proofs.Entries.{none-over}
@@ -329,7 +329,7 @@ mark-again : (s : List ℕ) (e p : ℕ) → 1 ≤ e → e ≤ 2 → markOf e (bi
 unfolding markOf markWidth bitsAt oneIf
 mark-again s zero p h l = absurd (omega arith)
 mark-again s (suc zero) p h l = refl
-mark-again s (suc (suc zero)) p h l = go (bitsAt s p 1) (bitsAt-lt s p 1)
+mark-again s (suc (suc zero)) p h l = go (bitsAt s p 1) (bitsAt-below s p 1)
   where
     go : (b : ℕ) → b < 2 → oneIf (not (eqb b 0)) ≡ b
     go zero h = refl
@@ -378,7 +378,7 @@ bit-back (suc (suc b)) h = absurd (omega arith)
 steps-small : (s : List ℕ) (w p n i : ℕ) → getD (stepsAt s w p n) i 0 < 1024
 unfolding stepsAt
 steps-small s w p zero i = omega arith
-steps-small s w p (suc n) zero = bitsAt-lt s (p + w) 10
+steps-small s w p (suc n) zero = bitsAt-below s (p + w) 10
 steps-small s w p (suc n) (suc i) = steps-small s w (p + w + 10) n i
 
 zeros-behind : (w : ℕ) (xs : List ℕ) → Same (xs ++ (bitsOf w 0 ++ [])) (xs ++ [])
@@ -394,7 +394,7 @@ module _ (s : List ℕ) (ok : sheetCheck s ≡ none) where
   count-bits = bitsOf-bitsAt s 5 16
 
   real-bit : bitsOf 1 (oneIf (eqb (bitsAt s 4 1) 1)) ≡ bitsFrom s 4 1
-  real-bit = ap (bitsOf 1) (bit-back (bitsAt s 4 1) (bitsAt-lt s 4 1)) ∙ bitsOf-bitsAt s 4 1
+  real-bit = ap (bitsOf 1) (bit-back (bitsAt s 4 1) (bitsAt-below s 4 1)) ∙ bitsOf-bitsAt s 4 1
 
   -- the bits of the sheet that was read are those of the bytes
   bits-again : sheetBits (sheetOf s) ≡ bitsFrom s 0 (sheetEnd (editionIn s) (stepsIn s))

@@ -18,6 +18,7 @@ use Rattle.laws.proofs.Steps.{All, all-append}
 use Rattle.laws.proofs.Best.{best-below}
 use Rattle.laws.proofs.Fill.{fill-searches}
 use Rattle.laws.proofs.Formed.{Formed}
+use Rattle.laws.proofs.Lists.{all-at}
 use Rattle.laws.proofs.Order.{clientsFirst-le}
 use Rattle.asking.specs.Asking.{Entries}
 use Rattle.passes.specs.Passes.{passOf}
@@ -62,11 +63,6 @@ order-all n adj m (suc k) taken = go (first n (ready n adj m taken)) (first-is n
         → All (λ v. (v < n) × T (m v)) (elim o [ none ↦ [] | some v ↦ v ∷ clientsFirst n adj m k (λ u. eqb u v || taken u) ])
     go none f g = tt
     go (some v) f g = ((f .below, search (and-l)), g (λ u. eqb u v || taken u))
-
-all-at : (P : ℕ → Type 0) (l : List ℕ) → All P l → (k : ℕ) → k < length l → P (getD l k 0)
-all-at P [] a k h = absurd (omega arith)
-all-at P (x ∷ l) a zero h = a .0
-all-at P (x ∷ l) a (suc k) h = all-at P l (a .1) k (omega arith)
 
 pub order-at : (t : Task) (k : ℕ) → k < length (order t) → (getD (order t) k 0 < variables t) × T (black t (getD (order t) k 0))
 unfolding order

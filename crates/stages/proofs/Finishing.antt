@@ -10,9 +10,9 @@ use Rattle.planning.specs.Runs.{State, variables, count, goals}
 use Rattle.laws.proofs.Facts.{look-some}
 use Rattle.laws.proofs.Formed.{Formed, sorted-has, goals-sorted}
 use Rattle.task.specs.Task.{factOf, factsIn}
-use Rattle.state.specs.Sets.{GoalsOf}
+use Rattle.state.specs.Goals.{GoalsOf}
 use Rattle.state.specs.declared.Goals.{Goals}
-use Rattle.state.proofs.Listing.{between-inside}
+use Rattle.sets.proofs.Listing.{between-inside}
 use Rattle.paths.specs.Paths.{Put}
 use Rattle.paths.specs.declared.Written.{Written}
 use Rattle.asking.specs.Asking.{Fitting, Searched}

@@ -16,8 +16,8 @@ use Rattle.planning.specs.Painting.{orZero}
 use Rattle.planning.specs.Repair.{value, blackMet}
 use Rattle.laws.proofs.Below.{First?, first-is}
 use Rattle.laws.proofs.Tests.{T→true}
-use Rattle.state.specs.Sets.{valuesOf, redBlackOf}
-use Rattle.state.proofs.RedBlack.{redBlack-black}
+use Rattle.sets.specs.Sets.{valuesOf, redBlackOf}
+use Rattle.applying.proofs.RedBlack.{redBlack-black}
 use Rattle.stages.specs.Stages.{Present}
 
 -- the one value of a set

@@ -8,7 +8,7 @@ use Rattle.planning.specs.Record.{Fact, Task}
 use Rattle.planning.specs.Runs.{State, variables, count, act, black, goals}
 use Rattle.planning.specs.Repair.{order, fill, value, blackMet, fillSearches}
 use Rattle.task.specs.Task.{taskIn}
-use Rattle.state.specs.Sets.{setsOf, valuesOf, redBlackOf}
+use Rattle.sets.specs.Sets.{setsOf, valuesOf, redBlackOf}
 use Rattle.paths.specs.Paths.{pathsOf}
 use Rattle.asking.specs.Asking.{Fitting}
 use Rattle.passes.specs.Passes.{factsOf}

@@ -11,7 +11,7 @@ ghost use Rattle.planning.specs.Newest.{alone};
 ghost use Rattle.planning.specs.Repair.{blackMet};
 ghost use Rattle.task.specs.Task.{taskIn, Loaded};
 ghost use Rattle.task.specs.Links.{Prepared};
-ghost use Rattle.state.specs.Sets.{setsOf, valuesOf};
+ghost use Rattle.sets.specs.Sets.{setsOf, valuesOf};
 ghost use Rattle.paths.specs.Paths.{Memo, Put};
 ghost use Rattle.asking.specs.Asking.{Entries, writtenIn, Searched};
 ghost use Rattle.passes.specs.Passes.{factsOf};

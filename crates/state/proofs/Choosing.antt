@@ -16,7 +16,7 @@ use Rattle.planning.specs.Runs.{look, act, variables, count}
 use Rattle.planning.specs.Newest.{newer}
 use Rattle.laws.proofs.Facts.{look-some}
 use Rattle.laws.proofs.Formed.{Formed, sorted-has}
-use Rattle.state.specs.Sets.{valuesOf, choose, over}
+use Rattle.sets.specs.Sets.{valuesOf, choose, over}
 
 pub choose-yes : (b : Bool) (x y : ℕ) → b ≡ true → x ≡ choose b x y
 unfolding choose

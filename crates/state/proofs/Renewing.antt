@@ -1,6 +1,5 @@
 -- Newest values in the step's loop. Effects set them one after the other; since variables rise strictly, none is set twice.
 use mathlib.Core.Path.{_≡_, refl, sym, ap, _∙_, fun-ext}
-use mathlib.Core.Bool.{true, false}
 use mathlib.Core.List.{List, [], _∷_}
 use mathlib.Core.Option.{Option, none, some}
 use Prim.Native.Nat.{ℕ, _+_, _/_, _%_, _<_, _≤_}
@@ -11,13 +10,14 @@ use lib.ListN.{length, getD, set, replicate, length-set}
 use lib.Seq.{getD-set-same, getD-set-other}
 use Rattle.planning.specs.Record.{Fact, Action, Variable, Task}
 use Rattle.planning.specs.Runs.{look, act, variable}
-use Rattle.planning.specs.Newest.{newer, initialValues, alone}
+use Rattle.planning.specs.Newest.{newer, initialValues}
 use Rattle.laws.proofs.Fields.{variable-past}
+use Rattle.laws.proofs.Lists.{getD-zeros}
 use Rattle.task.specs.Task.{cell, factOf, factsIn, actionIn, taskIn}
-use Rattle.state.specs.Sets.{valuesOf}
-use Rattle.state.proofs.Listed.{Rising, Listed}
-use Rattle.state.proofs.Effects.{factsIn-cons, factsIn-none, Walking}
-use Rattle.state.proofs.Loading.{Over, getD-zeros}
+use Rattle.sets.specs.Sets.{valuesOf}
+use Rattle.sets.proofs.Listed.{Rising, Listed}
+use Rattle.sets.proofs.Effects.{factsIn-cons, factsIn-none, Walking}
+use Rattle.sets.proofs.Loading.{Over}
 
 -- each fact of a list set in turn
 unfoldable pub setAll : List Fact → List ℕ → List ℕ
@@ -111,10 +111,3 @@ module _ (t : Task) (n : ℕ) (ns : List ℕ) (v : ℕ) (o : Over t n v) (p : Pl
       go w (no b) = p .rest w (omega arith) ∙ sym (ap (λ (y : Variable). y .init) (variable-past t w (omega (arith, o .within, o .all))))
 
 -- a fact is its variable's newest value
-pub newest-is : (ns : List ℕ) (f : ℕ) → getD ns (f / 64) 0 ≡ f % 64 → alone (valuesOf ns) (f / 64) (f % 64) ≡ true
-unfolding alone valuesOf
-newest-is ns f e = rw e (eq-eqb (f % 64) (f % 64) refl)
-
-pub newest-not : (ns : List ℕ) (f : ℕ) → (getD ns (f / 64) 0 ≡ f % 64 → ⊥) → alone (valuesOf ns) (f / 64) (f % 64) ≡ false
-unfolding alone valuesOf
-newest-not ns f h = ne-eqb (f % 64) (getD ns (f / 64) 0) (λ e. h (sym e))

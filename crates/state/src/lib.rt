@@ -1,6 +1,5 @@
 // States: for each of 64 variables the set of the values that it has had, one bit a value, and the newest of them. The step takes a state
-// and hands the next one back whole. The sets are the relaxed state; the newest values alone are the real one; the red-black state has the
-// newest value of a black variable and the set of a red one.
+// and hands the next one back whole. The goals of a task stand here too, as facts.
 use task::Goal;
 ghost use mathlib.Core.Path.{_≡_};
 ghost use Prim.Native.Nat.{ℕ, _+_, _*_, _/_, _%_, _^_, _<_, _≤_};
@@ -8,241 +7,8 @@ ghost use lib.ListN.{length, getD, set};
 ghost use Rattle.planning.specs.Runs.{actions, act, has, holds, look, step, initial, relaxed, black, size};
 ghost use Rattle.planning.specs.Newest.{initialValues, newer, alone};
 ghost use Rattle.task.specs.Task.{factsIn, taskIn, Loaded};
-ghost use Rattle.state.specs.Sets.{inSet, setsOf, valuesOf, modeOf, redBlackOf, choose, over, further, GoalsOf, Asked, listed, Known, WithOnly};
-
-// The set of value x alone.
-pub fn single(x: usize) -> u64
-    requires { ⌜ x < 64 ⌝ }
-    ensures { λ r. ⌜ r ≡ 2 ^ x ⌝ }
-{
-    1 << x
-}
-
-// Value x is in the set.
-pub fn member(set: u64, x: usize) -> bool
-    requires { ⌜ x < 64 ⌝ }
-    ensures { λ r. ⌜ r ≡ inSet set x ⌝ }
-{
-    (set >> x) % 2 == 1
-}
-
-// Fact f is in the sets.
-pub fn holds(sets: &[u64; 64], f: usize) -> bool
-    requires { ⌜ f < 4096 ⌝ }
-    ensures { λ r. ⌜ r ≡ setsOf (now (sets .entry)) (f / 64) (f % 64) ⌝ }
-{
-    member(sets[f / 64], f % 64)
-}
-
-// Each fact from place `from` up to `to` is in the sets.
-pub fn all_hold(sets: &[u64; 64], facts: &[u16], from: usize, to: usize) -> bool
-    requires { ⌜ (from ≤ to) × (to ≤ length (now facts)) × ((k : ℕ) → from ≤ k → k < to → getD (now facts) k 0 < 4096) ⌝ }
-    ensures { λ r. ⌜ r ≡ holds (setsOf (now (sets .entry))) (factsIn (now (facts .entry)) from to) ⌝ }
-{
-    let mut k = from;
-    while k < to {
-        if !holds(sets, lists::wide(facts[k])) {
-            return false;
-        }
-        k += 1;
-    }
-    true
-}
-
-// Action i applies: each precondition is in the sets.
-pub fn applies(sets: &[u64; 64], task: &[u16], i: usize) -> bool
-    requires { ⌜ Loaded (now task) × (i < actions (taskIn (now task))) ⌝ }
-    ensures { λ r. ⌜ r ≡ holds (setsOf (now (sets .entry))) (act (taskIn (now (task .entry))) i .pre) ⌝ }
-{
-    all_hold(
-        sets,
-        task,
-        task::pre_start(task, i),
-        task::eff_start(task, i),
-    )
-}
-
-// Each effect of action i is in the sets.
-pub fn has_effects(sets: &[u64; 64], task: &[u16], i: usize) -> bool
-    requires { ⌜ Loaded (now task) × (i < actions (taskIn (now task))) ⌝ }
-    ensures { λ r. ⌜ r ≡ holds (setsOf (now (sets .entry))) (act (taskIn (now (task .entry))) i .eff) ⌝ }
-{
-    all_hold(sets, task, task::eff_start(task, i), task::eff_end(task, i))
-}
-
-// The same, where `known` has actions of which it is so, 16 sets of 64. Action i joins them: it is so of the state behind it.
-pub fn knows_effects(sets: &[u64; 64], task: &[u16], i: usize, known: &mut [u64; 16]) -> bool
-    requires { ⌜ Loaded (now task) × (i < actions (taskIn (now task))) × Known (taskIn (now task)) (setsOf (now sets)) (now known) ⌝ }
-    ensures { λ r. ⌜ r ≡ holds (setsOf (now (sets .entry))) (act (taskIn (now (task .entry))) i .eff) ⌝ }
-    ensures { λ _. ⌜ Known (taskIn (now (task .entry))) (step relaxed (act (taskIn (now (task .entry))) i) (setsOf (now (sets .entry)))) (now (known .exit)) ⌝ }
-    ensures { λ _. ⌜ WithOnly i (now (known .entry)) (now (known .exit)) ⌝ }
-{
-    if is_listed(known, i) {
-        return true;
-    }
-    known[i / 64] = known[i / 64] | single(i % 64);
-    has_effects(sets, task, i)
-}
-
-// Action i is in a set of actions, 16 sets of 64.
-pub fn is_listed(set: &[u64; 16], i: usize) -> bool
-    requires { ⌜ i < 1024 ⌝ }
-    ensures { λ r. ⌜ r ≡ listed (now (set .entry)) i ⌝ }
-{
-    member(set[i / 64], i % 64)
-}
-
-// Each fact from place `from` up to `to` is the newest value of its variable.
-pub fn all_newest(newest: &[u8; 64], facts: &[u16], from: usize, to: usize) -> bool
-    requires { ⌜ (from ≤ to) × (to ≤ length (now facts)) × ((k : ℕ) → from ≤ k → k < to → getD (now facts) k 0 < 4096) ⌝ }
-    ensures { λ r. ⌜ r ≡ holds (alone (valuesOf (now (newest .entry)))) (factsIn (now (facts .entry)) from to) ⌝ }
-{
-    let mut k = from;
-    while k < to {
-        let f = lists::wide(facts[k]);
-        if newest[f / 64] != (f % 64) as u8 {
-            return false;
-        }
-        k += 1;
-    }
-    true
-}
-
-// Action i applies where each variable has its newest value alone.
-pub fn applies_newest(newest: &[u8; 64], task: &[u16], i: usize) -> bool
-    requires { ⌜ Loaded (now task) × (i < actions (taskIn (now task))) ⌝ }
-    ensures { λ r. ⌜ r ≡ holds (alone (valuesOf (now (newest .entry)))) (act (taskIn (now (task .entry))) i .pre) ⌝ }
-{
-    all_newest(
-        newest,
-        task,
-        task::pre_start(task, i),
-        task::eff_start(task, i),
-    )
-}
-
-// Fact f is in the red-black state: the newest value of a variable of the set `paint`, else one that the variable has had.
-fn holds_red_black<'a>(paint: u64, sets: &'a [u64; 64], newest: &'a [u8; 64], f: usize) -> bool
-    requires { ⌜ f < 4096 ⌝ }
-    ensures { λ r. ⌜ r ≡ redBlackOf (modeOf paint) (setsOf (now (sets .entry))) (valuesOf (now (newest .entry))) (f / 64) (f % 64) ⌝ }
-{
-    if member(paint, f / 64) {
-        (f % 64) as u8 == newest[f / 64]
-    } else {
-        holds(sets, f)
-    }
-}
-
-// Each fact from place `from` up to `to` is in the red-black state.
-pub fn all_hold_red_black<'a>(
-    paint: u64,
-    sets: &'a [u64; 64],
-    newest: &'a [u8; 64],
-    facts: &[u16],
-    from: usize,
-    to: usize,
-) -> bool
-    requires { ⌜ (from ≤ to) × (to ≤ length (now facts)) × ((k : ℕ) → from ≤ k → k < to → getD (now facts) k 0 < 4096) ⌝ }
-    ensures { λ r. ⌜ r ≡ holds (redBlackOf (modeOf paint) (setsOf (now (sets .entry))) (valuesOf (now (newest .entry)))) (factsIn (now (facts .entry)) from to) ⌝ }
-{
-    let mut k = from;
-    while k < to {
-        if !holds_red_black(paint, sets, newest, lists::wide(facts[k])) {
-            return false;
-        }
-        k += 1;
-    }
-    true
-}
-
-// Action i applies red-black.
-pub fn applies_red_black<'a>(
-    paint: u64,
-    sets: &'a [u64; 64],
-    newest: &'a [u8; 64],
-    task: &[u16],
-    i: usize,
-) -> bool
-    requires { ⌜ Loaded (now task) × (i < actions (taskIn (now task))) ⌝ }
-    ensures { λ r. ⌜ r ≡ holds (redBlackOf (modeOf paint) (setsOf (now (sets .entry))) (valuesOf (now (newest .entry)))) (act (taskIn (now (task .entry))) i .pre) ⌝ }
-{
-    all_hold_red_black(
-        paint,
-        sets,
-        newest,
-        task,
-        task::pre_start(task, i),
-        task::eff_start(task, i),
-    )
-}
-
-// The steps of a list that run for real, with action i behind it: of `steps` steps `runs` do, and i counts if all do and it applies to the
-// newest values.
-pub fn further(newest: &[u8; 64], task: &[u16], i: usize, runs: usize, steps: usize) -> usize
-    requires { ⌜ Loaded (now task) × (i < actions (taskIn (now task))) × (runs ≤ 32768) ⌝ }
-    ensures { λ r. ⌜ r ≡ further (holds (alone (valuesOf (now (newest .entry)))) (act (taskIn (now (task .entry))) i .pre)) runs steps ⌝ }
-{
-    if runs == steps && applies_newest(newest, task, i) {
-        return runs + 1;
-    }
-    runs
-}
-
-// The value that the facts from place `from` up to `to` ask of variable v, 64 for none.
-pub fn asked(facts: &[u16], from: usize, to: usize, v: usize) -> usize
-    requires { ⌜ (from ≤ to) × (to ≤ length (now facts)) ⌝ }
-    ensures { λ r. ⌜ Asked (look (factsIn (now (facts .entry)) from to) v) r ⌝ }
-{
-    let mut k = from;
-    while k < to {
-        let f = lists::wide(facts[k]);
-        if f / 64 == v {
-            return f % 64;
-        }
-        k += 1;
-    }
-    64
-}
-
-// The value that action i needs of v, 64 for none.
-pub fn need(task: &[u16], i: usize, v: usize) -> usize
-    requires { ⌜ Loaded (now task) × (i < actions (taskIn (now task))) ⌝ }
-    ensures { λ r. ⌜ Asked (look (act (taskIn (now (task .entry))) i .pre) v) r ⌝ }
-{
-    asked(task, task::pre_start(task, i), task::eff_start(task, i), v)
-}
-
-// The value to which action i sets v, 64 for none.
-pub fn target(task: &[u16], i: usize, v: usize) -> usize
-    requires { ⌜ Loaded (now task) × (i < actions (taskIn (now task))) ⌝ }
-    ensures { λ r. ⌜ Asked (look (act (taskIn (now (task .entry))) i .eff) v) r ⌝ }
-{
-    asked(task, task::eff_start(task, i), task::eff_end(task, i), v)
-}
-
-// Fact f is among the preconditions of action i.
-pub fn needs_fact(task: &[u16], i: usize, f: usize) -> bool
-    requires { ⌜ Loaded (now task) × (i < actions (taskIn (now task))) ⌝ }
-    ensures { λ r. ⌜ r ≡ has (act (taskIn (now (task .entry))) i .pre) (f / 64) (f % 64) ⌝ }
-{
-    need(task, i, f / 64) == f % 64
-}
-
-// The black variables, as a set of variables.
-pub fn painted(task: &[u16]) -> u64
-    requires { ⌜ Loaded (now task) ⌝ }
-    ensures { λ r. ⌜ modeOf r ≡ black (taskIn (now (task .entry))) ⌝ }
-{
-    let n = task::variables(task);
-    let mut set: u64 = 0;
-    for v in 0..n {
-        let own = single(v);
-        if task::is_black(task, v) {
-            set = set | own;
-        }
-    }
-    set
-}
+ghost use Rattle.sets.specs.Sets.{setsOf, valuesOf, choose, over};
+ghost use Rattle.state.specs.Goals.{GoalsOf};
 
 // The goals, as facts 64 × variable + value in the front of a list.
 pub struct Goals {
@@ -375,7 +141,7 @@ fn add_effects(sets: &mut [u64; 64], task: &[u16], i: usize)
     while k < end {
         let f = lists::wide(task[k]);
         let v = f / 64;
-        sets[v] = sets[v] | single(f % 64);
+        sets[v] = sets[v] | sets::single(f % 64);
         k += 1;
     }
 }
@@ -427,7 +193,7 @@ impl State {
         let mut values = [0u8; 64];
         for v in 0..n {
             let x = task::initial(task, v);
-            sets[v] = single(x);
+            sets[v] = sets::single(x);
             values[v] = x as u8;
         }
         State {

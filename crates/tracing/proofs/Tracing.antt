@@ -19,9 +19,9 @@ use Rattle.laws.proofs.Formed.{Formed, sorted-has, eff-func, goals-sorted}
 use Rattle.laws.proofs.Steps.{run-mono}
 use Rattle.laws.proofs.Prefixes.{runBy-behind, stepsBy-on, stepsBy-fails, stepsBy-stopped, stepsBy-le}
 use Rattle.laws.proofs.Newest.{newestAfter, track-sets, track-newest, real-applies, real-holds}
-use Rattle.state.specs.Sets.{further, redBlackOf}
-use Rattle.state.proofs.Running.{further-fails, further-stopped, further-steps}
-use Rattle.state.proofs.RedBlack.{redBlack-step, redBlack-initial, step-held}
+use Rattle.sets.specs.Sets.{further, redBlackOf}
+use Rattle.applying.proofs.Running.{further-fails, further-stopped, further-steps}
+use Rattle.applying.proofs.RedBlack.{redBlack-step, redBlack-initial, step-held}
 use Rattle.tracing.specs.Traces.{StopsAs, RunsAs}
 use Rattle.callers.specs.Callers.{Relaxes}
 use Rattle.tracing.proofs.Modes.{redBlack-further, relaxed-further, judged-of}

@@ -5,7 +5,7 @@ use Prim.Native.Nat.{ℕ}
 use Rattle.planning.specs.Record.{Task}
 use Rattle.planning.specs.Runs.{State, real, black, act, initial, stepsRun}
 use Rattle.planning.specs.Newest.{Values, redBlackSteps, stopsIn}
-use Rattle.state.specs.Sets.{setsOf, valuesOf, redBlackOf}
+use Rattle.sets.specs.Sets.{setsOf, valuesOf, redBlackOf}
 use Rattle.callers.specs.Callers.{Relaxes}
 use Rattle.tracing.specs.declared.Trace.{Trace}
 

@@ -17,19 +17,19 @@ pub fn follow(task: &[u16], list: &[u16]) -> Trace
     requires { ⌜ Ready (now task) (now list) ⌝ }
     ensures { λ r. ⌜ Traces (taskIn (now (task .entry))) (now (list .entry)) r ⌝ }
 {
-    let paint = state::painted(task);
+    let paint = sets::painted(task);
     let mut s = State::initial(task);
     let mut known = [0u64; 16];
     let mut k: usize = 0;
     let mut runs: usize = 0;
     while k < list.len() {
         let i = list[k] as usize;
-        runs = state::further(&s.newest.values, task, i, runs, k);
-        if runs <= k && !state::applies_red_black(paint, &s.sets, &s.newest.values, task, i) {
+        runs = applying::further(&s.newest.values, task, i, runs, k);
+        if runs <= k && !applying::applies_red_black(paint, &s.sets, &s.newest.values, task, i) {
             break;
         }
         k += 1;
-        if state::knows_effects(&s.sets, task, i, &mut known) {
+        if applying::knows_effects(&s.sets, task, i, &mut known) {
             let old = s.newest;
             let newest = old.step(task, i);
             s.newest = newest;

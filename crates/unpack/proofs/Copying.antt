@@ -9,8 +9,9 @@ use lib.ListN.{length, take, drop, set, length-set, length-append}
 use lib.Seq.{take-suc-set, length-take-le, take-at, sets-eq}
 use Rattle.planning.specs.Basics.{bitsAt}
 use Rattle.planning.specs.Sheet.{bitsOf, packed}
+use Rattle.laws.proofs.Fields.{bitsAt-below}
 use Rattle.bits.proofs.Order.{bytes-of}
-use Rattle.bits.proofs.Window.{bitsAt-cut, bitsAt-lt}
+use Rattle.bits.proofs.Window.{bitsAt-cut}
 use Rattle.lists.specs.Four.{Spread, withFour}
 use Rattle.sheet.proofs.Rows.{row, stepAt, markAt, length-row}
 
@@ -164,7 +165,7 @@ pub eight-marks : (s : List ℕ) (p q n r a q′ n′ r′ b v : ℕ) → r ≡ 
     → b ≡ r′ / 8796093022208 % 2 * 16777216 + r′ / 4294967296 % 2 * 65536 + r′ / 2097152 % 2 * 256 + r′ / 1024 % 2
     → v ≡ a * 4294967296 + b → packed 8 (bitsOf 64 v) ≡ row (markAt s 1) 11 p 8
 eight-marks s p q n r a q′ n′ r′ b v e k h e′ k′ h′ ea eb ev =
-    let bit : (x : ℕ) → markAt s 1 x < 256 = λ x. omega (arith, bitsAt-lt s x 1) in
+    let bit : (x : ℕ) → markAt s 1 x < 256 = λ x. omega (arith, bitsAt-below s x 1) in
     rw (row-eight (markAt s 1) p)
     (eight-bytes _ _ _ _ _ _ _ _ v (bit p) (bit (p + 11)) (bit (p + 22)) (bit (p + 33)) (bit (p + 44)) (bit (p + 44 + 11)) (bit (p + 44 + 22)) (bit (p + 44 + 33))
     (ev ∙ rw (marks-four s q n r p e k h a ea, marks-four s q′ n′ r′ (p + 44) e′ (omega arith) h′ b eb) refl))

@@ -5,11 +5,12 @@ use Prim.Native.Nat.{ℕ, _+_, _*_, _/_, _%_, _^_, _<_}
 use native.Mathlib.Omega.{arith}
 use lib.Pow.{high, shr-shr}
 use Rattle.planning.specs.Basics.{bitsAt}
-use Rattle.bits.proofs.Window.{bitsAt-add, bitsAt-lt}
+use Rattle.laws.proofs.Fields.{bitsAt-below}
+use Rattle.bits.proofs.Window.{bitsAt-add}
 
 -- the front of a run of bits
 pub bits-front : (s : List ℕ) (q n r m c : ℕ) → r ≡ bitsAt s q n → n ≡ m + c → r / 2 ^ c ≡ bitsAt s q m
-bits-front s q n r m c e k = rw (e, k, bitsAt-add s q m c) (high (bitsAt s q m) c (bitsAt-lt s (q + m) c))
+bits-front s q n r m c e k = rw (e, k, bitsAt-add s q m c) (high (bitsAt s q m) c (bitsAt-below s (q + m) c))
 
 -- Four bits that lie eleven places apart, moved by one product to lie eight apart.
 module _ (a b c d m : ℕ) (ha : a < 2) (hb : b < 2) (hc : c < 2) (hd : d < 2) (e : m ≡ (a * 8589934592 + b * 4194304 + c * 2048 + d) * 585) where

@@ -20,12 +20,13 @@ use Rattle.laws.proofs.Tests.{and-l, and-r, and-i, or-l, or-r, or-cases}
 use Rattle.laws.proofs.Below.{tally-le, tally-cases}
 use Rattle.laws.proofs.Choice.{choice-some, choice-none}
 use Rattle.laws.proofs.Facts.{_⊆_, holds→sub, sub→holds}
+use Rattle.laws.proofs.Lists.{getD-zeros}
 use Rattle.task.specs.Task.{preAt, effAt, taskIn}
-use Rattle.state.specs.Sets.{setsOf}
-use Rattle.state.proofs.Members.{inSet-empty}
+use Rattle.sets.specs.Sets.{setsOf}
+use Rattle.sets.proofs.Members.{inSet-empty}
 use Rattle.ranking.specs.Ranked.{Before, Ranked}
 use Rattle.ready.specs.Ready.{member, Lowest, With, Without}
-use Rattle.ready.proofs.Bits.{zeros, ready-none}
+use Rattle.ready.proofs.Bits.{ready-none}
 use Rattle.waiting.specs.Waiting.{reaches, Passing, ranked, Looked, Settles, goes, waits, mem, Each, Chain, Sites}
 use Rattle.waiting.specs.Waiting.{factsEnd, linkAt, placeAt, headAt, Free, hung}
 
@@ -561,7 +562,7 @@ module _ {task order : List ℕ} {s owed : State} where
       needs = λ j b. absurd (omega arith);
       unreached = λ j b. absurd (omega arith);
       out = λ j b. absurd (omega arith);
-      sound = λ j m. absurd (rw (zeros 17 (j / 64 + 1), inSet-empty (j % 64)) at m);
+      sound = λ j m. absurd (rw (getD-zeros 17 (j / 64 + 1), inSet-empty (j % 64)) at m);
       places = λ j b. absurd (omega arith);
     };
     unlinked = λ x _ l. blank x (omega (arith, free .0));

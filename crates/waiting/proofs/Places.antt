@@ -15,9 +15,9 @@ use Rattle.laws.proofs.Facts.{holds→sub, sub→holds}
 use Rattle.planning.specs.Record.{Action}
 use Rattle.laws.proofs.Formed.{Sorted, sorted-has}
 use Rattle.task.specs.Task.{factOf, factsIn, preAt, effAt, endAt, actionIn, taskIn, Loaded}
-use Rattle.state.proofs.Listed.{Listed}
-use Rattle.state.proofs.Listing.{between-inside}
-use Rattle.state.proofs.Effects.{factsIn-cons, factsIn-none}
+use Rattle.sets.proofs.Listed.{Listed}
+use Rattle.sets.proofs.Listing.{between-inside}
+use Rattle.sets.proofs.Effects.{factsIn-cons, factsIn-none}
 use Rattle.waiting.specs.Waiting.{reaches, Passing, factsEnd, Headed, Looked}
 
 module _ (l : List ℕ) where

@@ -6,7 +6,7 @@ ghost use Prim.Native.Nat.{_+_, _<_, _≤_};
 ghost use lib.ListN.{length, getD, replicate};
 ghost use Rattle.planning.specs.Runs.{has, actions};
 ghost use Rattle.task.specs.Task.{factsIn, taskIn, Loaded};
-ghost use Rattle.state.specs.Sets.{setsOf, Facts};
+ghost use Rattle.sets.specs.Sets.{setsOf, Facts};
 ghost use Rattle.ready.specs.Ready.{Ready};
 ghost use Rattle.waiting.specs.Waiting.{Unmet, hung, placeAt, Looked, Settles, Sites, Settled, Headed, Room, Free, ByCost};
 
@@ -17,7 +17,7 @@ pub fn unmet(sets: &[u64; 64], facts: &[u16], from: usize, to: usize) -> usize
 {
     let mut k = from;
     while k < to {
-        if !state::holds(sets, lists::wide(facts[k])) {
+        if !sets::holds(sets, lists::wide(facts[k])) {
             return k;
         }
         k += 1;

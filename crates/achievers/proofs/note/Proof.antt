@@ -6,8 +6,8 @@ use native.Mathlib.Omega.{arith}
 use Rattle.planning.specs.Record.{Action}
 use Rattle.planning.specs.Runs.{has}
 use Rattle.task.specs.Task.{effAt, endAt, actionIn}
-use Rattle.state.proofs.Listed.{Listed}
-use Rattle.state.proofs.Listing.{loaded-listed}
+use Rattle.sets.proofs.Listed.{Listed}
+use Rattle.sets.proofs.Listing.{loaded-listed}
 use Rattle.achievers.specs.Achievers.{Noted}
 use Rattle.achievers.proofs.Achievers.{Noting, noting-turn, noting-end}
 use Rattle.achievers.proofs.note.Statement.{statement}

@@ -8,8 +8,8 @@ use borrow.Author.Tests.{not-true, not-false}
 use lib.ListN.{length, getD}
 use Rattle.planning.specs.Runs.{act, actions, holds, relaxed}
 use Rattle.task.specs.Task.{taskIn}
-use Rattle.state.specs.Sets.{setsOf}
-use Rattle.state.proofs.RedBlack.{step-held}
+use Rattle.sets.specs.Sets.{setsOf}
+use Rattle.applying.proofs.RedBlack.{step-held}
 use Rattle.callers.proofs.Going.{Going, going-at, going-turn, going-stop, going-end}
 use Rattle.callers.proofs.judge_relaxed.Statement.{statement}
 use Rattle.callers.proofs.judge_relaxed.Tie as tie

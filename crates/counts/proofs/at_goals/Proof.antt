@@ -6,7 +6,7 @@ use lib.ListN.{length}
 use Rattle.planning.specs.Record.{Fact}
 use Rattle.planning.specs.Runs.{holds}
 use Rattle.planning.specs.Newest.{alone}
-use Rattle.state.specs.Sets.{valuesOf}
+use Rattle.sets.specs.Sets.{valuesOf}
 use Rattle.counts.proofs.at_goals.Statement.{statement}
 use Rattle.counts.proofs.at_goals.Tie as tie
 

@@ -9,7 +9,7 @@ use lib.Seq.{getD-take, length-take-le}
 use Rattle.planning.specs.Runs.{actions}
 use Rattle.laws.proofs.Tests.{true→T}
 use Rattle.task.specs.Task.{taskIn}
-use Rattle.state.specs.Sets.{valuesOf}
+use Rattle.sets.specs.Sets.{valuesOf}
 use Rattle.counts.specs.declared.Counts.{Counts}
 use Rattle.counts.specs.Counting.{Few}
 use Rattle.counts.specs.Plain.{Gliding}

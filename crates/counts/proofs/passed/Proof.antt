@@ -8,7 +8,7 @@ use Rattle.planning.specs.Record.{Action}
 use Rattle.planning.specs.Runs.{act}
 use Rattle.task.specs.Task.{taskIn, actionIn}
 use Rattle.task.proofs.Reading.{taskIn-act}
-use Rattle.state.specs.Sets.{further}
+use Rattle.sets.specs.Sets.{further}
 use Rattle.counts.proofs.Plainly.{passed-all, passed-some, passed-is}
 use Rattle.counts.proofs.passed.Statement.{statement}
 use Rattle.counts.proofs.passed.Tie as tie

@@ -2,7 +2,7 @@
 use mathlib.Core.Path.{sym, _∙_}
 use Prim.Native.Nat.{_-_}
 use native.Mathlib.Omega.{arith}
-use Rattle.state.specs.Sets.{setsOf}
+use Rattle.sets.specs.Sets.{setsOf}
 use Rattle.graph.proofs.Searches.{Searched, searched-start, searched-turn, searched-hit, searched-end}
 use borrow.Author.Needs.{needs}
 use Rattle.cycles.proofs.lowest_on_cycle.Statement.{statement}

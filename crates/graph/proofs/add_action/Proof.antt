@@ -1,5 +1,5 @@
 use mathlib.Core.Path.{refl, _∙_}
-use Rattle.state.proofs.Listing.{loaded-listed}
+use Rattle.sets.proofs.Listing.{loaded-listed}
 use Rattle.graph.proofs.Rows.{listed-facts, action-arcs, action-none}
 use borrow.Author.Needs.{needs}
 use Rattle.graph.proofs.add_action.Statement.{statement}

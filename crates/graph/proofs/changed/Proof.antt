@@ -8,8 +8,8 @@ use native.Mathlib.Omega.{arith}
 use Rattle.planning.specs.Record.{Fact}
 use Rattle.planning.specs.Runs.{touches, act}
 use Rattle.task.specs.Task.{effAt, taskIn}
-use Rattle.state.specs.Sets.{inSet}
-use Rattle.state.proofs.Listing.{loaded-listed}
+use Rattle.sets.specs.Sets.{inSet}
+use Rattle.sets.proofs.Listing.{loaded-listed}
 use Rattle.graph.proofs.Rows.{Changing, changing-start, changing-turn, changing-skip, changing-small, changing-end, listed-effects, reduced-listed}
 use borrow.Author.Needs.{needs}
 use Rattle.graph.proofs.changed.Statement.{statement}

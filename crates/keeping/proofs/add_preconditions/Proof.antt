@@ -1,6 +1,6 @@
 use native.Mathlib.Omega.{arith}
 use borrow.Author.Needs.{needs}
-use Rattle.state.proofs.Listing.{loaded-listed}
+use Rattle.sets.proofs.Listing.{loaded-listed}
 use Rattle.keeping.proofs.Keeping.{joined-pre}
 use Rattle.keeping.proofs.add_preconditions.Statement.{statement}
 use Rattle.keeping.proofs.add_preconditions.Tie as tie

@@ -1,5 +1,5 @@
 use mathlib.Core.Path.{sym, _∙_}
-use Rattle.state.specs.Sets.{setsOf}
+use Rattle.sets.specs.Sets.{setsOf}
 use Rattle.keeping.proofs.Keeping.{needed-not, needed-is}
 use borrow.Author.Needs.{needs}
 use Rattle.keeping.proofs.first_needed.Statement.{statement}

@@ -7,7 +7,7 @@ use lib.ListN.{getD}
 use Rattle.planning.specs.Runs.{act}
 use Rattle.planning.specs.Relaxed.{reachedNeeded}
 use Rattle.task.specs.Task.{taskIn}
-use Rattle.state.specs.Sets.{setsOf}
+use Rattle.sets.specs.Sets.{setsOf}
 use borrow.Author.Needs.{needs}
 use Rattle.keeping.specs.Keeping.{byOf, Keeping}
 use Rattle.achievers.proofs.Achievers.{entry-below}

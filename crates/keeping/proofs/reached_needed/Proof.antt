@@ -7,9 +7,9 @@ use Rattle.planning.specs.Record.{Action}
 use Rattle.planning.specs.Runs.{act}
 use Rattle.planning.specs.Relaxed.{reachedNeeded}
 use Rattle.task.specs.Task.{factsIn, effAt, endAt, actionIn, taskIn}
-use Rattle.state.specs.Sets.{setsOf}
-use Rattle.state.proofs.Listed.{Listed}
-use Rattle.state.proofs.Listing.{loaded-listed}
+use Rattle.sets.specs.Sets.{setsOf}
+use Rattle.sets.proofs.Listed.{Listed}
+use Rattle.sets.proofs.Listing.{loaded-listed}
 use Rattle.keeping.specs.Keeping.{byOf}
 use Rattle.keeping.proofs.Keeping.{reachedNeeded-hit, reachedNeeded-miss, reachedNeeded-end}
 use Rattle.keeping.proofs.reached_needed.Statement.{statement}

@@ -6,7 +6,7 @@ use borrow.Author.Tests.{not-true, not-false}
 use Rattle.planning.specs.Record.{Fact}
 use Rattle.laws.proofs.Painting.{black-inside}
 use Rattle.task.specs.Task.{factsIn, taskIn}
-use Rattle.state.proofs.Listing.{loaded-listed}
+use Rattle.sets.proofs.Listing.{loaded-listed}
 use Rattle.graph.proofs.Rows.{listed-preconditions}
 use Rattle.returns.specs.Returns.{markAll}
 use Rattle.lacking.specs.Lacking.{Unmarked}

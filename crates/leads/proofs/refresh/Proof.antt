@@ -2,7 +2,7 @@ use borrow.Author.Needs.{needs}
 use mathlib.Core.Path.{sym, _∙_}
 use native.Mathlib.Omega.{arith}
 use Rattle.task.specs.Task.{taskIn}
-use Rattle.state.specs.Sets.{setsOf}
+use Rattle.sets.specs.Sets.{setsOf}
 use Rattle.paths.proofs.Memos.{memo-marks}
 use Rattle.leads.proofs.Forgetting.{blank-memo}
 use Rattle.leads.proofs.Holding.{refresh-kept}

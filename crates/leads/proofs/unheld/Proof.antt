@@ -1,7 +1,7 @@
 use borrow.Author.Needs.{needs}
 use mathlib.Core.Path.{_≡_, sym, _∙_}
 use Prim.Native.Nat.{_/_, _%_}
-use Rattle.state.specs.Sets.{setsOf, modeOf}
+use Rattle.sets.specs.Sets.{setsOf, modeOf}
 use Rattle.leads.proofs.Holding.{unmet-black, unmet-red}
 use Rattle.leads.proofs.unheld.Statement.{statement}
 use Rattle.leads.proofs.unheld.Tie as tie

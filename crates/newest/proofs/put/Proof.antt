@@ -2,7 +2,7 @@
 use borrow.Author.Needs.{needs}
 use mathlib.Core.List.{_++_}
 use Rattle.planning.specs.Newest.{tabulate}
-use Rattle.state.specs.Sets.{valuesOf}
+use Rattle.sets.specs.Sets.{valuesOf}
 use Rattle.newest.proofs.Boards.{value-at, put-start, put-turn, put-end}
 use mathlib.Core.Path.{_≡_, refl, _∙_}
 use Prim.Native.Nat.{_-_, _≤_}

@@ -1,7 +1,7 @@
 -- No variable below v is ready.
 use mathlib.Core.Bool.{_&&_, not}
 use Rattle.planning.specs.Basics.{someBelow}
-use Rattle.state.specs.Sets.{inSet, setsOf}
+use Rattle.sets.specs.Sets.{inSet, setsOf}
 use Rattle.graph.proofs.Searches.{Searched, searched-start, searched-turn, searched-hit, searched-end}
 use borrow.Author.Needs.{needs}
 use mathlib.Core.Path.{sym, _∙_}

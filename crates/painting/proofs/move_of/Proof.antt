@@ -5,7 +5,7 @@ use native.Mathlib.Omega.{arith}
 use Rattle.planning.specs.Runs.{act}
 use Rattle.planning.specs.Painting.{reducedEffects}
 use Rattle.task.specs.Task.{taskIn}
-use Rattle.state.proofs.Listing.{loaded-listed}
+use Rattle.sets.proofs.Listing.{loaded-listed}
 use Rattle.graph.proofs.Rows.{listed-effects}
 use Rattle.returns.proofs.Walks.{eff-facts, Walking, walking-start, walking-turn, walking-hit, walking-end, walking-small}
 use Rattle.painting.proofs.Moves.{moveWithout, move-hit, move-skip, move-none}

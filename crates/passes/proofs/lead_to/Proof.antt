@@ -1,6 +1,6 @@
 use borrow.Author.Needs.{needs}
 use Rattle.task.specs.Task.{taskIn}
-use Rattle.state.specs.Sets.{setsOf}
+use Rattle.sets.specs.Sets.{setsOf}
 use Rattle.paths.specs.Paths.{pathsOf}
 use Rattle.asking.proofs.Putting.{lead-there, not-there, lead-some}
 use Rattle.passes.proofs.lead_to.Statement.{statement}

@@ -14,7 +14,7 @@ use Rattle.planning.specs.Repair.{passSearches}
 use Rattle.laws.proofs.Fill.{askedFor-one}
 use Rattle.laws.proofs.Formed.{Formed}
 use Rattle.task.specs.Task.{taskIn}
-use Rattle.state.specs.Sets.{setsOf}
+use Rattle.sets.specs.Sets.{setsOf}
 use Rattle.asking.specs.Asking.{askedBy}
 use Rattle.passes.specs.Passes.{served, factsOf}
 use Rattle.asking.proofs.Putting.{asked-as, asked-fits, pre-fitting, inserted-put, inserted-counts}

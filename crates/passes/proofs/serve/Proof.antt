@@ -9,7 +9,7 @@ use lib.ListN.{take}
 use Rattle.planning.specs.Runs.{act}
 use Rattle.planning.specs.Repair.{toward, askedFor, passSearches}
 use Rattle.task.specs.Task.{taskIn}
-use Rattle.state.specs.Sets.{setsOf}
+use Rattle.sets.specs.Sets.{setsOf}
 use Rattle.paths.specs.Paths.{pathsOf, Put}
 use Rattle.paths.specs.declared.Written.{Written}
 use Rattle.paths.specs.declared.Written.the-variants.{Upto}

@@ -11,7 +11,7 @@ use Rattle.planning.specs.Runs.{count}
 use Rattle.laws.proofs.Formed.{Formed}
 use Rattle.laws.proofs.Painting.{black-inside}
 use Rattle.task.specs.Task.{taskIn}
-use Rattle.state.specs.Sets.{setsOf}
+use Rattle.sets.specs.Sets.{setsOf}
 use Rattle.paths.specs.Paths.{pathsOf, unknown, Leads, leadIn}
 use Rattle.paths.proofs.Memos.{memo-lead, slot-below, leading-leads}
 use Rattle.paths.proofs.Walking.{Walking, Move, walking-start, walking-move, walking-long, walking-less, walking-turn, walking-end}

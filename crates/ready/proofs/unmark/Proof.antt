@@ -2,7 +2,7 @@ use borrow.Author.Needs.{needs}
 use mathlib.Core.Path.{_≡_, ap, _∙_}
 use Prim.Native.Nat.{_+_, _-_, _/_, _%_, _^_}
 use lib.ListN.{getD}
-use Rattle.state.specs.Sets.{setsOf}
+use Rattle.sets.specs.Sets.{setsOf}
 use Rattle.ready.specs.Ready.{member}
 use Rattle.ready.proofs.Bits.{inSet-le, front-kept, front-member, unmarked-last, unmarked-not-last}
 use Rattle.ready.proofs.unmark.Statement.{statement}

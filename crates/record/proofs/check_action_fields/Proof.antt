@@ -1,11 +1,11 @@
 use Prim.Native.Nat.{_+_}
-use Rattle.bits.proofs.Window.{bitsAt-lt}
 use Rattle.answers.proofs.Stages.{passed, skip, stops}
 use Rattle.record.specs.Stages.{actionFactsChecks}
 use Rattle.planning.specs.Record.{actionChecks, preconditionsIn, effectsIn}
 use native.Mathlib.Omega.{arith}
 use mathlib.Core.Path.{sym}
 use borrow.Author.Needs.{needs}
+use Rattle.laws.proofs.Fields.{bitsAt-below}
 use Rattle.record.proofs.check_action_fields.Statement.{statement}
 use Rattle.record.proofs.check_action_fields.Tie as tie
 
@@ -73,8 +73,8 @@ check-action-facts-requires c κs =
       search needs,
       sym ((passed _ _ _ _ (at-take3 .before .before .p .given .1) (at-take2 .take2 .ensures)) .1),
       sym ((passed _ _ _ _ (c .before .e .given .1) (at-take3 .take3 .ensures)) .1),
-      omega (arith, (passed _ _ _ _ (at-take3 .before .before .p .given .1) (at-take2 .take2 .ensures)) .1, bitsAt-lt (at-start .args .bytes .now) (at-start .args .at + 16) 4),
-      omega (arith, (passed _ _ _ _ (c .before .e .given .1) (at-take3 .take3 .ensures)) .1, bitsAt-lt (at-start .args .bytes .now) (at-start .args .at + 20) 4),
+      omega (arith, (passed _ _ _ _ (at-take3 .before .before .p .given .1) (at-take2 .take2 .ensures)) .1, bitsAt-below (at-start .args .bytes .now) (at-start .args .at + 16) 4),
+      omega (arith, (passed _ _ _ _ (c .before .e .given .1) (at-take3 .take3 .ensures)) .1, bitsAt-below (at-start .args .bytes .now) (at-start .args .at + 20) 4),
       (
         search needs,
         search needs,

@@ -1,6 +1,5 @@
 -- The first i facts passed, so that the checks of all are those of the rest, from the least variable that may still come.
 use Rattle.record.proofs.Laws.{facts-start, facts-step, facts-turn, facts-none}
-use Rattle.bits.proofs.Window.{bitsAt-lt}
 use Rattle.answers.proofs.Stages.{passed, stops-stage}
 use Rattle.planning.specs.Record.{factsChecks}
 use Rattle.planning.specs.Basics.{inOrder, answer}
@@ -8,6 +7,7 @@ use borrow.Author.Needs.{needs}
 use mathlib.Core.Path.{_≡_, refl, _∙_}
 use Prim.Native.Nat.{_+_, _*_, _-_, _≤_}
 use native.Mathlib.Omega.{arith}
+use Rattle.laws.proofs.Fields.{bitsAt-below}
 use Rattle.record.proofs.check_facts.Statement.{statement}
 use Rattle.record.proofs.check_facts.Tie as tie
 
@@ -48,7 +48,7 @@ add-low c =
       fits = omega (
         arith,
         (passed _ _ _ _ (c .before .f .given .1) (at-check-fact .check-fact .ensures)) .1,
-        bitsAt-lt (at-start .args .bytes .now)
+        bitsAt-below (at-start .args .bytes .now)
             (at-start .args .from + 12 * at-check-fact .before .before .loop .i) 6,
       );
     }

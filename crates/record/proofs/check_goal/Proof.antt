@@ -1,10 +1,10 @@
 use Rattle.answers.proofs.Stages.{pass-end}
 use Prim.Native.Nat.{_+_}
 use Rattle.record.proofs.Laws.{bit-times, goal-above, goal-right}
-use Rattle.bits.proofs.Window.{bitsAt-lt}
 use Rattle.answers.proofs.Stages.{passed, skip, hit, stops}
 use Rattle.record.specs.Stages.{goalChecks}
 use native.Mathlib.Omega.{arith}
+use Rattle.laws.proofs.Fields.{bitsAt-below}
 use Rattle.record.proofs.check_goal.Statement.{statement}
 use Rattle.record.proofs.check_goal.Tie as tie
 
@@ -53,7 +53,7 @@ mul-if1 c =
       fits = omega (
         arith,
         bit-times (at-start .args .last) (at-p .p .given .0 .0)
-            (omega (arith, (passed _ _ _ _ (at-p .p .given .1) (at-p .before .before .take .ensures)) .1, bitsAt-lt (at-start .args .bytes .now) (at-start .args .at + 13) 1)),
+            (omega (arith, (passed _ _ _ _ (at-p .p .given .1) (at-p .before .before .take .ensures)) .1, bitsAt-below (at-start .args .bytes .now) (at-start .args .at + 13) 1)),
       );
     }
 

@@ -1,9 +1,9 @@
 use Rattle.record.proofs.Laws.{variable-rest}
-use Rattle.bits.proofs.Window.{bitsAt-lt}
 use Rattle.answers.proofs.Stages.{passed, skip, stops}
 use Rattle.planning.specs.Record.{variableChecks}
 use native.Mathlib.Omega.{arith}
 use borrow.Author.Needs.{needs}
+use Rattle.laws.proofs.Fields.{bitsAt-below}
 use Rattle.record.proofs.check_variable_fields.Statement.{statement}
 use Rattle.record.proofs.check_variable_fields.Tie as tie
 
@@ -42,7 +42,7 @@ check-initial-requires : tie.Need-check-initial-requires
 check-initial-requires c κs =
     let at-l = c .before .before .before .before in
     let at-start = at-l .before .before .before .before in
-    (search needs, omega (arith, (passed _ _ _ _ (at-l .l .given .1) (at-l .before .before .take .ensures)) .1, bitsAt-lt (at-start .args .bytes .now) (at-start .args .at) 6))
+    (search needs, omega (arith, (passed _ _ _ _ (at-l .l .given .1) (at-l .before .before .take .ensures)) .1, bitsAt-below (at-start .args .bytes .now) (at-start .args .at) 6))
 
 returns-3 : tie.Need-returns-3
 returns-3 c =

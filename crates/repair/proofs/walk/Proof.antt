@@ -15,7 +15,7 @@ use Rattle.planning.specs.Repair.{repaired}
 use Rattle.laws.proofs.Plans.{isPlan-elim}
 use Rattle.laws.proofs.Painting.{repaired-is-plan}
 use Rattle.task.specs.Task.{taskIn}
-use Rattle.state.specs.Sets.{setsOf, valuesOf}
+use Rattle.sets.specs.Sets.{setsOf, valuesOf}
 use Rattle.repair.proofs.Repairing.{Repairing, repairing-start, repairing-within, repairing-few, repairing-searches, repairing-small, repairing-below, repairing-step}
 use Rattle.repair.proofs.Repairing.{Arranged, repairing-long, repairing-fits, repairing-modest, repairing-places, repairing-turn, stages-fewer, steps-fewer, rest-is, rest-entries}
 use Rattle.repair.proofs.Ending.{repairing-held, held-long}

@@ -4,8 +4,8 @@ use Prim.Native.Nat.{_+_, _<_}
 use native.Mathlib.Omega.{arith}
 use lib.ListN.{length}
 use Rattle.planning.specs.Runs.{holds}
-use Rattle.state.proofs.Listing.{loaded-listed}
-use Rattle.state.specs.Sets.{Facts}
+use Rattle.sets.proofs.Listing.{loaded-listed}
+use Rattle.sets.specs.Sets.{Facts}
 use Rattle.graph.proofs.Rows.{listed-preconditions}
 use Rattle.returns.specs.Returns.{marked}
 use Rattle.returns.proofs.Walks.{pre-facts, need-inside, unmarked-at}

@@ -6,7 +6,7 @@ use native.Mathlib.Omega.{arith}
 use lib.ListN.{length}
 use Rattle.planning.specs.Runs.{act, holds}
 use Rattle.task.specs.Task.{taskIn}
-use Rattle.state.proofs.Listing.{loaded-listed}
+use Rattle.sets.proofs.Listing.{loaded-listed}
 use Rattle.graph.proofs.Rows.{listed-preconditions}
 use Rattle.returns.specs.Returns.{marked}
 use Rattle.returns.proofs.Walks.{pre-facts, need-inside, Walking, walking-start, walking-turn, walking-hit, walking-end, marked-skip, marked-hit, marked-none, stops-before, stops-at}

@@ -10,7 +10,7 @@ use lib.ListN.{length}
 use borrow.Author.Tests.{not-true, not-false, eq-eqb, ne-eqb, leb-true, leb-false}
 use Rattle.planning.specs.Runs.{act, holds, actions}
 use Rattle.task.specs.Task.{taskIn, Loaded}
-use Rattle.state.specs.Sets.{setsOf}
+use Rattle.sets.specs.Sets.{setsOf}
 use Rattle.running.proofs.Looping.{Looping, left, looping-start, looping-goals, looping-solved, looping-none, chosen-below, looping-drop, drop-less, take-room, looping-take, take-less}
 use Rattle.running.proofs.run_ranked.Statement.{statement}
 use Rattle.running.proofs.run_ranked.Tie as tie

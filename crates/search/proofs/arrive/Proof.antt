@@ -4,7 +4,7 @@ use borrow.Author.Needs.{needs}
 use Prim.Native.Nat.{_-_}
 use native.Mathlib.Omega.{arith}
 use Rattle.task.specs.Task.{taskIn}
-use Rattle.state.specs.Sets.{setsOf}
+use Rattle.sets.specs.Sets.{setsOf}
 use Rattle.search.proofs.Arriving.{Arriving, Chain, chain-place, chain-inside, arriving-start, arriving-here, arriving-above, arriving-turn, arriving-end}
 use Rattle.search.proofs.arrive.Statement.{statement}
 use Rattle.search.proofs.arrive.Tie as tie

@@ -2,8 +2,8 @@ use mathlib.Core.Path.{_≡_, refl, sym, _∙_}
 use mathlib.Core.Bool.{true, false, and-true, and-false}
 use Rattle.planning.specs.Runs.{holds}
 use Rattle.task.specs.Task.{factsIn}
-use Rattle.state.specs.Sets.{inSet, setsOf}
-use Rattle.state.proofs.Members.{inSet-empty}
+use Rattle.sets.specs.Sets.{inSet, setsOf}
+use Rattle.sets.proofs.Members.{inSet-empty}
 use Rattle.search.proofs.if_held.Statement.{statement}
 use Rattle.search.proofs.if_held.Tie as tie
 

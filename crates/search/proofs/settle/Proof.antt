@@ -6,7 +6,7 @@ use Rattle.planning.specs.Basics.{tally}
 use Rattle.laws.proofs.Formed.{Formed}
 use Rattle.laws.proofs.Painting.{black-inside}
 use Rattle.task.specs.Task.{taskIn}
-use Rattle.state.specs.Sets.{inSet, setsOf}
+use Rattle.sets.specs.Sets.{inSet, setsOf}
 use Rattle.labels.specs.Labels.{Nearest}
 use Rattle.search.proofs.Settling.{Settling, started, near-in, near-key, none-in, taken-out, taken-fewer, settling-turn, settling-stop, settling-end}
 use Rattle.search.proofs.settle.Statement.{statement}

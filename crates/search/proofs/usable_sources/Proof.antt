@@ -8,10 +8,10 @@ use lib.ListN.{length}
 use Rattle.planning.specs.Record.{Fact, Action}
 use Rattle.planning.specs.Runs.{look, holds, act}
 use Rattle.task.specs.Task.{factsIn, preAt, effAt, actionIn, taskIn}
-use Rattle.state.specs.Sets.{setsOf}
-use Rattle.state.proofs.Listed.{Listed}
-use Rattle.state.proofs.Listing.{loaded-listed}
-use Rattle.state.proofs.Effects.{holds-fails, holds-passes, holds-end, look-here, look-later, look-end}
+use Rattle.sets.specs.Sets.{setsOf}
+use Rattle.sets.proofs.Listed.{Listed}
+use Rattle.sets.proofs.Listing.{loaded-listed}
+use Rattle.sets.proofs.Effects.{holds-fails, holds-passes, holds-end, look-here, look-later, look-end}
 use Rattle.search.proofs.Sources.{usable-one, usable-any, usable-no}
 use Rattle.search.proofs.usable_sources.Statement.{statement}
 use Rattle.search.proofs.usable_sources.Tie as tie

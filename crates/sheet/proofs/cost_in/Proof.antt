@@ -2,7 +2,8 @@
 use mathlib.Core.Path.{sym}
 use Prim.Native.Nat.{_^_, _<_}
 use native.Mathlib.Omega.{arith}
-use Rattle.bits.proofs.Window.{bitsAt-lt, bitsAt-add}
+use Rattle.laws.proofs.Fields.{bitsAt-below}
+use Rattle.bits.proofs.Window.{bitsAt-add}
 use Rattle.sheet.proofs.cost_in.Statement.{statement}
 use Rattle.sheet.proofs.cost_in.Tie as tie
 
@@ -10,10 +11,10 @@ read-bits-requires : tie.Need-read-bits-requires
 read-bits-requires c κs = omega arith
 
 first : (c : tie.After-read-bits) → c .read-bits .result < 2 ^ 16
-first c = rw (c .read-bits .ensures) (bitsAt-lt _ _ 16)
+first c = rw (c .read-bits .ensures) (bitsAt-below _ _ 16)
 
 second : (c : tie.After-read-bits2) → c .read-bits2 .result < 2 ^ 16
-second c = rw (c .read-bits2 .ensures) (bitsAt-lt _ _ 16)
+second c = rw (c .read-bits2 .ensures) (bitsAt-below _ _ 16)
 
 mul-result : tie.Need-mul-result
 mul-result c = omega (arith, first c)

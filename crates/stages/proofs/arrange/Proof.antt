@@ -4,7 +4,7 @@ use native.Mathlib.Omega.{arith}
 use lib.ListN.{length}
 use Rattle.planning.specs.Runs.{act}
 use Rattle.task.specs.Task.{taskIn}
-use Rattle.state.specs.Sets.{setsOf}
+use Rattle.sets.specs.Sets.{setsOf}
 use Rattle.asking.specs.Asking.{writtenIn}
 use Rattle.stages.specs.Stages.{moved, shownBy}
 use Rattle.stages.proofs.Arranging.{pre-bounds, part-wanted, moves-pre, searches-pre}

@@ -8,7 +8,7 @@ use Rattle.planning.specs.Runs.{black}
 use Rattle.planning.specs.Newest.{alone}
 use Rattle.planning.specs.Repair.{blackMet}
 use Rattle.task.specs.Task.{factsIn, taskIn}
-use Rattle.state.specs.Sets.{valuesOf}
+use Rattle.sets.specs.Sets.{valuesOf}
 use Rattle.leads.proofs.Holding.{met-fails, met-passes, met-end}
 use Rattle.stages.proofs.black_met.Statement.{statement}
 use Rattle.stages.proofs.black_met.Tie as tie

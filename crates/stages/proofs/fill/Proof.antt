@@ -11,7 +11,7 @@ use Rattle.planning.specs.Runs.{variables, black}
 use Rattle.task.specs.Task.{taskIn}
 use Rattle.task.specs.Links.{orderIn}
 use Rattle.task.proofs.Reading.{order-length}
-use Rattle.state.specs.Sets.{setsOf}
+use Rattle.sets.specs.Sets.{setsOf}
 use Rattle.passes.specs.Passes.{factsOf}
 use Rattle.stages.specs.Stages.{Present, shownBy}
 use Rattle.stages.proofs.Values.{present-shown}

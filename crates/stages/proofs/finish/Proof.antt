@@ -5,7 +5,7 @@ use native.Mathlib.Omega.{arith}
 use lib.ListN.{length}
 use lib.Seq.{length-take-le}
 use Rattle.task.specs.Task.{taskIn}
-use Rattle.state.specs.Sets.{setsOf}
+use Rattle.sets.specs.Sets.{setsOf}
 use Rattle.asking.specs.Asking.{writtenIn}
 use Rattle.stages.specs.Stages.{shownBy}
 use Rattle.stages.proofs.Finishing.{goals-wanted, goals-moves, goals-searches}

@@ -6,7 +6,7 @@ use native.Mathlib.Omega.{arith}
 use lib.Dec.{eqb}
 use lib.ListN.{getD}
 use Rattle.planning.specs.Newest.{alone}
-use Rattle.state.specs.Sets.{valuesOf}
+use Rattle.sets.specs.Sets.{valuesOf}
 use Rattle.leads.proofs.Holding.{unmet-black, unmet-red}
 use Rattle.stages.proofs.unmet.Statement.{statement}
 use Rattle.stages.proofs.unmet.Tie as tie

@@ -3,9 +3,9 @@ use borrow.Author.Needs.{needs}
 use mathlib.Core.Path.{refl}
 use Prim.Native.Nat.{_-_, _<_}
 use native.Mathlib.Omega.{arith}
-use Rattle.state.proofs.Listed.{Listed}
-use Rattle.state.proofs.Listing.{loaded-listed}
-use Rattle.state.proofs.Effects.{Walking, walking-start, walking-inside, walking-small, walking-turn, Putting, putting-start, putting-turn, putting-end}
+use Rattle.sets.proofs.Listed.{Listed}
+use Rattle.sets.proofs.Listing.{loaded-listed}
+use Rattle.sets.proofs.Effects.{Walking, walking-start, walking-inside, walking-small, walking-turn, Putting, putting-start, putting-turn, putting-end}
 use Rattle.state.proofs.add_effects.Statement.{statement}
 use Rattle.state.proofs.add_effects.Tie as tie
 

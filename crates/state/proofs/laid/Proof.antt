@@ -3,7 +3,7 @@ use borrow.Author.Needs.{needs}
 use mathlib.Core.Path.{_∙_}
 use Prim.Native.Nat.{_-_}
 use native.Mathlib.Omega.{arith}
-use Rattle.state.specs.Sets.{valuesOf, over}
+use Rattle.sets.specs.Sets.{valuesOf, over}
 use Rattle.state.proofs.Choosing.{Filled, filled-start, filled-turn, over-at, over-end}
 use Rattle.state.proofs.laid.Statement.{statement}
 use Rattle.state.proofs.laid.Tie as tie

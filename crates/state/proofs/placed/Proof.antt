@@ -4,7 +4,7 @@ use mathlib.Core.Path.{_≡_, _∙_}
 use Prim.Native.Nat.{_+_, _-_, _/_, _%_}
 use native.Mathlib.Omega.{arith}
 use lib.ListN.{set}
-use Rattle.state.specs.Sets.{valuesOf}
+use Rattle.sets.specs.Sets.{valuesOf}
 use Rattle.state.proofs.Choosing.{Filled, filled-start, filled-turn, placed-at, placed-end}
 use Rattle.state.proofs.placed.Statement.{statement}
 use Rattle.state.proofs.placed.Tie as tie

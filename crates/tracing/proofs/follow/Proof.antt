@@ -10,8 +10,8 @@ use borrow.Author.Tests.{not-true, not-false}
 use lib.ListN.{length, getD}
 use Rattle.planning.specs.Runs.{Mode, holds, actions, act, black}
 use Rattle.task.specs.Task.{taskIn}
-use Rattle.state.specs.Sets.{setsOf, valuesOf, modeOf, redBlackOf, Known}
-use Rattle.state.proofs.Knowing.{known-none, known-held}
+use Rattle.sets.specs.Sets.{setsOf, valuesOf, modeOf, redBlackOf, Known}
+use Rattle.applying.proofs.Knowing.{known-none, known-held}
 use Rattle.tracing.proofs.Tracing.{tracing-few, tracing-stop, tracing-end, applied, Following, following-start, following-turn, following-held, follows-painted, follows-real, follows-relaxed}
 use Rattle.tracing.proofs.follow.Statement.{statement}
 use Rattle.tracing.proofs.follow.Tie as tie

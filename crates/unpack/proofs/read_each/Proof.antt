@@ -4,11 +4,11 @@ use Prim.Native.Nat.{_+_, _*_, _^_, _-_, _<_, _≤_}
 use native.Mathlib.Nat.{mul-le-mul-left}
 use native.Mathlib.Omega.{arith}
 use lib.ListN.{take}
-use Rattle.bits.proofs.Window.{bitsAt-lt}
 use Rattle.unpack.proofs.Copying.{Copying, copying-start, copying-one, copying-end}
 use Rattle.sheet.proofs.Widths.{marks-few}
 use Rattle.sheet.proofs.Rows.{row, stepAt, stepsAt-row}
 use borrow.Author.Needs.{needs}
+use Rattle.laws.proofs.Fields.{bitsAt-below}
 use Rattle.unpack.proofs.read_each.Statement.{statement}
 use Rattle.unpack.proofs.read_each.Tie as tie
 
@@ -45,7 +45,7 @@ read-bits-requires c κs =
     (omega (arith, m), omega arith, omega (arith, few c))
 
 ten : (c : tie.After-read-bits Inv-loop μ-loop) → c .read-bits .result < 2 ^ 10
-ten c = rw (c .read-bits .ensures) (bitsAt-lt _ _ 10)
+ten c = rw (c .read-bits .ensures) (bitsAt-below _ _ 10)
 
 cast-list : tie.Need-cast-list Inv-loop μ-loop
 cast-list c = omega (arith, ten c)

@@ -3,10 +3,10 @@ use mathlib.Core.List.{_++_}
 use Prim.Native.Nat.{_+_, _*_, _^_, _-_, _<_}
 use native.Mathlib.Omega.{arith}
 use lib.ListN.{take}
-use Rattle.bits.proofs.Window.{bitsAt-lt}
 use Rattle.unpack.proofs.Copying.{Copying, copying-start, copying-one, copying-end}
 use Rattle.sheet.proofs.Rows.{row, markAt, marksAt-row}
 use borrow.Author.Needs.{needs}
+use Rattle.laws.proofs.Fields.{bitsAt-below}
 use Rattle.unpack.proofs.read_each_mark.Statement.{statement}
 use Rattle.unpack.proofs.read_each_mark.Tie as tie
 
@@ -30,7 +30,7 @@ read-bits-requires : tie.Need-read-bits-requires Inv-loop μ-loop
 read-bits-requires c κs = search needs
 
 one : (c : tie.After-read-bits Inv-loop μ-loop) → c .read-bits .result < 2 ^ 1
-one c = rw (c .read-bits .ensures) (bitsAt-lt _ _ 1)
+one c = rw (c .read-bits .ensures) (bitsAt-below _ _ 1)
 
 cast-marks : tie.Need-cast-marks Inv-loop μ-loop
 cast-marks c = omega (arith, one c)

@@ -4,9 +4,9 @@ use Prim.Native.Nat.{_+_, _*_}
 use native.Mathlib.Omega.{arith}
 use lib.ListN.{getD, length-set}
 use Rattle.task.specs.Task.{effAt}
-use Rattle.state.specs.Sets.{setsOf}
-use Rattle.state.proofs.Listed.{Listed}
-use Rattle.state.proofs.Listing.{loaded-listed}
+use Rattle.sets.specs.Sets.{setsOf}
+use Rattle.sets.proofs.Listed.{Listed}
+use Rattle.sets.proofs.Listing.{loaded-listed}
 use Rattle.waiting.specs.Waiting.{Unmet, placeAt, Looked, goes, waits}
 use Rattle.waiting.proofs.Places.{passing-more, Waits, unmet-waits, unmet-goes}
 use Rattle.waiting.proofs.settle.Statement.{statement}

@@ -5,7 +5,7 @@ use native.Mathlib.Omega.{arith}
 use lib.ListN.{length}
 use Rattle.planning.specs.Runs.{has, actions}
 use Rattle.task.specs.Task.{factsIn, taskIn}
-use Rattle.state.specs.Sets.{setsOf}
+use Rattle.sets.specs.Sets.{setsOf}
 use Rattle.waiting.specs.Waiting.{Sites}
 use Rattle.waiting.proofs.Chains.{sites-ended, sites-spent, front, sites-settled}
 use Rattle.waiting.proofs.settle_all.Statement.{statement}

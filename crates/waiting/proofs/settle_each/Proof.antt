@@ -7,9 +7,9 @@ use native.Mathlib.Omega.{arith}
 use lib.ListN.{length, getD, length-set}
 use Rattle.planning.specs.Runs.{has, actions}
 use Rattle.task.specs.Task.{preAt, taskIn}
-use Rattle.state.specs.Sets.{setsOf}
-use Rattle.state.proofs.Listed.{Listed}
-use Rattle.state.proofs.Listing.{loaded-listed}
+use Rattle.sets.specs.Sets.{setsOf}
+use Rattle.sets.proofs.Listed.{Listed}
+use Rattle.sets.proofs.Listing.{loaded-listed}
 use Rattle.waiting.proofs.Chains.{Entered, entered-start, entered-place, entered-turn}
 use Rattle.waiting.proofs.settle_each.Statement.{statement}
 use Rattle.waiting.proofs.settle_each.Tie as tie

@@ -1,6 +1,6 @@
 -- Each fact before place k is in the state.
 use borrow.Author.Tests.{not-true, not-false}
-use Rattle.state.specs.Sets.{setsOf}
+use Rattle.sets.specs.Sets.{setsOf}
 use Rattle.waiting.specs.Waiting.{Passing}
 use Rattle.waiting.proofs.Places.{passing-turn, open-at}
 use borrow.Author.Needs.{needs}

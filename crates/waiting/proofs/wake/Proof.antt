@@ -6,8 +6,8 @@ use native.Mathlib.Omega.{arith}
 use lib.ListN.{length, length-set}
 use Rattle.planning.specs.Runs.{has}
 use Rattle.task.specs.Task.{factsIn}
-use Rattle.state.specs.Sets.{setsOf}
-use Rattle.state.proofs.Effects.{factsIn-none}
+use Rattle.sets.specs.Sets.{setsOf}
+use Rattle.sets.proofs.Effects.{factsIn-none}
 use Rattle.waiting.specs.Waiting.{factsEnd, Headed, Settled}
 use Rattle.waiting.proofs.Places.{has-less}
 use Rattle.waiting.proofs.Chains.{sites-off}

@@ -2,9 +2,9 @@
 use borrow.Author.Needs.{needs}
 use Prim.Native.Nat.{_-_}
 use native.Mathlib.Omega.{arith}
-use Rattle.state.proofs.Listed.{Listed}
-use Rattle.state.proofs.Listing.{loaded-listed}
-use Rattle.state.proofs.Effects.{Walking, walking-start, walking-inside, walking-small, walking-turn}
+use Rattle.sets.proofs.Listed.{Listed}
+use Rattle.sets.proofs.Listing.{loaded-listed}
+use Rattle.sets.proofs.Effects.{Walking, walking-start, walking-inside, walking-small, walking-turn}
 use Rattle.state.proofs.Renewing.{Renewing, renewing-start, renewing-placed, renewing-end}
 use Rattle.state.proofs.Newest.chosen.Statement.{statement}
 use Rattle.state.proofs.Newest.chosen.Tie as tie

@@ -2,7 +2,7 @@
 use borrow.Author.Needs.{needs}
 use mathlib.Core.Path.{_∙_}
 use native.Mathlib.Omega.{arith}
-use Rattle.state.proofs.Listing.{loaded-listed}
+use Rattle.sets.proofs.Listing.{loaded-listed}
 use Rattle.state.proofs.Choosing.{over-newer}
 use Rattle.state.proofs.Newest.step.Statement.{statement}
 use Rattle.state.proofs.Newest.step.Tie as tie

@@ -3,7 +3,7 @@ use borrow.Author.Needs.{needs}
 use Prim.Native.Nat.{_-_}
 use native.Mathlib.Omega.{arith}
 use Rattle.task.specs.Task.{taskIn}
-use Rattle.state.proofs.Loading.{Starting, init-small, starting-start, starting-turn, starting-end}
+use Rattle.sets.proofs.Loading.{Starting, init-small, starting-start, starting-turn, starting-end}
 use Rattle.state.proofs.Renewing.{Placing, placing-start, placing-turn, placing-end}
 use Rattle.state.proofs.State.initial.Statement.{statement}
 use Rattle.state.proofs.State.initial.Tie as tie

@@ -1,0 +1,3 @@
+pub mod RedBlack
+pub mod Knowing
+pub mod Running

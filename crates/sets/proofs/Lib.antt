@@ -1,0 +1,7 @@
+pub mod Computed
+pub mod Members
+pub mod Effects
+pub mod Loading
+pub mod Listed
+pub mod Listing
+pub mod Asking
