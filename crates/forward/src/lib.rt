@@ -20,10 +20,10 @@ pub fn run_forward(task: &[u16], plan: &mut [u16; 1024]) -> Ran
     ranking::by_cost(task, &mut order);
     if task::variables(task) <= 16 {
         let mut work = [65535u16; waiting::FEW];
-        return running::run_ranked(task, &order, &mut work, plan);
+        return running::run_by(task, &order, &mut work, plan);
     }
     let mut work = [65535u16; waiting::ALL];
-    running::run_ranked(task, &order, &mut work, plan)
+    running::run_by(task, &order, &mut work, plan)
 }
 
 // What the forward run answers.

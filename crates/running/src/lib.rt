@@ -18,12 +18,7 @@ pub struct Ran {
 
 // The forward run by an order of the actions by cost: those that it takes in the front of `plan`. What waits for the effects of the action
 // taken last wakes in the turn after it: a step that ends a turn copies the state twice, any other three times.
-pub fn run_ranked(
-    task: &[u16],
-    order: &[u16; 1024],
-    work: &mut [u16],
-    plan: &mut [u16; 1024],
-) -> Ran
+pub fn run_by(task: &[u16], order: &[u16; 1024], work: &mut [u16], plan: &mut [u16; 1024]) -> Ran
     requires { ⌜ Loaded (now task) × ByCost (now task) (now order) × Free (now task) (now work) × (length (now plan) ≡ 1024) ⌝ }
     ensures { λ r. ⌜ RanOf (taskIn (now (task .entry))) (now (plan .exit)) r ⌝ }
 {

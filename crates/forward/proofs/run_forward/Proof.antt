@@ -14,11 +14,11 @@ by-cost-requires c κs = search needs
 variables-requires : tie.Need-variables-requires
 variables-requires c κs = search needs
 
-slice-aggregate-run-ranked : tie.Need-slice-aggregate-run-ranked
-slice-aggregate-run-ranked c = search needs
+slice-aggregate-run-by : tie.Need-slice-aggregate-run-by
+slice-aggregate-run-by c = search needs
 
-run-ranked-requires : tie.Need-run-ranked-requires
-run-ranked-requires c κs =
+run-by-requires : tie.Need-run-by-requires
+run-by-requires c κs =
     let at-then1 = c .before .before .before in
     let at-variables = at-then1 .before in
     let p = start at-variables .pre in
@@ -27,11 +27,11 @@ run-ranked-requires c κs =
 returns : tie.Need-returns
 returns c = search needs
 
-slice-aggregate-run-ranked-2 : tie.Need-slice-aggregate-run-ranked-2
-slice-aggregate-run-ranked-2 c = search needs
+slice-aggregate-run-by-2 : tie.Need-slice-aggregate-run-by-2
+slice-aggregate-run-by-2 c = search needs
 
-run-ranked-requires-2 : tie.Need-run-ranked-requires-2
-run-ranked-requires-2 c κs =
+run-by-requires-2 : tie.Need-run-by-requires-2
+run-by-requires-2 c κs =
     let at-variables = c .before .before .before .before in
     let p = start at-variables .pre in
     (p .0, at-variables .before .by-cost .ensures, free-new _ 6144 (omega (arith, p .0 .formed .variables-max)), p .1)
@@ -45,9 +45,9 @@ run-forward-spec =
     (tie.spec
     by-cost-requires
     variables-requires
-    slice-aggregate-run-ranked
-    run-ranked-requires
+    slice-aggregate-run-by
+    run-by-requires
     returns
-    slice-aggregate-run-ranked-2
-    run-ranked-requires-2
+    slice-aggregate-run-by-2
+    run-by-requires-2
     returns-2)

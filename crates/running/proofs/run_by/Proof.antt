@@ -12,8 +12,8 @@ use Rattle.planning.specs.Runs.{act, holds, actions}
 use Rattle.task.specs.Task.{taskIn, Loaded}
 use Rattle.sets.specs.Sets.{setsOf}
 use Rattle.running.proofs.Looping.{Looping, left, looping-start, looping-goals, looping-solved, looping-none, chosen-below, looping-drop, drop-less, take-room, looping-take, take-less}
-use Rattle.running.proofs.run_ranked.Statement.{statement}
-use Rattle.running.proofs.run_ranked.Tie as tie
+use Rattle.running.proofs.run_by.Statement.{statement}
+use Rattle.running.proofs.run_by.Tie as tie
 
 abbrev Inv-loop : tie.InvT-loop
 Inv-loop task order work₀ plan₀ goals count s₀ ready₀ steps₀ g₀ from₀ to₀ work plan s ready steps g from to =
@@ -241,8 +241,8 @@ loop-again-2 c =
       long at-unmet,
     )
 
-pub run-ranked-spec : {M : Type 1} → statement M
-run-ranked-spec =
+pub run-by-spec : {M : Type 1} → statement M
+run-by-spec =
     tie.close
     (tie.spec
     Inv-loop
