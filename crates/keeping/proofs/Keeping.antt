@@ -1,7 +1,8 @@
--- The loops of the way back: facts that join sets, the test whether an action is kept, and the run gone through.
-use mathlib.Core.Path.{_≡_, refl, sym, ap, _∙_, subst, fun-ext}
-use mathlib.Core.Logic.{_≢_}
-use mathlib.Core.Bool.{Bool, true, false, _&&_, _||_, or-comm}
+-- The loops of the way back: first achievers that join the set of wanted actions, and the run gone through. An action that first reached a
+-- fact has it among its effects, so the first achievers of needed facts are the actions that first reached a needed effect of their own.
+use mathlib.Core.Path.{_≡_, refl, sym, ap, _∙_, subst}
+use mathlib.Core.Logic.{_⊎_, inl, inr}
+use mathlib.Core.Bool.{Bool, true, false, not, _&&_, _||_, or-comm, or-false}
 use mathlib.Core.List.{List, [], _∷_}
 use mathlib.Core.Option.{Option, none, some}
 use Prim.Native.Nat.{ℕ, suc, _+_, _-_, _*_, _/_, _%_, _^_, _<_, _≤_}
@@ -9,98 +10,82 @@ use native.Mathlib.Omega.{arith}
 use native.Mathlib.Decide.{ℕ-discrete}
 use borrow.Author.Tests.{eq-eqb, ne-eqb}
 use lib.Bits.{bitOr}
-use lib.Dec.{T, eqb, eqb-refl}
-use lib.ListN.{length, getD, set, take, drop, length-set}
+use lib.Dec.{T, eqb, eqb→eq, eqb-refl}
+use lib.ListN.{length, getD, set, take, drop, replicate, length-set}
 use lib.Seq.{getD-set-same, getD-set-other, getD-take, drop-cons, drop-length, drop-set-lt, take-set-le, take-take}
 use Rattle.planning.specs.Record.{Fact, Action, Task}
-use Rattle.planning.specs.Runs.{State, has, act, variables, count, initial, goals}
+use Rattle.planning.specs.Runs.{State, has, act, step, relaxed, variables, count, initial, goals}
 use Rattle.planning.specs.Relaxed.{forwardRun, firstAchiever, is, reachedNeeded, keep, relaxedPlan}
-use Rattle.laws.proofs.Tests.{or-l, or-r, and-i}
-use Rattle.laws.proofs.Formed.{Formed, sorted-has}
+use Rattle.laws.proofs.Tests.{bool-same, or-l, or-r, or-cases, and-i, and-l, and-r}
+use Rattle.laws.proofs.Facts.{has-nil, has-cases}
+use Rattle.laws.proofs.Lists.{getD-zeros}
+use Rattle.laws.proofs.Formed.{Formed, Sorted, sorted-has, goals-sorted}
 use Rattle.task.specs.Task.{factOf, factsIn, preAt, effAt, actionIn, taskIn}
-use Rattle.sets.specs.Sets.{inSet, setsOf}
-use Rattle.sets.proofs.Members.{inSet-or, inSet-single}
+use Rattle.sets.specs.Sets.{inSet, listed}
+use Rattle.sets.proofs.Members.{inSet-empty, inSet-added}
 use Rattle.sets.proofs.Listed.{Listed}
 use Rattle.sets.proofs.Effects.{factsIn-cons, factsIn-none}
 use Rattle.achievers.specs.Achievers.{achiever, AchievedFrom, Achieved, Replay}
 use Rattle.achievers.proofs.Achievers.{run-long, entry-below, from-k}
-use Rattle.keeping.specs.Keeping.{Joined, byOf, Keeping}
+use Rattle.keeping.specs.Keeping.{wants, byOf, Joined, Keeping}
 
--- one fact joins the sets
-module _ (ms : List ℕ) (f w : ℕ) (n : length ms ≡ 64) (b : f < 4096) (e : w ≡ bitOr (getD ms (f / 64) 0) (2 ^ (f % 64))) where
-  setsOf-add : (v d : ℕ) → setsOf (set ms (f / 64) w) v d ≡ ((eqb v (f / 64) && eqb d (f % 64)) || setsOf ms v d)
-  unfolding setsOf
-  setsOf-add v d = go (ℕ-discrete v (f / 64))
+-- one action joins the set, if it is one
+module _ (ms : List ℕ) (a : ℕ) (n : length ms ≡ 16) where
+  pub joined-one : (w : ℕ) → a < 1024 → w ≡ bitOr (getD ms (a / 64) 0) (2 ^ (a % 64)) → Joined (λ i. eqb i a) ms (set ms (a / 64) w)
+  unfolding listed
+  joined-one w b e = record { long = simp length-set n; are = λ i _. go i (ℕ-discrete (i / 64) (a / 64)) }
     where
-      go : Dec (v ≡ f / 64) → inSet (getD (set ms (f / 64) w) v 0) d ≡ ((eqb v (f / 64) && eqb d (f % 64)) || inSet (getD ms v 0) d)
-      go (yes q) =
-          let old = getD ms (f / 64) 0 in
-          rw (q, getD-set-same ms (f / 64) w 0 (omega arith), e, eq-eqb (f / 64) (f / 64) refl, inSet-or old (2 ^ (f % 64)) d, inSet-single (f % 64) d)
-          (or-comm (inSet old d) (eqb d (f % 64)))
-      go (no q) = rw (getD-set-other ms (f / 64) v w 0 q, ne-eqb v (f / 64) q) refl
+      same : (i : ℕ) → i / 64 ≡ a / 64 → Dec (i ≡ a) → eqb (i % 64) (a % 64) ≡ eqb i a
+      same i q (yes p) = rw p (eq-eqb (a % 64) (a % 64) refl ∙ sym (eq-eqb a a refl))
+      same i q (no p) = ne-eqb (i % 64) (a % 64) (λ r. p (omega arith)) ∙ sym (ne-eqb i a p)
 
--- the facts from place k on are still to join the sets
-pub record Adding (facts : List ℕ) (a b : ℕ) (ms₀ ms : List ℕ) (k : ℕ) : Type 0 where
+      go : (i : ℕ) → Dec (i / 64 ≡ a / 64) → inSet (getD (set ms (a / 64) w) (i / 64) 0) (i % 64) ≡ (eqb i a || inSet (getD ms (i / 64) 0) (i % 64))
+      go i (yes q) =
+          let old = getD ms (a / 64) 0 in
+          rw (← same i q (ℕ-discrete i a), q, getD-set-same ms (a / 64) w 0 (omega arith), e, inSet-added old (a % 64) (i % 64)) (or-comm (inSet old (i % 64)) (eqb (i % 64) (a % 64)))
+      go i (no q) = rw (getD-set-other ms (a / 64) (i / 64) w 0 q, ne-eqb i a (λ p. q (ap (λ x. x / 64) p))) refl
+
+  pub joined-none : 1024 ≤ a → Joined (λ i. eqb i a) ms ms
+  joined-none b = record { long = n; are = λ i c. rw (ne-eqb i a (λ p. omega arith)) refl }
+
+-- the first achievers of the facts from place k on are still to join the set
+pub record Adding (fst facts : List ℕ) (a b : ℕ) (ms₀ ms : List ℕ) (k : ℕ) : Type 0 where
   pub from : a ≤ k
   pub to : k ≤ b
-  pub long : length ms ≡ 64
-  pub so-far : (v d : ℕ) → (has (factsIn facts a b) v d || setsOf ms₀ v d) ≡ (has (factsIn facts k b) v d || setsOf ms v d)
+  pub long : length ms ≡ 16
+  pub so-far : (i : ℕ) → i < 1024 → (wants (byOf fst) (factsIn facts a b) i || listed ms₀ i) ≡ (wants (byOf fst) (factsIn facts k b) i || listed ms i)
 
-module _ (facts : List ℕ) (a b : ℕ) (q : b ≤ length facts) (ms₀ : List ℕ) where
-  pub adding-turn : (ms : List ℕ) (k f w : ℕ) → Adding facts a b ms₀ ms k → k < b → f ≡ getD facts k 0 → f < 4096 → w ≡ bitOr (getD ms (f / 64) 0) (2 ^ (f % 64))
-      → Adding facts a b ms₀ (set ms (f / 64) w) (k + 1)
-  unfolding has factOf
-  adding-turn ms k f w A h e g ew = record {
+module _ (fst facts : List ℕ) (a b : ℕ) (q : b ≤ length facts) (ms₀ : List ℕ) where
+  pub adding-turn : (ms : List ℕ) (k x : ℕ) (ms′ : List ℕ) → Adding fst facts a b ms₀ ms k → k < b → x ≡ getD fst (getD facts k 0) 0 → Joined (λ i. eqb i x) ms ms′
+      → Adding fst facts a b ms₀ ms′ (k + 1)
+  unfolding wants reachedNeeded is byOf factOf
+  adding-turn ms k x ms′ A h e J = record {
     from = omega (arith, A .from);
     to = omega arith;
-    long = simp length-set (A .long);
-    so-far = λ v d. A .so-far v d ∙ rw (factsIn-cons facts k b h q, setsOf-add ms f w (A .long) g ew v d, e)
-        (turn (eqb v (getD facts k 0 / 64) && eqb d (getD facts k 0 % 64)) (has (factsIn facts (k + 1) b) v d) (setsOf ms v d));
+    long = J .long;
+    so-far = λ i c.
+        let f = getD facts k 0 in
+        let p : 64 * (f / 64) + f % 64 ≡ f = omega arith in
+        A .so-far i c ∙ rw (factsIn-cons facts k b h q, J .are i c, p, e) (turn (eqb i (getD fst f 0)) (wants (byOf fst) (factsIn facts (k + 1) b) i) (listed ms i));
   }
     where
-      turn : (x h s : Bool) → ((x || h) || s) ≡ (h || (x || s))
+      turn : (x h s : Bool) → (((x && true) || h) || s) ≡ (h || (x || s))
       turn true true s = refl
       turn true false s = refl
       turn false true s = refl
       turn false false s = refl
 
-  pub adding-end : (ms : List ℕ) (k : ℕ) → Adding facts a b ms₀ ms k → b ≤ k → Joined (has (factsIn facts a b)) ms₀ ms
-  unfolding has
-  adding-end ms k A h = record { long = A .long; are = λ v d. sym (A .so-far v d ∙ rw (factsIn-none facts k b (omega (arith, A .to))) refl) }
+  pub adding-end : (ms : List ℕ) (k : ℕ) → Adding fst facts a b ms₀ ms k → b ≤ k → Joined (wants (byOf fst) (factsIn facts a b)) ms₀ ms
+  unfolding wants reachedNeeded
+  adding-end ms k A h = record { long = A .long; are = λ i c. sym (A .so-far i c ∙ rw (factsIn-none facts k b (omega (arith, A .to))) refl) }
 
--- the preconditions of action i, by their places
-pub joined-pre : (task : List ℕ) (i a b : ℕ) (before after : List ℕ) → Listed task i → Joined (has (factsIn task a b)) before after → a ≡ preAt task i → b ≡ effAt task i
-    → Joined (has (act (taskIn task) i .pre)) before after
+-- those of the preconditions of action i, by their places
+pub joined-pre : (task fst : List ℕ) (i a b : ℕ) (before after : List ℕ) → Listed task i → Joined (wants (byOf fst) (factsIn task a b)) before after → a ≡ preAt task i → b ≡ effAt task i
+    → Joined (wants (byOf fst) (act (taskIn task) i .pre)) before after
 unfolding actionIn
-joined-pre task i a b before after L J ea eb = subst (λ (x : Action). Joined (has (x .pre)) before after) (L .states) (rw (ea, eb) at J)
+joined-pre task fst i a b before after L J ea eb = subst (λ (x : Action). Joined (wants (byOf fst) (x .pre)) before after) (L .states) (rw (ea, eb) at J)
 
--- the test of one effect, and of each
-module _ (fst : List ℕ) (N : State) (i f : ℕ) where
-  pub needed-not : i ≢ getD fst f 0 → false ≡ (is i (byOf fst (f / 64) (f % 64)) && N (f / 64) (f % 64))
-  unfolding is byOf
-  needed-not n = let e : 64 * (f / 64) + f % 64 ≡ f = omega arith in rw (e, ne-eqb i (getD fst f 0) n) refl
-
-  pub needed-is : i ≡ getD fst f 0 → N (f / 64) (f % 64) ≡ (is i (byOf fst (f / 64) (f % 64)) && N (f / 64) (f % 64))
-  unfolding is byOf
-  needed-is q = let e : 64 * (f / 64) + f % 64 ≡ f = omega arith in rw (e, eq-eqb i (getD fst f 0) q) refl
-
-module _ (by : ℕ → ℕ → Option ℕ) (N : State) (i : ℕ) (task : List ℕ) (k b : ℕ) (h : k < b) (o : b ≤ length task) (f : ℕ) (e : f ≡ getD task k 0) where
-  reachedNeeded-cons : reachedNeeded by N i (factsIn task k b) ≡ ((is i (by (f / 64) (f % 64)) && N (f / 64) (f % 64)) || reachedNeeded by N i (factsIn task (k + 1) b))
-  unfolding reachedNeeded factOf
-  reachedNeeded-cons = rw (factsIn-cons task k b h o, e) refl
-
-  module _ (r : Bool) (q : r ≡ (is i (by (f / 64) (f % 64)) && N (f / 64) (f % 64))) where
-    pub reachedNeeded-hit : r ≡ true → true ≡ reachedNeeded by N i (factsIn task k b)
-    reachedNeeded-hit t = sym (reachedNeeded-cons ∙ rw (← q, t) refl)
-
-    pub reachedNeeded-miss : r ≡ false → reachedNeeded by N i (factsIn task k b) ≡ reachedNeeded by N i (factsIn task (k + 1) b)
-    reachedNeeded-miss t = reachedNeeded-cons ∙ rw (← q, t) refl
-
-pub reachedNeeded-end : (by : ℕ → ℕ → Option ℕ) (N : State) (i : ℕ) (task : List ℕ) (k b : ℕ) → k ≡ b → false ≡ reachedNeeded by N i (factsIn task k b)
-unfolding reachedNeeded
-reachedNeeded-end by N i task k b e = rw (factsIn-none task k b e) refl
-
--- the test depends on the first achievers of the effects only
+-- the test depends on the first achievers of the facts only
 reachedNeeded-same : (by by′ : ℕ → ℕ → Option ℕ) (N : State) (i : ℕ) (fs : List Fact) → ((v d : ℕ) → T (has fs v d) → is i (by v d) ≡ is i (by′ v d))
     → reachedNeeded by N i fs ≡ reachedNeeded by′ N i fs
 unfolding reachedNeeded has
@@ -116,6 +101,83 @@ is-achiever : (i : ℕ) (o : Option ℕ) → i < 65535 → is i (some (achiever 
 unfolding is achiever
 is-achiever i none b = ne-eqb i 65535 (omega arith)
 is-achiever i (some j) b = refl
+
+module _ (by : ℕ → ℕ → Option ℕ) (i : ℕ) where
+  -- of facts needed for two reasons
+  reachedNeeded-or : (M N : State) (fs : List Fact) → reachedNeeded by (λ v d. M v d || N v d) i fs ≡ (reachedNeeded by M i fs || reachedNeeded by N i fs)
+  unfolding reachedNeeded
+  reachedNeeded-or M N [] = refl
+  reachedNeeded-or M N (f ∷ fs) =
+      rw (reachedNeeded-or M N fs) (split (is i (by (f .var) (f .val))) (M (f .var) (f .val)) (N (f .var) (f .val)) (reachedNeeded by M i fs) (reachedNeeded by N i fs))
+    where
+      split : (x m n p q : Bool) → ((x && (m || n)) || (p || q)) ≡ (((x && m) || p) || ((x && n) || q))
+      split false m n p q = refl
+      split true true n p q = refl
+      split true false n true q = or-comm n true
+      split true false n false q = refl
+
+  -- a needed fact that the action first reached
+  record Reached (N : State) (fs : List Fact) : Type 0 where
+    v : ℕ
+    d : ℕ
+    among : T (has fs v d)
+    needed′ : T (N v d)
+    named : T (is i (by v d))
+
+  reached-intro : (N : State) (fs : List Fact) → Reached N fs → T (reachedNeeded by N i fs)
+  unfolding reachedNeeded
+  reached-intro N [] R = absurd (has-nil (R .v) (R .d) (R .among))
+  reached-intro N (f ∷ fs) R = go (has-cases f fs (R .v) (R .d) (R .among))
+      (λ g. reached-intro N fs (record { v = R .v; d = R .d; among = g; needed′ = R .needed′; named = R .named }))
+    where
+      own : Bool
+      own = is i (by (f .var) (f .val)) && N (f .var) (f .val)
+
+      go : ((R .v ≡ f .var) × (R .d ≡ f .val)) ⊎ T (has fs (R .v) (R .d)) → (T (has fs (R .v) (R .d)) → T (reachedNeeded by N i fs)) → T (own || reachedNeeded by N i fs)
+      go (inl e) g = or-l own (reachedNeeded by N i fs) (and-i (is i (by (f .var) (f .val))) (N (f .var) (f .val)) (rw (e .0, e .1) at (R .named)) (rw (e .0, e .1) at (R .needed′)))
+      go (inr e) g = or-r own (reachedNeeded by N i fs) (g e)
+
+  reached-elim : (N : State) (fs : List Fact) → T (reachedNeeded by N i fs) → Reached N fs
+  unfolding reachedNeeded has
+  reached-elim N [] t = absurd t
+  reached-elim N (f ∷ fs) t = go (or-cases (name && N (f .var) (f .val)) (reachedNeeded by N i fs) t) (reached-elim N fs)
+    where
+      name : Bool
+      name = is i (by (f .var) (f .val))
+
+      go : T (name && N (f .var) (f .val)) ⊎ T (reachedNeeded by N i fs) → (T (reachedNeeded by N i fs) → Reached N fs) → Reached N (f ∷ fs)
+      go (inl x) g = record {
+        v = f .var;
+        d = f .val;
+        among = or-l (eqb (f .var) (f .var) && eqb (f .val) (f .val)) (has fs (f .var) (f .val)) (and-i (eqb (f .var) (f .var)) (eqb (f .val) (f .val)) (eqb-refl (f .var)) (eqb-refl (f .val)));
+        needed′ = and-r name (N (f .var) (f .val)) x;
+        named = and-l name (N (f .var) (f .val)) x;
+      }
+      go (inr x) g =
+          let R = g x in
+          record { v = R .v; d = R .d; among = or-r (eqb (R .v) (f .var) && eqb (R .d) (f .val)) (has fs (R .v) (R .d)) (R .among); needed′ = R .needed′; named = R .named }
+
+  -- where it has each fact that it first reached among its effects gs
+  reached-wants : (fs gs : List Fact) → ((v d : ℕ) → T (is i (by v d)) → T (has gs v d)) → reachedNeeded by (has fs) i gs ≡ wants by fs i
+  unfolding wants
+  reached-wants fs gs h =
+      bool-same (reachedNeeded by (has fs) i gs) (reachedNeeded by (λ v d. true) i fs)
+      (λ t. let R = reached-elim (has fs) gs t in reached-intro (λ v d. true) fs (record { v = R .v; d = R .d; among = R .needed′; needed′ = tt; named = R .named }))
+      (λ t. let R = reached-elim (λ v d. true) fs t in reached-intro (has fs) gs (record { v = R .v; d = R .d; among = h (R .v) (R .d) (R .named); needed′ = R .among; named = R .named }))
+
+-- a first achiever has the fact among its effects
+achiever-has : (act : ℕ → Action) (i : ℕ) (l : List ℕ) (s : State) (v d : ℕ) → T (is i (firstAchiever act l s v d)) → T (has (act i .eff) v d)
+unfolding firstAchiever is
+achiever-has act i [] s v d t = absurd t
+achiever-has act i (j ∷ l) s v d t = go (has (act j .eff) v d && not (s v d)) refl t (achiever-has act i l (step relaxed (act j) s) v d)
+  where
+    rest : Option ℕ
+    rest = firstAchiever act l (step relaxed (act j) s) v d
+
+    go : (b : Bool) → (has (act j .eff) v d && not (s v d)) ≡ b → T (is i (elim b as (λ _. Option ℕ) [ true ↦ some j | false ↦ rest ])) → (T (is i rest) → T (has (act i .eff) v d))
+        → T (has (act i .eff) v d)
+    go true e t k = rw (eqb→eq i j t) (and-l (has (act j .eff) v d) (not (s v d)) (rw e tt))
+    go false e t k = k t
 
 -- one step back over the run
 module _ (act : ℕ → Action) (by : ℕ → ℕ → Option ℕ) (goal : List Fact) (i : ℕ) (l : List ℕ) where
@@ -138,12 +200,39 @@ module _ {task run : List ℕ} {n : ℕ} (R : Replay task run n) where
   formed : Formed t
   formed = R .loaded .formed
 
-  pub keeping-start : (needed : List ℕ) → length needed ≡ 64 → setsOf needed ≡ has (goals t) → Keeping t run n needed run n 1024
-  unfolding keep
-  keeping-start needed p e =
-      let z : drop n (forwardRun t) ≡ [] = rw (← run-long R) (drop-length (forwardRun t)) in
-      let y : drop 1024 run ≡ [] = rw (← R .long) (drop-length run) in
-      record { within = omega arith; room = omega arith; end = omega arith; long = R .long; unread = refl; needed-long = p; kept-are = rw (z, y) refl; needed-are = rw z (sym e) }
+  module _ (fst : List ℕ) (S : Achieved t (forwardRun t) fst) where
+    -- the list of first achievers answers as the definition does
+    wants-are : (fs : List Fact) → Sorted (variables t) (count t) 0 fs → (j : ℕ) → j < 1024 → wants (byOf fst) fs j ≡ reachedNeeded by (has fs) j (act t j .eff)
+    unfolding byOf AchievedFrom wants
+    wants-are fs O j b = reachedNeeded-same (byOf fst) by (λ v d. true) j fs same ∙ sym (reached-wants by j fs (act t j .eff) (achiever-has (act t) j (forwardRun t) (initial t)))
+      where
+        same : (v d : ℕ) → T (has fs v d) → is j (byOf fst v d) ≡ is j (by v d)
+        same v d h =
+            let I = sorted-has (variables t) (count t) 0 fs O v d h in
+            let m = formed .count-max v in
+            let ev : (64 * v + d) / 64 ≡ v = omega (arith, I .val-below, m) in
+            let ed : (64 * v + d) % 64 ≡ d = omega (arith, I .val-below, m) in
+            let f : 64 * v + d < 4096 = omega (arith, I .var-below, I .val-below, formed .variables-max, m) in
+            let a : getD fst (64 * v + d) 0 ≡ achiever (by v d) = S (64 * v + d) f ∙ rw (ev, ed) refl in
+            ap (λ x. is j (some x)) a ∙ is-achiever j (by v d) (omega arith)
+
+    pub keeping-start : (fs : List Fact) → fs ≡ goals t → (before wanted : List ℕ) → Joined (wants (byOf fst) fs) before wanted → before ≡ replicate 16 0 → Keeping t run n wanted run n 1024
+    unfolding keep listed
+    keeping-start fs eg before wanted J e =
+        let z : drop n (forwardRun t) ≡ [] = rw (← run-long R) (drop-length (forwardRun t)) in
+        let y : drop 1024 run ≡ [] = rw (← R .long) (drop-length run) in
+        record {
+          within = omega arith;
+          room = omega arith;
+          end = omega arith;
+          long = R .long;
+          unread = refl;
+          kept-are = rw (z, y) refl;
+          wanted-are = rw z (record {
+            long = J .long;
+            are = λ j b. J .are j b ∙ rw (eg, e, getD-zeros 16 (j / 64), inSet-empty (j % 64)) (or-false (wants (byOf fst) (goals t) j) ∙ wants-are (goals t) (goals-sorted t formed) j b);
+          });
+        }
 
   module _ (k : ℕ) (b : k < n) where
     abbrev i : ℕ
@@ -152,7 +241,10 @@ module _ {task run : List ℕ} {n : ℕ} (R : Replay task run n) where
     abbrev later : List ℕ
     later = drop (k + 1) (forwardRun t)
 
-    module _ {needed kept : List ℕ} {m : ℕ} (K : Keeping t run n needed kept (k + 1) m) where
+    pub entry-near : i < 1024
+    entry-near = omega (arith, entry-below R k b, formed .actions-max)
+
+    module _ {wanted kept : List ℕ} {m : ℕ} (K : Keeping t run n wanted kept (k + 1) m) where
       pub keeping-room : 0 < m
       keeping-room = omega (arith, K .room, R .few)
 
@@ -163,60 +255,50 @@ module _ {task run : List ℕ} {n : ℕ} (R : Replay task run n) where
       unread-less : take k kept ≡ take k run
       unread-less = sym (take-take k (k + 1) kept (omega arith)) ∙ ap (take k) (K .unread) ∙ take-take k (k + 1) run (omega arith)
 
-      module _ (fst : List ℕ) (S : Achieved t (forwardRun t) fst) where
-        -- the list of first achievers answers as the definition does
-        same-by : (v d : ℕ) → T (has (act t i .eff) v d) → is i (byOf fst v d) ≡ is i (by v d)
-        unfolding byOf AchievedFrom
-        same-by v d h =
-            let I = sorted-has (variables t) (count t) 0 (act t i .eff) (formed .eff-sorted i) v d h in
-            let m = formed .count-max v in
-            let ev : (64 * v + d) / 64 ≡ v = omega (arith, I .val-below, m) in
-            let ed : (64 * v + d) % 64 ≡ d = omega (arith, I .val-below, m) in
-            let f : 64 * v + d < 4096 = omega (arith, I .var-below, I .val-below, formed .variables-max, m) in
-            let a : getD fst (64 * v + d) 0 ≡ achiever (by v d) = S (64 * v + d) f ∙ rw (ev, ed) refl in
-            ap (λ x. is i (some x)) a ∙ is-achiever i (by v d) (omega (arith, entry-below R k b, formed .actions-max))
+      tested : (r : Bool) → r ≡ listed wanted i → reachedNeeded by (keep (act t) by (goals t) later .needed) i (act t i .eff) ≡ r
+      tested r e = sym (e ∙ K .wanted-are .are i entry-near)
 
-        tested : (r : Bool) → r ≡ reachedNeeded (byOf fst) (setsOf needed) i (act t i .eff) → reachedNeeded by (keep (act t) by (goals t) later .needed) i (act t i .eff) ≡ r
-        tested r e = rw (K .needed-are) (sym (e ∙ reachedNeeded-same (byOf fst) by (setsOf needed) i (act t i .eff) same-by))
+      pub keeping-no : false ≡ listed wanted i → Keeping t run n wanted kept k m
+      keeping-no e =
+          let z = keep-no (act t) by (goals t) i later (tested false e) in
+          record {
+            within = omega arith;
+            room = omega (arith, K .room);
+            end = K .end;
+            long = K .long;
+            unread = unread-less;
+            kept-are = rw (from-k R k b, z) (K .kept-are);
+            wanted-are = rw (from-k R k b, z) (K .wanted-are);
+          }
 
-        pub keeping-no : false ≡ reachedNeeded (byOf fst) (setsOf needed) i (act t i .eff) → Keeping t run n needed kept k m
-        keeping-no e =
-            let z = keep-no (act t) by (goals t) i later (tested false e) in
-            record {
-              within = omega arith;
-              room = omega (arith, K .room);
-              end = K .end;
-              long = K .long;
-              unread = unread-less;
-              needed-long = K .needed-long;
-              kept-are = rw (from-k R k b, z) (K .kept-are);
-              needed-are = rw (from-k R k b, z) (K .needed-are);
-            }
+      pub keeping-yes : (fst : List ℕ) → Achieved t (forwardRun t) fst → true ≡ listed wanted i → (wanted′ : List ℕ) → Joined (wants (byOf fst) (act t i .pre)) wanted wanted′
+          → (j : ℕ) → j ≡ i → Keeping t run n wanted′ (set kept (m - 1) j) k (m - 1)
+      keeping-yes fst S e wanted′ J j ej =
+          let N = keep (act t) by (goals t) later .needed in
+          let z = keep-yes (act t) by (goals t) i later (tested true e) in
+          let c : m - 1 < length kept = omega (arith, K .long, K .end, keeping-room) in
+          let s : suc (m - 1) ≡ m = omega (arith, keeping-room) in
+          let d : drop (m - 1) (set kept (m - 1) j) ≡ i ∷ drop m kept = rw (
+            drop-cons (set kept (m - 1) j) (m - 1) 0 (rw length-set c),
+            getD-set-same kept (m - 1) j 0 c,
+            s,
+            drop-set-lt m kept (m - 1) j (omega (arith, keeping-room)),
+            ej,
+          ) refl in
+          record {
+            within = omega arith;
+            room = omega (arith, K .room, keeping-room);
+            end = omega (arith, K .end);
+            long = simp length-set (K .long);
+            unread = take-set-le k kept (m - 1) j (omega (arith, K .room, R .few)) ∙ unread-less;
+            kept-are = rw (from-k R k b, z .0, d, K .kept-are) refl;
+            wanted-are = rw (from-k R k b, z .1) (record {
+              long = J .long;
+              are = λ x p. J .are x p ∙ rw (wants-are fst S (act t i .pre) (formed .pre-sorted i) x p, K .wanted-are .are x p)
+                  (sym (reachedNeeded-or by x (has (act t i .pre)) N (act t x .eff)));
+            });
+          }
 
-        pub keeping-yes : true ≡ reachedNeeded (byOf fst) (setsOf needed) i (act t i .eff) → (needed′ : List ℕ) → Joined (has (act t i .pre)) needed needed′
-            → (j : ℕ) → j ≡ i → Keeping t run n needed′ (set kept (m - 1) j) k (m - 1)
-        keeping-yes e needed′ J j ej =
-            let z = keep-yes (act t) by (goals t) i later (tested true e) in
-            let c : m - 1 < length kept = omega (arith, K .long, K .end, keeping-room) in
-            let s : suc (m - 1) ≡ m = omega (arith, keeping-room) in
-            let d : drop (m - 1) (set kept (m - 1) j) ≡ i ∷ drop m kept = rw (
-              drop-cons (set kept (m - 1) j) (m - 1) 0 (rw length-set c),
-              getD-set-same kept (m - 1) j 0 c,
-              s,
-              drop-set-lt m kept (m - 1) j (omega (arith, keeping-room)),
-              ej,
-            ) refl in
-            record {
-              within = omega arith;
-              room = omega (arith, K .room, keeping-room);
-              end = omega (arith, K .end);
-              long = simp length-set (K .long);
-              unread = take-set-le k kept (m - 1) j (omega (arith, K .room, R .few)) ∙ unread-less;
-              needed-long = J .long;
-              kept-are = rw (from-k R k b, z .0, d, K .kept-are) refl;
-              needed-are = rw (from-k R k b, z .1) (fun-ext (λ v. fun-ext (λ x. rw (K .needed-are) (sym (J .are v x)))));
-            }
-
-  pub keeping-end : (needed kept : List ℕ) (m : ℕ) → Keeping t run n needed kept 0 m → drop m kept ≡ relaxedPlan t
+  pub keeping-end : (wanted kept : List ℕ) (m : ℕ) → Keeping t run n wanted kept 0 m → drop m kept ≡ relaxedPlan t
   unfolding relaxedPlan
-  keeping-end needed kept m K = sym (K .kept-are)
+  keeping-end wanted kept m K = sym (K .kept-are)

@@ -1,6 +1,5 @@
 -- The relaxed plan's answer and its list, at each end.
-use mathlib.Core.Path.{_≡_, sym, _∙_, fun-ext}
-use mathlib.Core.Bool.{or-false}
+use mathlib.Core.Path.{_≡_, sym, _∙_}
 use mathlib.Core.List.{List}
 use mathlib.Core.Option.{none}
 use Prim.Native.Nat.{ℕ, _-_, _≤_}
@@ -8,16 +7,11 @@ use native.Mathlib.Omega.{arith}
 use lib.ListN.{length, take, drop, replicate, length-drop}
 use Rattle.planning.specs.Basics.{refuse, refused, done}
 use Rattle.planning.specs.Record.{Task, taskOf, recordCheck}
-use Rattle.planning.specs.Runs.{State}
 use Rattle.planning.specs.Relaxed.{factsReached, relaxedPlan}
 use Rattle.planning.specs.Calls.{capacity, roomCheck, relaxCall, relaxList}
-use Rattle.laws.proofs.Lists.{getD-zeros}
 use Rattle.lists.specs.Lent.{laid}
-use Rattle.sets.specs.Sets.{setsOf}
-use Rattle.sets.proofs.Members.{inSet-empty}
 use Rattle.forward.specs.Answers.{called}
 use Rattle.forward.proofs.Answers.{called-unsolved, called-whole, called-short, called-list, called-refused, called-accepts, lent-refused}
-use Rattle.keeping.specs.Keeping.{Joined}
 use Rattle.relax.specs.Kept.{Front, Found, Unfound}
 use Rattle.relax.specs.Answers.{relaxOf, relaxIn}
 
@@ -51,11 +45,6 @@ module _ (s : List ℕ) (m : ℕ) where
   pub relax-accepts : recordCheck s ≡ none → (t : Task) → t ≡ taskOf s → (relaxOf t m ≡ relaxCall s m) × (relaxIn t m ≡ relaxList s m)
   unfolding relaxCall relaxList relaxOf relaxIn
   relax-accepts = called-accepts s m (λ t. length (relaxedPlan t)) relaxedPlan
-
--- the facts of a list alone: those that join sets that hold nothing
-pub joined-alone : (f : State) (before after : List ℕ) → before ≡ replicate 64 0 → Joined f before after → setsOf after ≡ f
-unfolding setsOf
-joined-alone f before after e J = fun-ext (λ v. fun-ext (λ d. J .are v d ∙ rw (e, getD-zeros 64 v, inSet-empty d) (or-false (f v d))))
 
 -- the kept actions, moved to the front
 pub front-of : (t : Task) (kept new : List ℕ) (m n : ℕ) → m ≤ 1024 → length kept ≡ 1024 → drop m kept ≡ relaxedPlan t → n ≡ 1024 - m → length new ≡ 1024 → take (1024 - m) new ≡ drop m kept

@@ -35,9 +35,7 @@ fn keep_run(task: &[u16], first: &mut [u16; 4096], n: usize, plan: &mut [u16; 10
     achievers::unset_initial(task, first);
     let goals = Goals::load(task);
     let count = goals.count;
-    let mut needed = [0u64; 64];
-    keeping::add_facts(&mut needed, &goals.facts, 0, count);
-    let m = keeping::keep_back(task, first, n, &mut needed, plan);
+    let m = keeping::keep_back(task, first, n, &goals.facts, count, plan);
     to_front(plan, m);
     (1024 - m) as u32
 }

@@ -1,10 +1,9 @@
-use mathlib.Core.Path.{_≡_, refl, ap, _∙_}
+use mathlib.Core.Path.{_≡_}
 use native.Mathlib.Omega.{arith}
 use lib.ListN.{length}
 use borrow.Author.Needs.{needs}
-use Rattle.planning.specs.Runs.{has}
 use Rattle.achievers.proofs.Achievers.{achieved-of}
-use Rattle.relax.proofs.Answers.{joined-alone, front-of}
+use Rattle.relax.proofs.Answers.{front-of}
 use Rattle.relax.proofs.keep_run.Statement.{statement}
 use Rattle.relax.proofs.keep_run.Tie as tie
 
@@ -17,22 +16,15 @@ unset-initial-requires c κs = search needs
 load-requires : tie.Need-load-requires
 load-requires c κs = search needs
 
-add-facts-requires : tie.Need-add-facts-requires
-add-facts-requires c κs =
-    let at-load = c .before .before .before .before in
-    let G = at-load .load .ensures in
-    let l : length (at-load .load .result .facts) ≡ 64 = search needs in
-    (omega arith, omega (arith, G .few), refl, λ k p q. G .small k q)
-
 keep-back-requires : tie.Need-keep-back-requires
 keep-back-requires c κs =
-    let at-add-facts = c .before .before .before in
-    let at-load = at-add-facts .before .before .before .before .before in
+    let at-load = c .before .before .before .before .before in
     let at-unset = at-load .before in
     let at-note = at-unset .before .before in
-    let J = at-add-facts .add-facts .ensures in
+    let G = at-load .load .ensures in
+    let l : length (at-load .load .result .facts) ≡ 64 = search needs in
     let A = achieved-of _ _ _ _ (at-note .note-run .ensures .1) (at-unset .unset-initial .ensures) in
-    ((at-note .before .before .before .before .pre .0, A), (J .long, joined-alone _ _ _ refl J ∙ ap has (at-load .load .ensures .are)))
+    ((at-note .before .before .before .before .pre .0, A), (record { rises = omega arith; within = omega (arith, G .few); small = λ k p q. G .small k q }, G .are))
 
 to-front-requires : tie.Need-to-front-requires
 to-front-requires c κs = search needs
@@ -57,7 +49,6 @@ keep-run-spec =
     note-run-requires
     unset-initial-requires
     load-requires
-    add-facts-requires
     keep-back-requires
     to-front-requires
     sub-result
