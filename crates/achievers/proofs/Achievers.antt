@@ -15,6 +15,7 @@ use lib.Seq.{getD-set-same, getD-set-other, getD-take, drop-cons, drop-length, l
 use Rattle.planning.specs.Record.{Action, Task}
 use Rattle.planning.specs.Runs.{State, has, touches, step, relaxed, actions, act, variables, variable, initial}
 use Rattle.planning.specs.Relaxed.{forwardRun, firstAchiever}
+use Rattle.laws.proofs.Achievers.{firstAchiever-held}
 use Rattle.laws.proofs.Tests.{T→true, F→false, and-l, and-r}
 use Rattle.laws.proofs.Steps.{All}
 use Rattle.laws.proofs.Formed.{Formed, initial-holds, initial-elim}
@@ -74,17 +75,6 @@ module _ (act : ℕ → Action) (v d : ℕ) where
       go true p q = rw (← p) refl
       go false p q = rw (← p) q
 
-  firstAchiever-held : (l : List ℕ) (s : State) → s v d ≡ true → firstAchiever act l s v d ≡ none
-  unfolding firstAchiever step
-  firstAchiever-held [] s e = refl
-  firstAchiever-held (i ∷ l) s e =
-      go (ap (λ b. has (act i .eff) v d && not b) e ∙ and-false (has (act i .eff) v d))
-      (firstAchiever-held l (step relaxed (act i) s)
-      (ap (λ b. has (act i .eff) v d || (b && not (relaxed v && touches (act i .eff) v))) e ∙ or-true (has (act i .eff) v d)))
-    where
-      go : {b : Bool} {x : Option ℕ} → b ≡ false → x ≡ none → _≡_ {A = Option ℕ} (elim b [ true ↦ some i | false ↦ x ]) none
-      go p q = rw (p, q) refl
-
 -- the run so far with one action in front of it
 setters-more : (t : Task) (l : List ℕ) (i : ℕ) (fst fst′ : List ℕ) → Setters t l fst → Noted (has (act t i .eff)) i fst fst′ → Setters t (i ∷ l) fst′
 unfolding AchievedFrom choose achiever firstAchiever has step
@@ -110,7 +100,7 @@ unfolding AchievedFrom choose achiever has
 achieved-of t l fst fst′ S N f b = N .are f b ∙ go (initial t (f / 64) (f % 64)) refl
   where
     go : (h : Bool) → initial t (f / 64) (f % 64) ≡ h → choose h 65535 (getD fst f 0) ≡ achiever (firstAchiever (act t) l (initial t) (f / 64) (f % 64))
-    go true e = ap achiever (sym (firstAchiever-held (act t) (f / 64) (f % 64) l (initial t) e))
+    go true e = ap achiever (sym (firstAchiever-held (act t) l (initial t) (f / 64) (f % 64) (rw e tt)))
     go false e = S f b ∙ ap achiever (firstAchiever-same (act t) (f / 64) (f % 64) l (has []) (initial t) (sym e))
 
 -- initial facts of variables before v are unset

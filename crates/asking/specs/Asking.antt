@@ -22,10 +22,6 @@ askedBy d = elim (ltb d 64) [ true ↦ some d | false ↦ none ]
 abbrev pub Fitting : Task → List Fact → Type 0
 Fitting t fs = (v d : ℕ) → look fs v ≡ some d → d < count t v
 
--- each entry is an action
-abbrev pub Entries : Task → List ℕ → Type 0
-Entries t l = (k : ℕ) → k < length l → getD l k 0 < actions t
-
 -- what was written, without the searches; with them; where it fits, they are n
 abbrev pub writtenIn : Inserted → Written
 writtenIn (inserted.Upto e k) = Upto e

@@ -15,7 +15,7 @@ ghost use Rattle.planning.specs.Runs.{holds, step, relaxed, actions, act, black
 ghost use Rattle.planning.specs.Newest.{alone};
 ghost use Rattle.task.specs.Task.{taskIn, Loaded};
 ghost use Rattle.sets.specs.Sets.{setsOf, valuesOf};
-ghost use Rattle.asking.specs.Asking.{Entries};
+ghost use Rattle.entries.specs.Entries.{Entries};
 ghost use Rattle.answers.specs.Plans.{answerOf};
 ghost use Rattle.counts.specs.Marks.{marksFor};
 ghost use Rattle.counts.specs.Counting.{Small, Few, noCounts, Onward, judgedBy};

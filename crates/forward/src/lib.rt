@@ -2,13 +2,13 @@
 // up to 16 variables what waits is kept in a shorter list.
 use answers::Checked;
 use answers::Refusal;
-use running::Ran;
+use forward_run::Ran;
 ghost use mathlib.Core.Path.{_≡_};
 ghost use lib.ListN.{length};
 ghost use Rattle.planning.specs.Calls.{forwardCall, forwardList};
 ghost use Rattle.task.specs.Task.{taskIn, Loaded};
-ghost use Rattle.size.specs.Size.{RoomIn};
-ghost use Rattle.running.specs.Running.{RanOf};
+ghost use Rattle.task_size.specs.Size.{RoomIn};
+ghost use Rattle.forward_run.specs.Running.{RanOf};
 ghost use Rattle.forward.specs.Answers.{foundOf, forwardOf, forwardIn};
 
 // The forward run of a loaded task, in the front of `plan`.
@@ -20,10 +20,10 @@ pub fn run_forward(task: &[u16], plan: &mut [u16; 1024]) -> Ran
     ranking::by_cost(task, &mut order);
     if task::variables(task) <= 16 {
         let mut work = [65535u16; waiting::FEW];
-        return running::run_by(task, &order, &mut work, plan);
+        return forward_run::run_by(task, &order, &mut work, plan);
     }
     let mut work = [65535u16; waiting::ALL];
-    running::run_by(task, &order, &mut work, plan)
+    forward_run::run_by(task, &order, &mut work, plan)
 }
 
 // What the forward run answers.
@@ -74,15 +74,15 @@ fn forward_in(bytes: &[u8], task: &mut [u16], plan: &mut [u16]) -> Found
 pub fn forward(bytes: &[u8], plan: &mut [u16]) -> Found
     ensures { λ r. ⌜ (foundOf r ≡ forwardCall (now (bytes .entry)) (length (now (plan .entry)))) × (now (plan .exit) ≡ forwardList (now (bytes .entry)) (length (now (plan .entry)))) ⌝ }
 {
-    let size = size::room_for(bytes);
-    if size <= size::TINY {
-        let mut task = [0u16; size::TINY];
+    let size = task_size::room_for(bytes);
+    if size <= task_size::TINY {
+        let mut task = [0u16; task_size::TINY];
         return forward_in(bytes, &mut task, plan);
     }
-    if size <= size::SHORT {
-        let mut task = [0u16; size::SHORT];
+    if size <= task_size::SHORT {
+        let mut task = [0u16; task_size::SHORT];
         return forward_in(bytes, &mut task, plan);
     }
-    let mut task = [0u16; size::LONG];
+    let mut task = [0u16; task_size::LONG];
     forward_in(bytes, &mut task, plan)
 }

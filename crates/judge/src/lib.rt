@@ -10,11 +10,11 @@ ghost use mathlib.Core.Path.{_≡_};
 ghost use Rattle.planning.specs.Runs.{real, black, judged, judgement};
 ghost use Rattle.planning.specs.Calls.{judgeCall};
 ghost use Rattle.task.specs.Task.{taskIn, Loaded};
-ghost use Rattle.size.specs.Size.{RoomIn};
+ghost use Rattle.task_size.specs.Size.{RoomIn};
 ghost use Rattle.sets.specs.Sets.{setsOf, valuesOf};
 ghost use Rattle.entries.specs.Entries.{Ready};
 ghost use Rattle.callers.specs.Answers.{judgedOf};
-ghost use Rattle.tracing.specs.Traces.{StopsAs, RunsAs};
+ghost use Rattle.execution.specs.Traces.{StopsAs, RunsAs};
 ghost use Rattle.judge.specs.Answers.{judgementOf, answerOf, refusalOf, judgedList};
 
 pub struct Verdicts {
@@ -67,7 +67,7 @@ fn judge_all(task: &[u16], list: &[u16]) -> Verdicts
     requires { ⌜ Ready (now task) (now list) ⌝ }
     ensures { λ r. ⌜ judgementOf r ≡ judgement (taskIn (now (task .entry))) (now (list .entry)) ⌝ }
 {
-    let x = tracing::follow(task, list);
+    let x = execution::follow(task, list);
     let s = x.state;
     let red_black = judge_red_black(task, list, s, x.steps);
     let real = judge_real(task, list, &s.newest.values, x.runs);
@@ -133,15 +133,15 @@ fn judge_in(bytes: &[u8], task: &mut [u16], list: &[u16]) -> Judging
 pub fn judge(bytes: &[u8], list: &[u16]) -> Judging
     ensures { λ r. ⌜ answerOf r ≡ judgeCall (now (bytes .entry)) (now (list .entry)) ⌝ }
 {
-    let size = size::room_for(bytes);
-    if size <= size::TINY {
-        let mut tiny = [0u16; size::TINY];
+    let size = task_size::room_for(bytes);
+    if size <= task_size::TINY {
+        let mut tiny = [0u16; task_size::TINY];
         return judge_in(bytes, &mut tiny, list);
     }
-    if size <= size::SHORT {
-        let mut small = [0u16; size::SHORT];
+    if size <= task_size::SHORT {
+        let mut small = [0u16; task_size::SHORT];
         return judge_in(bytes, &mut small, list);
     }
-    let mut large = [0u16; size::LONG];
+    let mut large = [0u16; task_size::LONG];
     judge_in(bytes, &mut large, list)
 }

@@ -27,7 +27,7 @@ module _ (act : ℕ → Action) where
   Reaches by (i ∷ l) s = ((v d : ℕ) → T (has (act i .eff) v d) → is i (by v d) ≡ not (s v d)) × Reaches by l (step relaxed (act i) s)
 
   -- a fact that is held has no first achiever from there on
-  firstAchiever-held : (l : List ℕ) (s : State) (v d : ℕ) → T (s v d) → firstAchiever act l s v d ≡ none
+  pub firstAchiever-held : (l : List ℕ) (s : State) (v d : ℕ) → T (s v d) → firstAchiever act l s v d ≡ none
   unfolding firstAchiever
   firstAchiever-held [] s v d h = refl
   firstAchiever-held (i ∷ l) s v d h =

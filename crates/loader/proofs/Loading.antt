@@ -22,11 +22,11 @@ use Rattle.bits.specs.Windows.{Leading}
 use Rattle.bits.proofs.Window.{bitsAt-add}
 use Rattle.record.proofs.Laws.{false-not, leading-fact, Run, run-start}
 use Rattle.task.specs.Task.{cell, headsAt, factsIn, variableIn, actionIn, taskIn, Row, Loaded}
-use Rattle.size.specs.Size.{factsOf, factsFrom, taskSize}
+use Rattle.task_size.specs.Size.{factsOf, factsFrom, taskSize}
 use Rattle.task.specs.Rows.{RowWritten}
 use Rattle.loader.specs.Loading.{FactsLoaded, Placed, ActionLoaded, ActionRead, VariablePlaced, VariableLoaded, Headed, RecordRead}
 use Rattle.loader.proofs.Cut.{factOf-bits, variable-cut}
-use Rattle.size.proofs.Size.{factsOf-le, actionEnd-is, actionsEnd-more, actionsEnd-is, factsFrom-more, factsFrom-mono, factsFrom-le}
+use Rattle.task_size.proofs.Size.{factsOf-le, actionEnd-is, actionsEnd-more, actionsEnd-is, factsFrom-more, factsFrom-mono, factsFrom-le}
 use Rattle.task.proofs.Reading.{taskIn-variables, taskIn-actions, taskIn-variable, taskIn-act}
 
 -- the first n of the four facts at the front of a window

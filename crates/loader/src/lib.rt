@@ -1,4 +1,4 @@
-// The loader: one pass over the bytes of a record tests them and loads the task that they state. Nothing above it sees the record.
+// The loader: one pass over the bytes of a record tests them and loads the task that they state. Callers above it hand the bytes on and look at none.
 use answers::Checked;
 use answers::Number;
 use task::ACTION_ROWS;
@@ -11,7 +11,7 @@ ghost use Rattle.answers.specs.Answers.{checkOf};
 ghost use Rattle.lists.specs.Four.{Spread};
 ghost use Rattle.record.specs.Stages.{Counts};
 ghost use Rattle.task.specs.Task.{linksEnd};
-ghost use Rattle.size.specs.Size.{RoomIn};
+ghost use Rattle.task_size.specs.Size.{RoomIn};
 ghost use Rattle.loader.specs.Loading.{FactsFit, FactsRead, ActionRead, VariableRead, VariablesRead, Begun, RecordRead, TaskRead};
 
 // The four facts at the front of a window, 16 bits each, the first one lowest.

@@ -2,7 +2,7 @@
 use mathlib.Core.Path.{_≡_}
 use mathlib.Core.List.{List, [], _∷_}
 use Prim.Native.Nat.{ℕ, _≤_}
-use lib.ListN.{length, replicate}
+use lib.ListN.{replicate}
 use Rattle.planning.specs.Basics.{inOrder, Answer, refused, done, answer}
 use Rattle.planning.specs.Record.{Task, taskOf}
 use Rattle.planning.specs.Runs.{variables}

@@ -10,7 +10,7 @@ ghost use lib.ListN.{length, drop};
 ghost use Rattle.planning.specs.Newest.{tabulate};
 ghost use Rattle.planning.specs.Calls.{newestCall, newestList};
 ghost use Rattle.task.specs.Task.{taskIn, Loaded};
-ghost use Rattle.size.specs.Size.{RoomIn};
+ghost use Rattle.task_size.specs.Size.{RoomIn};
 ghost use Rattle.sets.specs.Sets.{valuesOf};
 ghost use Rattle.newest.specs.Answers.{answerOf, emptyBy, Tells, Called};
 
@@ -54,7 +54,7 @@ fn tell_loaded(task: &[u16], list: &[u16], room: usize) -> Board
             place: room as u32,
         });
     }
-    let x = tracing::follow(task, list);
+    let x = execution::follow(task, list);
     let steps = x.steps as u32;
     let runs = x.runs as u32;
     let newest = x.state.newest;
@@ -81,16 +81,16 @@ fn tell_in(bytes: &[u8], task: &mut [u16], list: &[u16], room: usize) -> Board
 fn tell(bytes: &[u8], list: &[u16], room: usize) -> Board
     ensures { λ r. ⌜ Called (now (bytes .entry)) (now (list .entry)) room r ⌝ }
 {
-    let size = size::room_for(bytes);
-    if size <= size::TINY {
-        let mut tiny = [0u16; size::TINY];
+    let size = task_size::room_for(bytes);
+    if size <= task_size::TINY {
+        let mut tiny = [0u16; task_size::TINY];
         return tell_in(bytes, &mut tiny, list, room);
     }
-    if size <= size::SHORT {
-        let mut small = [0u16; size::SHORT];
+    if size <= task_size::SHORT {
+        let mut small = [0u16; task_size::SHORT];
         return tell_in(bytes, &mut small, list, room);
     }
-    let mut large = [0u16; size::LONG];
+    let mut large = [0u16; task_size::LONG];
     tell_in(bytes, &mut large, list, room)
 }
 

@@ -22,7 +22,7 @@ use Rattle.task.specs.Links.{headAt, nextAt, linked, Next, Changes, Chained, Li
 use Rattle.task.proofs.Relinking.{heads-fewer, heads-kept, relinked-task, relinked-loaded, relinked-none, relinked-link, relinked-trans, head-new, head-old, next-new, next-old}
 use Rattle.sets.specs.Sets.{modeOf}
 use Rattle.graph.proofs.Searches.{false-not}
-use Rattle.order.specs.Order.{Ordered}
+use Rattle.clients_first.specs.Order.{Ordered}
 use Rattle.painting.specs.Chains.{moveOf, linkedMove, Acyclic, Linked}
 
 -- f is a fact of the list on a variable of m

@@ -22,7 +22,7 @@ use Rattle.task.specs.Links.{Chained, Relinked}
 use Rattle.task.proofs.Relinking.{relinked-task, relinked-none, relinked-trans}
 use Rattle.sets.specs.Sets.{setsOf}
 use Rattle.graph.proofs.Searches.{Searched, searched-start, searched-turn, searched-hit, searched-end}
-use Rattle.order.specs.Order.{Ordered}
+use Rattle.clients_first.specs.Order.{Ordered}
 use Rattle.returns.specs.Returns.{markAll, marked}
 use Rattle.lacking.specs.Lacking.{Unmarked, lacksBy, Ready}
 use Rattle.painting.specs.Chains.{Acyclic, Linked}

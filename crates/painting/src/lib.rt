@@ -142,7 +142,7 @@ fn prepare_acyclic(task: &mut [u16], rows: &[u64; 64], paint: u64) -> Checked
     ensures { λ r. ⌜ Readied (now (task .entry)) r (now (task .exit)) ⌝ }
 {
     link_all(task, paint);
-    order::write_order(task, rows, paint);
+    clients_first::write_order(task, rows, paint);
     refused_at(8, lowest_lacking(task, paint))
 }
 

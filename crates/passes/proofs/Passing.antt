@@ -16,7 +16,8 @@ use Rattle.sets.specs.Sets.{Asked}
 use Rattle.paths.specs.Paths.{pathsOf, Memo, Put}
 use Rattle.paths.specs.declared.Written.{Written}
 use Rattle.paths.specs.declared.Written.the-variants.{Upto, Long}
-use Rattle.asking.specs.Asking.{askedBy, Entries}
+use Rattle.entries.specs.Entries.{Entries}
+use Rattle.asking.specs.Asking.{askedBy}
 use Rattle.passes.specs.Passes.{passOf}
 use Rattle.asking.proofs.Putting.{asked-is, pre-fitting, after-fits, put-as}
 

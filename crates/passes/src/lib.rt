@@ -12,7 +12,8 @@ ghost use Rattle.task.specs.Task.{taskIn, Loaded};
 ghost use Rattle.task.specs.Links.{Prepared};
 ghost use Rattle.sets.specs.Sets.{setsOf};
 ghost use Rattle.paths.specs.Paths.{pathsOf, Memo, Put};
-ghost use Rattle.asking.specs.Asking.{askedBy, Fitting, Entries, writtenIn, Searched};
+ghost use Rattle.entries.specs.Entries.{Entries};
+ghost use Rattle.asking.specs.Asking.{askedBy, Fitting, writtenIn, Searched};
 ghost use Rattle.passes.specs.Passes.{servedIn, servedSearchesIn, unasked, factsOf};
 
 // The path from c to the value that d asks, if it asks one.

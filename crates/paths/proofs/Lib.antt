@@ -1,4 +1,3 @@
-pub mod Facts
 pub mod Labels
 pub mod Walking
 pub mod Memos

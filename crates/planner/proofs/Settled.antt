@@ -16,7 +16,7 @@ use Rattle.laws.proofs.Demand3.{demand3}
 use Rattle.answers.specs.declared.Planned.{Planned}
 use Rattle.answers.specs.declared.Planned.the-variants.{Plan, Refused}
 use Rattle.answers.specs.Plans.{answerOf}
-use Rattle.handing.proofs.Filled.{filled, lent-is, lentBytes-is}
+use Rattle.blanking.proofs.Filled.{filled, lent-is, lentBytes-is}
 use Rattle.planner.specs.Drafts.{InFront}
 use Rattle.planner.proofs.Drafts.{Ended}
 

@@ -4,7 +4,7 @@ use mathlib.Core.Bool.{Bool, true, false}
 use mathlib.Core.List.{List, [], _∷_, _++_}
 use Prim.Native.Nat.{ℕ, _≤_}
 use lib.ListN.{length, take}
-use Rattle.planning.specs.Basics.{Check, andThen, inOrder, Answer, answer}
+use Rattle.planning.specs.Basics.{Check, andThen, inOrder, answer}
 use Rattle.planning.specs.Record.{Task, taskOf, recordCheck}
 use Rattle.planning.specs.Relaxed.{relaxedPlan}
 use Rattle.planning.specs.Painting.{acyclicCheck, returnCheck}

@@ -16,7 +16,7 @@ ghost use Rattle.planning.specs.Relaxed.{relaxedPlan};
 ghost use Rattle.planning.specs.Calls.{planCall, planList, planMarks, repairCall, repairList, repairMarks, workList, planIn, marksIn, runnable};
 ghost use Rattle.planning.specs.Existence.{Demand3, Bounded, Ceiling, Recovers};
 ghost use Rattle.task.specs.Task.{taskIn, Loaded};
-ghost use Rattle.size.specs.Size.{taskSize, RoomIn};
+ghost use Rattle.task_size.specs.Size.{taskSize, RoomIn};
 ghost use Rattle.task.specs.Links.{Prepared};
 ghost use Rattle.answers.specs.Plans.{answerOf};
 ghost use Rattle.repair.specs.Answers.{roomIn};
@@ -110,15 +110,15 @@ fn plan_sized(
     requires { ⌜ (recordCheck (now bytes) ≡ none → taskSize (now bytes) ≤ size) ⌝ }
     ensures { λ r. ⌜ Called given (now (bytes .entry)) (now (list .entry)) (roomIn (now (plan .entry)) (now (work .entry)) (now (marks .entry))) (now (plan .exit)) (now (marks .exit)) r ⌝ }
 {
-    if size <= size::TINY {
-        let mut tiny = [0u16; size::TINY];
+    if size <= task_size::TINY {
+        let mut tiny = [0u16; task_size::TINY];
         return plan_in(bytes, &mut tiny, given, list, plan, work, marks);
     }
-    if size <= size::SHORT {
-        let mut small = [0u16; size::SHORT];
+    if size <= task_size::SHORT {
+        let mut small = [0u16; task_size::SHORT];
         return plan_in(bytes, &mut small, given, list, plan, work, marks);
     }
-    let mut large = [0u16; size::LONG];
+    let mut large = [0u16; task_size::LONG];
     plan_in(bytes, &mut large, given, list, plan, work, marks)
 }
 
@@ -133,7 +133,15 @@ fn plan_checked(
 ) -> Planned
     ensures { λ r. ⌜ Called given (now (bytes .entry)) (now (list .entry)) (roomIn (now (plan .entry)) (now (work .entry)) (now (marks .entry))) (now (plan .exit)) (now (marks .exit)) r ⌝ }
 {
-    plan_sized(bytes, size::room_for(bytes), given, list, plan, work, marks)
+    plan_sized(
+        bytes,
+        task_size::room_for(bytes),
+        given,
+        list,
+        plan,
+        work,
+        marks,
+    )
 }
 
 // The planner: from a record to a repaired plan and its marks. Checks 1 to 8, 10, 11.
@@ -148,7 +156,7 @@ pub fn plan(bytes: &[u8], plan: &mut [u16], work: &mut [u16], marks: &mut [u8]) 
     ensures { λ r. ⌜ Recovers (now (bytes .entry)) (relaxedPlan (taskOf (now (bytes .entry)))) (answerOf r) (planIn (answerOf r) (now (plan .exit))) (marksIn (answerOf r) (now (marks .exit))) ⌝ }
 {
     let r = plan_checked(bytes, false, &[], plan, work, marks);
-    handing::finish(r, plan, marks);
+    blanking::finish(r, plan, marks);
     lists::blank(work);
     r
 }
@@ -170,7 +178,7 @@ pub fn repair(
     ensures { λ r. ⌜ Recovers (now (bytes .entry)) (now (list .entry)) (answerOf r) (planIn (answerOf r) (now (plan .exit))) (marksIn (answerOf r) (now (marks .exit))) ⌝ }
 {
     let r = plan_checked(bytes, true, list, plan, work, marks);
-    handing::finish(r, plan, marks);
+    blanking::finish(r, plan, marks);
     lists::blank(work);
     r
 }

@@ -1,6 +1,6 @@
 -- The examples of clause 12: one table, proved by one theorem. Each record, the bytes of examples/*.record, states the task that the
--- clause describes; the planner is called on it, or the newest values of a list are asked for; antt computes the rows. The prover takes files by name, so this one comes before
--- the laws, and a definition that makes a row false is refused here first.
+-- clause describes; the planner is called on it, or the newest values of a list are asked for; antt computes the rows, so that a definition
+-- that makes one false is refused here.
 use Prim.Native.Nat.{ℕ, zero, suc}
 use mathlib.Core.Path.{_≡_, refl}
 use mathlib.Core.Bool.{Bool, true, false}

@@ -5,15 +5,13 @@ use mathlib.Core.Bool.{Bool, false, not, _&&_, _||_, and-true, and-false, or-tru
 use mathlib.Core.List.{List}
 use Prim.Native.Nat.{ℕ, zero, suc, _+_, _-_, _*_, _/_, _%_, _^_, _<_, _≤_}
 use native.Mathlib.Nat.{pow-suc}
-use native.Mathlib.Numerals.{one-add}
 use native.Mathlib.Omega.{arith}
 use native.Mathlib.Decide.{ℕ-discrete, decLt}
 use borrow.Author.Tests.{ne-eqb, eq-eqb}
 use lib.Bits.{bitOr}
 use lib.Count.{trailingZeros, under}
 use lib.Dec.{T, not-T, eqb, eqb→eq, eqb-refl, eqb·suc-suc, eqb·suc-zero, eqb·zero-suc}
-use lib.ListN.{getD, set, length-set, replicate, length-replicate, getD-replicate, List·getD-eq-default}
-use lib.Pow.{shr-shr}
+use lib.ListN.{getD, set, length-set, replicate, length-replicate, List·getD-eq-default}
 use lib.Seq.{getD-set-same, getD-set-other, set-getD}
 use Rattle.laws.proofs.Lists.{getD-zeros}
 use Rattle.laws.proofs.Tests.{T→true, or-l}

@@ -9,7 +9,7 @@ ghost use lib.ListN.{length, take, drop, replicate};
 ghost use Rattle.planning.specs.Calls.{relaxCall, relaxList};
 ghost use Rattle.answers.specs.Answers.{valueOf};
 ghost use Rattle.task.specs.Task.{taskIn, Loaded};
-ghost use Rattle.size.specs.Size.{RoomIn};
+ghost use Rattle.task_size.specs.Size.{RoomIn};
 ghost use Rattle.achievers.specs.Achievers.{Replay};
 ghost use Rattle.relax.specs.Kept.{Front, KeptOf};
 ghost use Rattle.relax.specs.Answers.{relaxOf, relaxIn};
@@ -35,7 +35,7 @@ fn keep_run(task: &[u16], first: &mut [u16; 4096], n: usize, plan: &mut [u16; 10
     achievers::unset_initial(task, first);
     let goals = Goals::load(task);
     let count = goals.count;
-    let m = keeping::keep_back(task, first, n, &goals.facts, count, plan);
+    let m = extraction::keep_back(task, first, n, &goals.facts, count, plan);
     to_front(plan, m);
     (1024 - m) as u32
 }
@@ -93,15 +93,15 @@ fn relax_in(bytes: &[u8], task: &mut [u16], plan: &mut [u16]) -> Number
 pub fn relax(bytes: &[u8], plan: &mut [u16]) -> Number
     ensures { λ r. ⌜ (valueOf r ≡ relaxCall (now (bytes .entry)) (length (now (plan .entry)))) × (now (plan .exit) ≡ relaxList (now (bytes .entry)) (length (now (plan .entry)))) ⌝ }
 {
-    let size = size::room_for(bytes);
-    if size <= size::TINY {
-        let mut task = [0u16; size::TINY];
+    let size = task_size::room_for(bytes);
+    if size <= task_size::TINY {
+        let mut task = [0u16; task_size::TINY];
         return relax_in(bytes, &mut task, plan);
     }
-    if size <= size::SHORT {
-        let mut task = [0u16; size::SHORT];
+    if size <= task_size::SHORT {
+        let mut task = [0u16; task_size::SHORT];
         return relax_in(bytes, &mut task, plan);
     }
-    let mut task = [0u16; size::LONG];
+    let mut task = [0u16; task_size::LONG];
     relax_in(bytes, &mut task, plan)
 }

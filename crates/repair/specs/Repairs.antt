@@ -8,7 +8,7 @@ use Rattle.planning.specs.Runs.{State, relaxed, isPlan}
 use Rattle.task.specs.Task.{taskIn}
 use Rattle.task.specs.Links.{Prepared}
 use Rattle.paths.specs.Paths.{Memo}
-use Rattle.asking.specs.Asking.{Entries}
+use Rattle.entries.specs.Entries.{Entries}
 
 -- a task that passed the painting, and a relaxed plan of it
 pub record Repairable (task list : List ℕ) : Type 0 where

@@ -4,4 +4,5 @@ pub mod Effects
 pub mod Loading
 pub mod Listed
 pub mod Listing
+pub mod Facts
 pub mod Asking

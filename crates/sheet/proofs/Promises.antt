@@ -1,4 +1,4 @@
--- What the promises of `write` and `read` say of the lent bytes and the lent list, from the checks' outcome.
+-- What the promises of `writer::write` and `reader::read` say of the lent bytes and the lent list, from the checks' outcome.
 use mathlib.Core.List.{List, _++_}
 use mathlib.Core.Option.{none}
 use mathlib.Core.Path.{_≡_, refl, sym, _∙_}

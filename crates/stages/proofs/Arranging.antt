@@ -11,7 +11,7 @@ use Rattle.planning.specs.Runs.{State, variables, actions, count, act, black, g
 use Rattle.planning.specs.Repair.{blackMet}
 use Rattle.task.specs.Task.{factOf, factsIn, preAt, effAt, taskIn, Loaded}
 use Rattle.sets.proofs.Listing.{between-inside}
-use Rattle.paths.proofs.Facts.{pre-facts}
+use Rattle.sets.proofs.Facts.{pre-facts}
 use Rattle.paths.specs.Paths.{Put}
 use Rattle.paths.specs.declared.Written.{Written}
 use Rattle.paths.specs.declared.Written.the-variants.{Upto}

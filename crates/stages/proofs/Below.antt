@@ -20,7 +20,7 @@ use Rattle.laws.proofs.Fill.{fill-searches}
 use Rattle.laws.proofs.Formed.{Formed}
 use Rattle.laws.proofs.Lists.{all-at}
 use Rattle.laws.proofs.Order.{clientsFirst-le}
-use Rattle.asking.specs.Asking.{Entries}
+use Rattle.entries.specs.Entries.{Entries}
 use Rattle.passes.specs.Passes.{passOf}
 use Rattle.paths.specs.Paths.{pathsOf}
 use Rattle.stages.specs.Stages.{fillFrom, filled, moved, stageOf, filledSearches, movedSearches, stageSearches}

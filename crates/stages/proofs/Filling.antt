@@ -16,7 +16,8 @@ use Rattle.paths.specs.Paths.{pathsOf, Memo, Put}
 use Rattle.paths.specs.declared.Written.the-variants as written
 use Rattle.asking.specs.declared.Inserted.{Inserted}
 use Rattle.asking.specs.declared.Inserted.the-variants.{Upto, Long}
-use Rattle.asking.specs.Asking.{Entries, writtenIn, Searched}
+use Rattle.entries.specs.Entries.{Entries}
+use Rattle.asking.specs.Asking.{writtenIn, Searched}
 use Rattle.passes.specs.Passes.{served}
 use Rattle.asking.proofs.Putting.{told-as, counts-as}
 use Rattle.stages.specs.Stages.{Present, fillFrom, filled, searchesOver, filledSearches}

@@ -2,11 +2,11 @@
 // and hands the next one back whole. The goals of a task stand here too, as facts.
 use task::Goal;
 ghost use mathlib.Core.Path.{_≡_};
-ghost use Prim.Native.Nat.{ℕ, _+_, _*_, _/_, _%_, _^_, _<_, _≤_};
-ghost use lib.ListN.{length, getD, set};
-ghost use Rattle.planning.specs.Runs.{actions, act, has, holds, look, step, initial, relaxed, black, size};
-ghost use Rattle.planning.specs.Newest.{initialValues, newer, alone};
-ghost use Rattle.task.specs.Task.{factsIn, taskIn, Loaded};
+ghost use Prim.Native.Nat.{_+_, _*_, _/_, _%_, _<_};
+ghost use lib.ListN.{length, set};
+ghost use Rattle.planning.specs.Runs.{actions, act, step, initial, relaxed, size};
+ghost use Rattle.planning.specs.Newest.{initialValues, newer};
+ghost use Rattle.task.specs.Task.{taskIn, Loaded};
 ghost use Rattle.sets.specs.Sets.{setsOf, valuesOf, choose, over};
 ghost use Rattle.state.specs.Goals.{GoalsOf};
 

@@ -7,7 +7,7 @@ use borrow.Author.Tests.{not-true, not-false}
 use lib.ListN.{length}
 use Rattle.planning.specs.Runs.{act, black}
 use Rattle.task.specs.Task.{factsIn, preAt, effAt, taskIn}
-use Rattle.paths.proofs.Facts.{pre-facts, pre-inside}
+use Rattle.sets.proofs.Facts.{pre-facts, pre-inside}
 use Rattle.counts.specs.Plain.{allBlack}
 use Rattle.counts.proofs.Plainly.{all-fails, all-passes, all-end}
 use Rattle.counts.proofs.needs_black.Statement.{statement}

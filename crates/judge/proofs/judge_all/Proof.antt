@@ -1,5 +1,5 @@
 use borrow.Author.Needs.{needs}
-use Rattle.tracing.proofs.Modes.{judgement-plan, judgement-of}
+use Rattle.execution.proofs.Modes.{judgement-plan, judgement-of}
 use Rattle.judge.proofs.judge_all.Statement.{statement}
 use Rattle.judge.proofs.judge_all.Tie as tie
 

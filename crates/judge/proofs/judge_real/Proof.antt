@@ -2,7 +2,7 @@ use borrow.Author.Needs.{needs}
 use mathlib.Core.Path.{ap, _∙_}
 use native.Mathlib.Omega.{arith}
 use Rattle.planning.specs.Runs.{holds}
-use Rattle.tracing.proofs.Tracing.{real-short, real-whole, runs-few}
+use Rattle.execution.proofs.Tracing.{real-short, real-whole, runs-few}
 use Rattle.judge.proofs.judge_real.Statement.{statement}
 use Rattle.judge.proofs.judge_real.Tie as tie
 

@@ -2,7 +2,7 @@ use borrow.Author.Needs.{needs}
 use mathlib.Core.Path.{ap, _∙_}
 use native.Mathlib.Omega.{arith}
 use Rattle.planning.specs.Runs.{holds}
-use Rattle.tracing.proofs.Tracing.{painted-short, painted-whole, stops-few}
+use Rattle.execution.proofs.Tracing.{painted-short, painted-whole, stops-few}
 use Rattle.judge.proofs.judge_red_black.Statement.{statement}
 use Rattle.judge.proofs.judge_red_black.Tie as tie
 

@@ -9,7 +9,7 @@ use Rattle.planning.specs.Runs.{act}
 use Rattle.planning.specs.Repair.{blackMet}
 use Rattle.task.specs.Task.{factsIn, effAt, endAt, taskIn}
 use Rattle.sets.specs.Sets.{setsOf, modeOf}
-use Rattle.paths.proofs.Facts.{eff-facts, eff-inside}
+use Rattle.sets.proofs.Facts.{eff-facts, eff-inside}
 use Rattle.leads.proofs.Holding.{met-fails, met-passes, met-end}
 use Rattle.leads.proofs.adds_none.Statement.{statement}
 use Rattle.leads.proofs.adds_none.Tie as tie

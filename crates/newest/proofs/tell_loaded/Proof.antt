@@ -3,7 +3,7 @@ use mathlib.Core.Path.{refl, sym, subst}
 use native.Mathlib.Omega.{arith}
 use Rattle.answers.proofs.Stages.{passed, handed-on}
 use Rattle.entries.proofs.Lists.{list-ready}
-use Rattle.tracing.proofs.Tracing.{stops-few, runs-few}
+use Rattle.execution.proofs.Tracing.{stops-few, runs-few}
 use Rattle.newest.specs.Answers.{Tells}
 use Rattle.newest.proofs.Boards.{list-refused, room-refused, values-told}
 use Rattle.newest.proofs.tell_loaded.Statement.{statement}

@@ -6,7 +6,7 @@ use native.Mathlib.Omega.{arith}
 use Rattle.planning.specs.Runs.{act}
 use Rattle.task.specs.Task.{factsIn, effAt, endAt, taskIn}
 use Rattle.paths.specs.Paths.{anyBlack}
-use Rattle.paths.proofs.Facts.{eff-facts, eff-inside}
+use Rattle.sets.proofs.Facts.{eff-facts, eff-inside}
 use Rattle.paths.proofs.Needing.{any-here, any-later, any-end}
 use Rattle.paths.proofs.sets_black.Statement.{statement}
 use Rattle.paths.proofs.sets_black.Tie as tie

@@ -9,7 +9,7 @@ use Rattle.planning.specs.Record.{Fact}
 use Rattle.planning.specs.Runs.{touches, act}
 use Rattle.task.specs.Task.{factsIn, preAt, effAt, taskIn}
 use Rattle.sets.specs.Sets.{inSet}
-use Rattle.paths.proofs.Facts.{pre-facts, pre-inside}
+use Rattle.sets.proofs.Facts.{pre-facts, pre-inside}
 use Rattle.paths.proofs.Needing.{joined, joined-end}
 use Rattle.paths.proofs.with_needs.Statement.{statement}
 use Rattle.paths.proofs.with_needs.Tie as tie
