@@ -1,5 +1,5 @@
-// What the parts of the library answer: a check passes or refuses, a call with one number gives it or refuses. A refusal has its
-// number in the table and its place.
+// What the parts of the library answer: a check passes or refuses, a call with one number gives it or refuses,
+// planner and repair tell of a plan or refuse. A refusal has its number in the table and its place.
 ghost use mathlib.Core.Path.{_≡_};
 ghost use Rattle.answers.specs.Answers.{refusalIn, refusalOf};
 

@@ -1,5 +1,5 @@
-// A caller's relaxed plan: its relaxed run, and check 9, which is where that run stops. Judging takes the same run from where the red-black
-// one stops.
+// A caller's relaxed plan: its relaxed run, and checks 13 and 9, of which the second is where that run stops. Judging takes the same run
+// from where the red-black one stops.
 use answers::Number;
 use answers::Refusal;
 use state::Goals;

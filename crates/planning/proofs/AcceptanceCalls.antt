@@ -1,5 +1,4 @@
--- The calls beside the planner, computed: codes of the check, forward run, relaxed plan, judging, running part, sheets. Its name puts this
--- file before the laws, as that of Acceptance.antt does, so that a definition that makes a row false is refused at the row.
+-- The calls beside the planner, computed: codes of the check, forward run, relaxed plan, judging, running part, sheets.
 use Prim.Native.Nat.{ℕ}
 use mathlib.Core.Path.{_≡_, refl}
 use mathlib.Core.Bool.{Bool, true, false}

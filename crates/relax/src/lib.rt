@@ -1,4 +1,5 @@
-// The relaxed plan: backwards over the forward run, an action is kept if it first reached a needed fact. It stands where the run stood.
+// The relaxed plan of a loaded task, from its forward run, the first achievers and the way back; the call for a record. The plan stands
+// where the run stood.
 use answers::Checked;
 use answers::Number;
 use answers::Refusal;

@@ -1,5 +1,5 @@
-// The repair of a relaxed plan. Steps so far stand in the front of the plan list, the moves under construction behind them, and a pass
-// works in the same place. Passes only insert and applying only appends, so as soon as steps and moves do not fit, the whole plan does not.
+// The repair of a relaxed plan: one loop that places the next stage where every step placed is taken, and else takes and counts the next
+// step. Stages only append, so as soon as one does not fit, the whole plan does not.
 use answers::Planned;
 use asking::Inserted;
 use state::State;
