@@ -17,9 +17,9 @@ use Rattle.planning.specs.Record.{Fact, Action, Task}
 use Rattle.planning.specs.Runs.{State, has, act, step, relaxed, variables, count, initial, goals}
 use Rattle.planning.specs.Relaxed.{forwardRun, firstAchiever, is, reachedNeeded, keep, relaxedPlan}
 use Rattle.laws.proofs.Tests.{bool-same, or-l, or-r, or-cases, and-i, and-l, and-r}
-use Rattle.laws.proofs.Facts.{has-nil, has-cases}
 use Rattle.laws.proofs.Lists.{getD-zeros}
 use Rattle.laws.proofs.Formed.{Formed, Sorted, sorted-has, goals-sorted}
+use Rattle.laws.proofs.Achievers.{reachedNeeded-intro}
 use Rattle.task.specs.Task.{factOf, factsIn, preAt, effAt, actionIn, taskIn}
 use Rattle.sets.specs.Sets.{inSet, listed}
 use Rattle.sets.proofs.Members.{inSet-empty, inSet-added}
@@ -125,17 +125,7 @@ module _ (by : ℕ → ℕ → Option ℕ) (i : ℕ) where
     named : T (is i (by v d))
 
   reached-intro : (N : State) (fs : List Fact) → Reached N fs → T (reachedNeeded by N i fs)
-  unfolding reachedNeeded
-  reached-intro N [] R = absurd (has-nil (R .v) (R .d) (R .among))
-  reached-intro N (f ∷ fs) R = go (has-cases f fs (R .v) (R .d) (R .among))
-      (λ g. reached-intro N fs (record { v = R .v; d = R .d; among = g; needed′ = R .needed′; named = R .named }))
-    where
-      own : Bool
-      own = is i (by (f .var) (f .val)) && N (f .var) (f .val)
-
-      go : ((R .v ≡ f .var) × (R .d ≡ f .val)) ⊎ T (has fs (R .v) (R .d)) → (T (has fs (R .v) (R .d)) → T (reachedNeeded by N i fs)) → T (own || reachedNeeded by N i fs)
-      go (inl e) g = or-l own (reachedNeeded by N i fs) (and-i (is i (by (f .var) (f .val))) (N (f .var) (f .val)) (rw (e .0, e .1) at (R .named)) (rw (e .0, e .1) at (R .needed′)))
-      go (inr e) g = or-r own (reachedNeeded by N i fs) (g e)
+  reached-intro N fs R = reachedNeeded-intro by N i fs (R .v) (R .d) (R .among) (R .needed′) (R .named)
 
   reached-elim : (N : State) (fs : List Fact) → T (reachedNeeded by N i fs) → Reached N fs
   unfolding reachedNeeded has

@@ -84,7 +84,7 @@ module _ (act : ℕ → Action) where
   )
 
 -- an effect that the table names and that is needed has its entry kept
-reachedNeeded-intro : (by : ℕ → ℕ → Option ℕ) (N : State) (i : ℕ) (fs : List Fact) (v d : ℕ) → T (has fs v d) → T (N v d) → T (is i (by v d)) → T (reachedNeeded by N i fs)
+pub reachedNeeded-intro : (by : ℕ → ℕ → Option ℕ) (N : State) (i : ℕ) (fs : List Fact) (v d : ℕ) → T (has fs v d) → T (N v d) → T (is i (by v d)) → T (reachedNeeded by N i fs)
 unfolding reachedNeeded
 reachedNeeded-intro by N i [] v d h n k = absurd (has-nil v d h)
 reachedNeeded-intro by N i (f ∷ fs) v d h n k = go (has-cases f fs v d h) (λ g. reachedNeeded-intro by N i fs v d g n k)
