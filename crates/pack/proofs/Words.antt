@@ -30,11 +30,11 @@ module _ (w a b : ℕ) where
   pub first-marked : w ≡ 1 → bitsOf 64 ((b * 17592186044416 + a) * 32768) ≡ bitsOf (5 + 4 * (w + 10)) (b * 2 ^ (4 * (w + 10)) + a) ++ bitsOf (19 - 4 * w) 0
   first-marked z = rw z (word-bits 49 15 (b * 2 ^ 44 + a) _ refl refl)
 
-  pub second-plain : w ≡ 0 → b < 2 ^ (4 * (w + 10)) → bitsOf 64 ((a % 2097152 * 1099511627776 + b) * 8) ≡ bitsOf 61 (a * 2 ^ (4 * (w + 10)) + b) ++ bitsOf 3 0
-  second-plain z h = let l : b < 2 ^ 40 = rw z at h in rw z (word-bits 61 3 (a % 2 ^ 21 * 2 ^ 40 + b) _ refl refl ∙ rw (cut-above 21 40 a b l) refl)
+  pub second-plain : w ≡ 0 → b < 2 ^ (4 * (w + 10)) → bitsOf 64 (a * 8796093022208 % 18446744073709551616 + b * 8) ≡ bitsOf 61 (a * 2 ^ (4 * (w + 10)) + b) ++ bitsOf 3 0
+  second-plain z h = let l : b < 2 ^ 40 = rw z at h in rw z (word-bits 61 3 (a % 2 ^ 21 * 2 ^ 40 + b) _ refl (omega arith) ∙ rw (cut-above 21 40 a b l) refl)
 
-  pub second-marked : w ≡ 1 → b < 2 ^ (4 * (w + 10)) → bitsOf 64 ((a % 131072 * 17592186044416 + b) * 8) ≡ bitsOf 61 (a * 2 ^ (4 * (w + 10)) + b) ++ bitsOf 3 0
-  second-marked z h = let l : b < 2 ^ 44 = rw z at h in rw z (word-bits 61 3 (a % 2 ^ 17 * 2 ^ 44 + b) _ refl refl ∙ rw (cut-above 17 44 a b l) refl)
+  pub second-marked : w ≡ 1 → b < 2 ^ (4 * (w + 10)) → bitsOf 64 (a * 140737488355328 % 18446744073709551616 + b * 8) ≡ bitsOf 61 (a * 2 ^ (4 * (w + 10)) + b) ++ bitsOf 3 0
+  second-marked z h = let l : b < 2 ^ 44 = rw z at h in rw z (word-bits 61 3 (a % 2 ^ 17 * 2 ^ 44 + b) _ refl (omega arith) ∙ rw (cut-above 17 44 a b l) refl)
 
 -- the 53 bits before the steps as one number
 pub front-bits : (w r n c : ℕ) → w ≤ 1 → r < 2 → n < 65536 → c < 4294967296

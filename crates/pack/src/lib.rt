@@ -1,12 +1,12 @@
 // A list of steps and its marks packed into words. A mark and its step are one number, an entry, of 10 bits in edition 1 and of 11 in edition
 // 2: four of them are one number again, and with five bits before them one word.
 ghost use mathlib.Core.Path.{_≡_};
-ghost use mathlib.Core.List.{_++_};
-ghost use Prim.Native.Nat.{ℕ, suc, _+_, _-_, _*_, _^_, _<_, _≤_};
+ghost use mathlib.Core.List.{List, _++_};
+ghost use Prim.Native.Nat.{ℕ, suc, _+_, _-_, _*_, _/_, _%_, _^_, _<_, _≤_};
 ghost use lib.ListN.{length, getD};
 ghost use Rattle.planning.specs.Basics.{oneIf};
 ghost use Rattle.planning.specs.Sheet.{bitsOf, markOf};
-ghost use Rattle.pack.specs.Fields.{entries, fourOf, FourAt};
+ghost use Rattle.pack.specs.Fields.{entries, fourOf, FourAt, halvesOf, FourTops};
 
 fn wide(x: u16) -> u64
     ensures { λ r. ⌜ (r ≡ x) × (r < 65536) ⌝ }
@@ -86,23 +86,48 @@ fn plain_four(list: &[u16], i: usize) -> u64
         + wide(list[i + 3])
 }
 
-// A step behind its mark of one bit.
-fn marked(byte: u8, step: u16) -> u64
-    requires { ⌜ step < 1024 ⌝ }
-    ensures { λ r. ⌜ (r ≡ markOf 2 byte * 1024 + step) × (r < 2048) ⌝ }
+// Half of each of the low four bytes, rounded down.
+fn halves(x: u64) -> u64
+    ensures { λ r. ⌜ r ≡ halvesOf x ⌝ }
 {
-    (wide_byte(byte) + 255) / 256 * 1024 + wide(step)
+    (x >> 25) % 128 * 16777216 + (x >> 17) % 128 * 65536 + (x >> 9) % 128 * 256 + (x >> 1) % 128
 }
 
-// Four steps with marks.
-fn marked_four(list: &[u16], marks: &[u8], i: usize) -> u64
-    requires { ⌜ (i + 4 ≤ length (now list)) × (i + 4 ≤ length (now marks)) × ((k : ℕ) → getD (now list) k 0 < 1024) ⌝ }
-    ensures { λ r. ⌜ (r ≡ fourOf 11 (entries 2 (now (list .entry)) (now (marks .entry))) i) × (r < 17592186044416) ⌝ }
+// Eight marks, the first one highest: the top bit of each byte says whether its mark is another than 0. Half of a mark, rounded up, and 127
+// stay within the byte.
+fn tops_at(marks: &[u8], i: usize) -> u64
+    requires { ⌜ i + 8 ≤ length (now marks) ⌝ }
+    ensures { λ r. ⌜ FourTops (now (marks .entry)) i (r / 4294967296) × FourTops (now (marks .entry)) (i + 4) r ⌝ }
 {
-    marked(marks[i], list[i]) * 8589934592
-        + marked(marks[i + 1], list[i + 1]) * 4194304
-        + marked(marks[i + 2], list[i + 2]) * 2048
-        + marked(marks[i + 3], list[i + 3])
+    let x = bits::long_word(marks, i);
+    x - (halves(x >> 32) * 4294967296 + halves(x)) + 9187201950435737471
+}
+
+// The top bits of four bytes, each at the first bit of a field of 11: moved by one product, in which no two bits meet.
+fn moved(x: u64) -> u64
+    ensures { λ r. ⌜ r ≡ x / 2147483648 % 2 * 8796093022208 + x / 8388608 % 2 * 4294967296 + x / 32768 % 2 * 2097152 + x / 128 % 2 * 1024 ⌝ }
+{
+    let tops = (x >> 31) % 2 * 2147483648
+        + (x >> 23) % 2 * 8388608
+        + (x >> 15) % 2 * 32768
+        + (x >> 7) % 2 * 128;
+    let p = tops * 4680;
+    (p >> 43) % 2 * 8796093022208
+        + (p >> 32) % 2 * 4294967296
+        + (p >> 21) % 2 * 2097152
+        + (p >> 10) % 2 * 1024
+}
+
+// Four steps behind the marks of which these are the top bits.
+fn marked_four(list: &[u16], i: usize, tops: u64) -> u64
+    requires { ⌜ (i + 4 ≤ length (now list)) × ((k : ℕ) → getD (now list) k 0 < 1024) ⌝ }
+    ensures { λ r. ⌜ ((ms : List ℕ) → FourTops ms i tops → r ≡ fourOf 11 (entries 2 (now (list .entry)) ms) i) × (r < 17592186044416) ⌝ }
+{
+    wide(list[i]) * 8589934592
+        + wide(list[i + 1]) * 4194304
+        + wide(list[i + 2]) * 2048
+        + wide(list[i + 3])
+        + moved(tops)
 }
 
 // Eight entries, four in a number.
@@ -123,9 +148,10 @@ pub fn eight_at(list: &[u16], marks: &[u8], mark: usize, i: usize) -> Eight
         };
     }
     if i + 8 <= marks.len() {
+        let tops = tops_at(marks, i);
         return Eight {
-            first: marked_four(list, marks, i),
-            second: marked_four(list, marks, i + 4),
+            first: marked_four(list, i, tops >> 32),
+            second: marked_four(list, i + 4, tops),
         };
     }
     Eight {
@@ -151,7 +177,7 @@ pub fn second_word(mark: usize, a: u64, b: u64) -> u64
     ensures { λ r. ⌜ bitsOf 64 r ≡ bitsOf 61 (a * 2 ^ (4 * (mark + 10)) + b) ++ bitsOf 3 0 ⌝ }
 {
     if mark == 0 {
-        return (a % 2097152 * 1099511627776 + b) * 8;
+        return (a << 43) + b * 8;
     }
-    (a % 131072 * 17592186044416 + b) * 8
+    (a << 47) + b * 8
 }

@@ -3,23 +3,25 @@ use sheet::Reading;
 ghost use mathlib.Core.Path.{_≡_};
 ghost use mathlib.Core.List.{_++_};
 ghost use Prim.Native.Nat.{_+_, _-_, _*_, _≤_};
-ghost use lib.ListN.{length, replicate};
+ghost use lib.ListN.{length, take, replicate};
 ghost use Rattle.planning.specs.Basics.{done};
-ghost use Rattle.planning.specs.Sheet.{marksAt};
+ghost use Rattle.planning.specs.Sheet.{stepsAt, marksAt};
 ghost use Rattle.planning.specs.Calls.{Read, readCall, readList, readMarks};
 ghost use Rattle.sheet.specs.Answers.{handedOut, readingAs};
 ghost use Rattle.sheet.specs.Again.{WritesAs};
 
-// The marks of a sheet in front of the area and zeros behind them; in edition 1 zeros throughout.
-fn show_marks(bytes: &[u8], mark: usize, steps: usize, marks: &mut [u8])
-    requires { ⌜ (mark ≤ 1) × (steps ≤ 32768) × (steps ≤ length (now marks)) × (53 + (mark + 10) * steps ≤ 8 * length (now bytes)) ⌝ }
+// The steps of a sheet in front of the list, its marks in front of the area and zeros behind them; in edition 1 zeros throughout.
+fn unfold(bytes: &[u8], mark: usize, steps: usize, list: &mut [u16], marks: &mut [u8])
+    requires { ⌜ (mark ≤ 1) × (steps ≤ 32768) × (steps ≤ length (now list)) × (steps ≤ length (now marks)) × (53 + (mark + 10) * steps ≤ 8 * length (now bytes)) ⌝ }
+    ensures { λ _. ⌜ take steps (now (list .exit)) ≡ stepsAt (now (bytes .entry)) mark 53 steps ⌝ }
     ensures { λ _. ⌜ now (marks .exit) ≡ marksAt (now (bytes .entry)) mark 53 steps ++ replicate (length (now (marks .entry)) - steps) 0 ⌝ }
 {
     if mark == 0 {
+        unpack::read_steps(bytes, steps, list);
         lists::clear(marks);
         return;
     }
-    unpack::read_marks(bytes, steps, marks);
+    unpack::read_marked(bytes, steps, list, marks);
     lists::clear_from(marks, steps);
 }
 
@@ -45,8 +47,7 @@ pub fn read(bytes: &[u8], list: &mut [u16], marks: &mut [u8]) -> Reading
     };
     let count = steps as usize;
     let mark = sheet::mark_width(edition);
-    unpack::read_steps(bytes, mark, count, list);
+    unfold(bytes, mark, count, list, marks);
     lists::blank_from(list, count);
-    show_marks(bytes, mark, count, marks);
     a
 }

@@ -74,6 +74,9 @@ module _ (f : ℕ → ℕ) (d n : ℕ) where
         let k : n - n ≡ 0 = omega arith in
         sym (g .so-far ∙ rw (e, k, append-nil) refl)
 
+pub eight-more : (i : ℕ) → i % 8 ≡ 0 → (i + 8) % 8 ≡ 0
+eight-more i e = omega arith
+
 -- the byte in which an eight starts, behind five bits
 five-behind : (n : ℕ) → 8 * ((53 + 8 * n) / 8) ≡ 48 + 8 * n
 five-behind n = omega arith

@@ -7,7 +7,7 @@ ghost use lib.ListN.{length, take};
 ghost use Rattle.planning.specs.Basics.{bitsAt};
 ghost use Rattle.planning.specs.Sheet.{stepsAt, marksAt};
 ghost use Rattle.lists.specs.Four.{Spread};
-ghost use Rattle.unpack.specs.Begun.{Begun};
+ghost use Rattle.unpack.specs.Begun.{Begun, MarksBegun};
 
 // The steps from a place on, one by one.
 fn read_each(bytes: &[u8], mark: usize, from: usize, steps: usize, list: &mut [u16])
@@ -68,17 +68,17 @@ fn spread(word: u64, mark: usize) -> u64
     lanes(word / 4194304 + word % 4294967296 * 4294967296, 1)
 }
 
-// Steps of a sheet, eight a turn as long as two more follow, so that whole words can be loaded: how many. Where an eight starts is worked out
-// in each turn, as the compiler would else turn bytes round two words at a time, which is slower.
-fn read_eights(bytes: &[u8], mark: usize, steps: usize, list: &mut [u16]) -> usize
-    requires { ⌜ (mark ≤ 1) × (steps ≤ 32768) × (steps ≤ length (now list)) × (53 + (mark + 10) * steps ≤ 8 * length (now bytes)) ⌝ }
-    ensures { λ r. ⌜ Begun (now (bytes .entry)) mark steps (now (list .exit)) r ⌝ }
+// Steps of a sheet of edition 1, eight a turn as long as two more follow, so that whole words can be loaded: how many. Where an eight starts
+// is worked out in each turn, as the compiler would else turn bytes round two words at a time, which is slower.
+fn read_eights(bytes: &[u8], steps: usize, list: &mut [u16]) -> usize
+    requires { ⌜ (steps ≤ 32768) × (steps ≤ length (now list)) × (53 + 10 * steps ≤ 8 * length (now bytes)) ⌝ }
+    ensures { λ r. ⌜ Begun (now (bytes .entry)) 0 steps (now (list .exit)) r ⌝ }
 {
     let mut i: usize = 0;
     while i + 10 <= steps {
-        let at = (53 + (mark + 10) * i) / 8;
-        let a = spread(first_four(bytes, at, mark), mark);
-        let b = spread(second_four(bytes, at, mark), mark);
+        let at = (53 + 10 * i) / 8;
+        let a = spread(first_four(bytes, at, 0), 0);
+        let b = spread(second_four(bytes, at, 0), 0);
         lists::put_four(list, i, a);
         lists::put_four(list, i + 4, b);
         i += 8;
@@ -86,24 +86,13 @@ fn read_eights(bytes: &[u8], mark: usize, steps: usize, list: &mut [u16]) -> usi
     i
 }
 
-// The same, the widths told apart: the compiler makes a loop of each.
-fn read_front(bytes: &[u8], mark: usize, steps: usize, list: &mut [u16]) -> usize
-    requires { ⌜ (mark ≤ 1) × (steps ≤ 32768) × (steps ≤ length (now list)) × (53 + (mark + 10) * steps ≤ 8 * length (now bytes)) ⌝ }
-    ensures { λ r. ⌜ Begun (now (bytes .entry)) mark steps (now (list .exit)) r ⌝ }
+// The steps of a sheet of edition 1: eight a turn, and the rest one by one.
+pub fn read_steps(bytes: &[u8], steps: usize, list: &mut [u16])
+    requires { ⌜ (steps ≤ 32768) × (steps ≤ length (now list)) × (53 + 10 * steps ≤ 8 * length (now bytes)) ⌝ }
+    ensures { λ _. ⌜ take steps (now (list .exit)) ≡ stepsAt (now (bytes .entry)) 0 53 steps ⌝ }
 {
-    if mark == 0 {
-        return read_eights(bytes, 0, steps, list);
-    }
-    read_eights(bytes, 1, steps, list)
-}
-
-// The steps of a sheet: eight a turn, and the rest one by one.
-pub fn read_steps(bytes: &[u8], mark: usize, steps: usize, list: &mut [u16])
-    requires { ⌜ (mark ≤ 1) × (steps ≤ 32768) × (steps ≤ length (now list)) × (53 + (mark + 10) * steps ≤ 8 * length (now bytes)) ⌝ }
-    ensures { λ _. ⌜ take steps (now (list .exit)) ≡ stepsAt (now (bytes .entry)) mark 53 steps ⌝ }
-{
-    let i = read_front(bytes, mark, steps, list);
-    read_each(bytes, mark, i, steps, list);
+    let i = read_eights(bytes, steps, list);
+    read_each(bytes, 0, i, steps, list);
 }
 
 // The marks of four entries of 11 bits, a byte each, the first one highest: moved by one product, in which no two bits meet.
@@ -133,19 +122,33 @@ fn read_each_mark(bytes: &[u8], from: usize, steps: usize, marks: &mut [u8])
     }
 }
 
-// The marks of a sheet of edition 2: eight a turn, and the rest one by one.
-pub fn read_marks(bytes: &[u8], steps: usize, marks: &mut [u8])
-    requires { ⌜ (steps ≤ 32768) × (steps ≤ length (now marks)) × (53 + 11 * steps ≤ 8 * length (now bytes)) ⌝ }
-    ensures { λ _. ⌜ take steps (now (marks .exit)) ≡ marksAt (now (bytes .entry)) 1 53 steps ⌝ }
+// Steps and marks of a sheet of edition 2 in the same way, both out of the same words.
+fn read_both(bytes: &[u8], steps: usize, list: &mut [u16], marks: &mut [u8]) -> usize
+    requires { ⌜ (steps ≤ 32768) × (steps ≤ length (now list)) × (steps ≤ length (now marks)) × (53 + 11 * steps ≤ 8 * length (now bytes)) ⌝ }
+    ensures { λ r. ⌜ Begun (now (bytes .entry)) 1 steps (now (list .exit)) r × MarksBegun (now (bytes .entry)) steps (now (marks .exit)) r ⌝ }
 {
-    let mut at: usize = 6;
     let mut i: usize = 0;
     while i + 10 <= steps {
-        let a = gather(first_four(bytes, at, 1));
-        let b = gather(second_four(bytes, at, 1));
-        bits::put_word(marks, i, a * 4294967296 + b);
-        at += 11;
+        let at = (53 + 11 * i) / 8;
+        let a = first_four(bytes, at, 1);
+        let b = second_four(bytes, at, 1);
+        let first = spread(a, 1);
+        let second = spread(b, 1);
+        let shown = gather(a) * 4294967296 + gather(b);
+        lists::put_four(list, i, first);
+        lists::put_four(list, i + 4, second);
+        bits::put_word(marks, i, shown);
         i += 8;
     }
+    i
+}
+
+// Steps and marks of a sheet of edition 2: eight a turn, and the rest one by one.
+pub fn read_marked(bytes: &[u8], steps: usize, list: &mut [u16], marks: &mut [u8])
+    requires { ⌜ (steps ≤ 32768) × (steps ≤ length (now list)) × (steps ≤ length (now marks)) × (53 + 11 * steps ≤ 8 * length (now bytes)) ⌝ }
+    ensures { λ _. ⌜ (take steps (now (list .exit)) ≡ stepsAt (now (bytes .entry)) 1 53 steps) × (take steps (now (marks .exit)) ≡ marksAt (now (bytes .entry)) 1 53 steps) ⌝ }
+{
+    let i = read_both(bytes, steps, list, marks);
+    read_each(bytes, 1, i, steps, list);
     read_each_mark(bytes, i, steps, marks);
 }

@@ -29,6 +29,9 @@ returns c =
 add-if2 : tie.Need-add-if2
 add-if2 c = search needs
 
+tops-at-requires : tie.Need-tops-at-requires
+tops-at-requires c κs = search needs
+
 marked-four-requires : tie.Need-marked-four-requires
 marked-four-requires c κs = search needs
 
@@ -40,9 +43,13 @@ marked-four-requires-2 c κs = search needs
 
 returns-2 : tie.Need-returns-2
 returns-2 c =
-    let o = c .before .before .before .before .before .before in
+    let at-tops = c .before .before in
+    let o = at-tops .before .before .before .before .before in
     let z : o .args .mark ≡ 1 = omega (arith, o .pre .0) in
-    (rw z (c .before .marked-four .ensures), rw z (c .marked-four2 .ensures))
+    let t = at-tops .tops-at .ensures in
+    let a = c .before .marked-four .ensures in
+    let b = c .marked-four2 .ensures in
+    (rw z (a .0 _ (t .0), a .1), rw z (b .0 _ (t .1), b .1))
 
 any-four-requires : tie.Need-any-four-requires
 any-four-requires c κs = search needs
@@ -65,6 +72,7 @@ eight-at-spec =
     plain-four-requires-2
     returns
     add-if2
+    tops-at-requires
     marked-four-requires
     add-marked-four
     marked-four-requires-2

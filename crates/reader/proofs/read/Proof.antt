@@ -96,23 +96,16 @@ cast-count c = search needs
 mark-width-requires : tie.Need-mark-width-requires
 mark-width-requires c κs = search needs
 
-read-steps-requires : tie.Need-read-steps-requires
-read-steps-requires c κs =
-    let at-known-told = c .before .before in
+unfold-requires : tie.Need-unfold-requires
+unfold-requires c κs =
+    let at-mark-width = c .before .before in
+    let at-known-told = at-mark-width .before in
     let h = held at-known-told in
     let e = steps-are at-known-told in
-    (c .before .mark-width .ensures .1, omega (arith, e, accepted _ (h .ok) .few), omega (arith, e, h .list-room), fits (c .before))
+    (at-mark-width .mark-width .ensures .1, omega (arith, e, accepted _ (h .ok) .few), omega (arith, e, h .list-room), omega (arith, e, h .mark-room), fits at-mark-width)
 
 blank-from-requires : tie.Need-blank-from-requires
 blank-from-requires c κs = search needs
-
-show-marks-requires : tie.Need-show-marks-requires
-show-marks-requires c κs =
-    let at-read-steps = c .before .before .before .before .before .before .before in
-    let at-mark-width = at-read-steps .before .before in
-    let h = held (at-mark-width .before) in
-    let e = steps-are (at-mark-width .before) in
-    (at-mark-width .mark-width .ensures .1, omega (arith, e, accepted _ (h .ok) .few), omega (arith, e, h .mark-room), fits at-mark-width)
 
 same-length-3 : tie.Need-same-length-3
 same-length-3 c = search needs
@@ -131,24 +124,24 @@ marks-laid s m w v k j x e = rw (x, e) refl
 returns-2 : tie.Need-returns-2
 unfolding readingAs
 returns-2 c =
-    let at-blank-from = c .before .before .before .before .before .before in
-    let at-read-steps = at-blank-from .before .before .before .before in
-    let at-mark-width = at-read-steps .before .before in
+    let at-blank-from = c .before .before in
+    let at-unfold = at-blank-from .before .before .before .before .before .before in
+    let at-mark-width = at-unfold .before .before .before in
     let at-known-told = at-mark-width .before in
     let o = known-told-to-start at-known-told .args in
     let s = o .bytes .now in
     let n = length (o .list .now) in
     let m = length (o .marks .now) in
-    let d = at-read-steps .read-steps .last .1 .1 .1 .0 in
+    let d = at-unfold .unfold .last .1 .1 .1 .0 in
     let w = called at-known-told in
     let h = held at-known-told in
     let l : length d ≡ n = search needs in
     let x = width-is at-mark-width in
     let e = steps-are at-known-told in
     let q : at-blank-from .blank-from .last .0 ≡ stepsAt s (markWidth (editionIn s)) 53 (stepsIn s) ++ replicate (n - stepsIn s) 65535 =
-    at-blank-from .blank-from .ensures ∙ steps-laid s d n _ _ _ _ (at-read-steps .read-steps .ensures) l x e in
-    let r : c .before .before .show-marks .last .1 .1 .1 .0 ≡ marksAt s (markWidth (editionIn s)) 53 (stepsIn s) ++ replicate (m - stepsIn s) 0 =
-    c .before .before .show-marks .ensures ∙ marks-laid s m _ _ _ _ x e in
+    at-blank-from .blank-from .ensures ∙ steps-laid s d n _ _ _ _ (at-unfold .unfold .ensures .0) l x e in
+    let r : at-unfold .unfold .last .1 .1 .1 .1 .0 ≡ marksAt s (markWidth (editionIn s)) 53 (stepsIn s) ++ replicate (m - stepsIn s) 0 =
+    at-unfold .unfold .ensures .1 ∙ marks-laid s m _ _ _ _ x e in
     let p = read-done s n m _ _ (rw (h .is) at w) (h .ok) (λ i. omega (arith, at-known-told .before .before .before .before .before .before .before .shared-slice-known .given i)) q r in
     (sym w, (p .list, (p .marks, λ k z. p .again k (w ∙ z))))
 
@@ -167,9 +160,8 @@ read-spec =
     returns
     cast-count
     mark-width-requires
-    read-steps-requires
+    unfold-requires
     blank-from-requires
-    show-marks-requires
     same-length-3
     same-length-4
     returns-2)

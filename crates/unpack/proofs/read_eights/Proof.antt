@@ -3,29 +3,24 @@ use mathlib.Core.Path.{_≡_, _∙_}
 use Prim.Native.Nat.{_+_, _*_, _/_, _%_, _-_, _≤_}
 use native.Mathlib.Omega.{arith}
 use lib.ListN.{length}
-use Rattle.unpack.proofs.Copying.{Copying, copying-none, copying-more, eight-starts, eight-held, four-stored}
-use Rattle.sheet.proofs.Widths.{marks-few}
+use Rattle.unpack.proofs.Copying.{Copying, copying-none, copying-more, eight-starts, eight-held, eight-more, four-stored}
 use Rattle.sheet.proofs.Rows.{row, stepAt, stepsAt-row}
 use borrow.Author.Needs.{needs}
 use Rattle.unpack.proofs.read_eights.Statement.{statement}
 use Rattle.unpack.proofs.read_eights.Tie as tie
 
 abbrev Inv-loop : tie.InvT-loop
-Inv-loop bytes mark steps list₀ i₀ list i = Copying (stepAt bytes mark) (mark + 10) steps (row (stepAt bytes mark) (mark + 10) 53 steps) list₀ list i × (i % 8 ≡ 0)
+Inv-loop bytes steps list₀ i₀ list i = Copying (stepAt bytes 0) 10 steps (row (stepAt bytes 0) 10 53 steps) list₀ list i × (i % 8 ≡ 0)
 
 abbrev μ-loop : tie.MeasureT-loop
-μ-loop bytes mark steps list₀ i₀ list i = steps - i
+μ-loop bytes steps list₀ i₀ list i = steps - i
 
 -- where the eight starts; ten entries are held from there on
-starts : (c : tie.In-loop Inv-loop μ-loop) → let w = c .before .before .before .before .args .mark in let i = c .before .loop .i in 8 * ((53 + (w + 10) * i) / 8) ≡ 48 + (w + 10) * i
-starts c = eight-starts _ _ (c .before .loop .inv .1)
+starts : (c : tie.In-loop Inv-loop μ-loop) → let i = c .before .loop .i in 8 * ((53 + 10 * i) / 8) ≡ 48 + 10 * i
+starts c = eight-starts 0 _ (c .before .loop .inv .1)
 
-held : (c : tie.In-loop Inv-loop μ-loop)
-    → let o = c .before .before .before .before .args in (53 + (o .mark + 10) * c .before .loop .i) / 8 + o .mark + 13 ≤ length (o .bytes .now)
-held c = eight-held _ (c .before .loop .i) (c .before .before .before .before .args .steps) _ _ (omega arith) (omega arith) (omega arith) (starts c)
-
-few : (c : tie.In-loop Inv-loop μ-loop) → c .before .before .before .before .args .mark * c .before .loop .i ≤ 32768
-few c = marks-few _ _ (omega arith) (omega arith)
+held : (c : tie.In-loop Inv-loop μ-loop) → let o = c .before .before .before .before .args in (53 + 10 * c .before .loop .i) / 8 + 0 + 13 ≤ length (o .bytes .now)
+held c = eight-held 0 (c .before .loop .i) (c .before .before .before .before .args .steps) _ _ (omega arith) (omega arith) (omega arith) (starts c)
 
 loop-holds : tie.Need-loop-holds Inv-loop μ-loop
 loop-holds c = (copying-none _ _ _ _ (omega arith), omega arith)
@@ -33,14 +28,11 @@ loop-holds c = (copying-none _ _ _ _ (omega arith), omega arith)
 add-loop : tie.Need-add-loop Inv-loop μ-loop
 add-loop c = search needs
 
+mul-at : tie.Need-mul-at Inv-loop μ-loop
+mul-at c = search needs
+
 add-at : tie.Need-add-at Inv-loop μ-loop
 add-at c = search needs
-
-mul-at : tie.Need-mul-at Inv-loop μ-loop
-mul-at c = omega (arith, few c)
-
-add-at-2 : tie.Need-add-at-2 Inv-loop μ-loop
-add-at-2 c = omega (arith, few c)
 
 first-four-requires : tie.Need-first-four-requires Inv-loop μ-loop
 first-four-requires c κs = (omega arith, omega (arith, held c))
@@ -77,22 +69,20 @@ loop-again c =
     let at-spread = at-spread2 .before .before in
     let in-loop = at-spread .before .before in
     let at-loop = in-loop .before in
-    let o = at-loop .before .before .before .args in
-    let s = o .bytes .now in
-    let w = o .mark in
+    let s = at-loop .before .before .before .args .bytes .now in
     let i = at-loop .loop .i in
-    let at = (53 + (w + 10) * i) / 8 in
+    let at = (53 + 10 * i) / 8 in
     let xs = at-loop .loop .list in
     let ys = at-put-four .put-four .last .0 in
     let b = starts in-loop in
-    let p = four-stored s w (at * 8) (5 + 4 * (w + 10)) _ (53 + (w + 10) * i) (at-spread .before .first-four .ensures .0) (omega (arith, b)) (omega (arith, b)) xs i _
+    let p = four-stored s 0 (at * 8) 45 _ (53 + 10 * i) (at-spread .before .first-four .ensures .0) (omega (arith, b)) (omega (arith, b)) xs i _
     (omega arith) (at-spread .spread .ensures) in
     let g = copying-more _ _ _ _ _ _ _ (at-loop .loop .inv .0) 4 ys (omega arith) (search needs) (at-put-four .put-four .ensures ∙ p) in
-    let q = four-stored s w ((at + w + 5) * 8) 45 _ (53 + (w + 10) * (i + 4)) (at-spread2 .before .second-four .ensures .0) (omega (arith, b)) (omega (arith, b)) ys (i + 4) _
+    let q = four-stored s 0 ((at + 0 + 5) * 8) 45 _ (53 + 10 * (i + 4)) (at-spread2 .before .second-four .ensures .0) (omega (arith, b)) (omega (arith, b)) ys (i + 4) _
     (omega (arith, g .long)) (at-spread2 .spread2 .ensures) in
     let h = copying-more _ _ _ _ _ _ _ g 4 _ (omega arith) (search needs) (at-put-four2 .put-four2 .ensures ∙ q) in
     let e : i + 4 + 4 ≡ i + 8 = omega arith in
-    (rw e at h, omega arith)
+    (rw e at h, eight-more i (at-loop .loop .inv .1))
 
 same-length : tie.Need-same-length Inv-loop μ-loop
 same-length c = search needs
@@ -108,9 +98,8 @@ read-eights-spec =
     μ-loop
     loop-holds
     add-loop
-    add-at
     mul-at
-    add-at-2
+    add-at
     first-four-requires
     spread-requires
     second-four-requires

@@ -4,8 +4,8 @@ use borrow.Author.Needs.{needs}
 use Rattle.unpack.proofs.read_steps.Statement.{statement}
 use Rattle.unpack.proofs.read_steps.Tie as tie
 
-read-front-requires : tie.Need-read-front-requires
-read-front-requires c κs = search needs
+read-eights-requires : tie.Need-read-eights-requires
+read-eights-requires c κs = search needs
 
 read-each-requires : tie.Need-read-each-requires
 read-each-requires c κs = search needs
@@ -14,7 +14,7 @@ same-length : tie.Need-same-length
 same-length c = search needs
 
 returns : tie.Need-returns
-returns c = let at-each = c .before .before in at-each .read-each .ensures ∙ sym (at-each .before .before .before .before .read-front .ensures .1)
+returns c = let at-each = c .before .before in at-each .read-each .ensures ∙ sym (at-each .before .before .before .before .read-eights .ensures .1)
 
 pub read-steps-spec : {M : Type 1} → statement M
-read-steps-spec = tie.close (tie.spec read-front-requires read-each-requires same-length returns)
+read-steps-spec = tie.close (tie.spec read-eights-requires read-each-requires same-length returns)
