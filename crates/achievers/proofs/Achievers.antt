@@ -1,10 +1,10 @@
 -- How first achievers are noted: by an action, by the run from its end, and for the initial facts.
 use mathlib.Core.Path.{_≡_, refl, sym, ap, _∙_}
 use mathlib.Core.Logic.{_≢_}
-use mathlib.Core.Bool.{Bool, true, false, not, _&&_, _||_, or-true, and-false}
+use mathlib.Core.Bool.{Bool, true, false, not, _&&_, _||_, and-false}
 use mathlib.Core.List.{List, [], _∷_}
-use mathlib.Core.Option.{Option, none, some}
-use Prim.Native.Nat.{ℕ, zero, suc, _+_, _-_, _*_, _/_, _%_, _<_, _≤_}
+use mathlib.Core.Option.{Option, some}
+use Prim.Native.Nat.{ℕ, _+_, _-_, _*_, _/_, _%_, _<_, _≤_}
 use native.Mathlib.Numerals.{add-one}
 use native.Mathlib.Omega.{arith}
 use native.Mathlib.Decide.{ℕ-discrete, decLt}
@@ -17,7 +17,6 @@ use Rattle.planning.specs.Runs.{State, has, touches, step, relaxed, actions, ac
 use Rattle.planning.specs.Relaxed.{forwardRun, firstAchiever}
 use Rattle.laws.proofs.Achievers.{firstAchiever-held}
 use Rattle.laws.proofs.Tests.{T→true, F→false, and-l, and-r}
-use Rattle.laws.proofs.Steps.{All}
 use Rattle.laws.proofs.Formed.{Formed, initial-holds, initial-elim}
 use Rattle.laws.proofs.Forward.{forwardRun-ran}
 use Rattle.laws.proofs.Lists.{all-at}

@@ -5,9 +5,9 @@ use mathlib.Core.List.{List, [], _∷_, _++_}
 use mathlib.Core.Option.{Option, none, some}
 use Prim.Native.Nat.{ℕ, _<_}
 use lib.Dec.{ltb}
-use lib.ListN.{length, getD}
+use lib.ListN.{length}
 use Rattle.planning.specs.Record.{Fact, Task}
-use Rattle.planning.specs.Runs.{look, actions, count}
+use Rattle.planning.specs.Runs.{look, count}
 use Rattle.paths.specs.Paths.{Put}
 use Rattle.paths.specs.declared.Written.{Written}
 use Rattle.paths.specs.declared.Written.the-variants.{Upto, Long}

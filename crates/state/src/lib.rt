@@ -2,7 +2,7 @@
 // and hands the next one back whole. The goals of a task stand here too, as facts.
 use task::Goal;
 ghost use mathlib.Core.Path.{_≡_};
-ghost use Prim.Native.Nat.{_+_, _*_, _/_, _%_, _<_};
+ghost use Prim.Native.Nat.{_/_, _%_, _<_};
 ghost use lib.ListN.{length, set};
 ghost use Rattle.planning.specs.Runs.{actions, act, step, initial, relaxed, size};
 ghost use Rattle.planning.specs.Newest.{initialValues, newer};

@@ -1,6 +1,6 @@
 // The loaded task: one list of numbers that states the task of an accepted record. Its readers, and the writers of its parts.
 ghost use mathlib.Core.Path.{_≡_};
-ghost use Prim.Native.Nat.{_+_, _*_, _%_, _<_, _≤_};
+ghost use Prim.Native.Nat.{_+_, _*_, _<_, _≤_};
 ghost use lib.ListN.{length, getD, set};
 ghost use Rattle.planning.specs.Runs.{variables, actions, variable, count, black};
 ghost use Rattle.task.specs.Task.{orderFrom, linksEnd, taskIn, Heads, Loaded, costAt, preAt, effAt, endAt};
