@@ -23,7 +23,7 @@ use Rattle.laws.proofs.Below.{First?, first-is, some-intro, some-elim}
 use Rattle.laws.proofs.Painting.{black-inside}
 use Rattle.sets.specs.Sets.{inSet, setsOf, modeOf}
 use Rattle.sets.proofs.Members.{inSet-empty, inSet-single, inSet-and, inSet-xor, xor}
-use Rattle.task.specs.Task.{cell, taskIn}
+use Rattle.task.specs.Task.{cell, taskIn, orderFrom, nextsFrom, linksEnd}
 use Rattle.task.specs.Links.{orderIn}
 use Rattle.clients_first.specs.Order.{Filled, Ordered}
 use Rattle.graph.proofs.Searches.{false-not, first-same, some-lacks}
@@ -62,21 +62,21 @@ unfolding blackArc
 end-black t v u a = search (and-l, and-r)
 
 -- one more place of the order is written
-slice-more : (task : List ℕ) (k v : ℕ) → 260 + k < length task → slice 260 (260 + (k + 1)) (set task (260 + k) v) ≡ slice 260 (260 + k) task ++ (v ∷ [])
+slice-more : (task : List ℕ) (k v : ℕ) → orderFrom + k < length task → slice orderFrom (orderFrom + (k + 1)) (set task (orderFrom + k) v) ≡ slice orderFrom (orderFrom + k) task ++ (v ∷ [])
 slice-more task k v h =
-    let e : 260 + (k + 1) ≡ suc (260 + k) = omega arith in
-    rw (e, take-suc-set task (260 + k) v h) (drop-append-le 260 (take (260 + k) task) (v ∷ []) (rw (length-take-le (260 + k) task (omega arith)) (omega arith)))
+    let e : orderFrom + (k + 1) ≡ suc (orderFrom + k) = omega arith in
+    rw (e, take-suc-set task (orderFrom + k) v h) (drop-append-le orderFrom (take (orderFrom + k) task) (v ∷ []) (rw (length-take-le (orderFrom + k) task (omega arith)) (omega arith)))
 
 -- the first k are taken, and `left` has the others; `task` is the list with their places written
 pub record Taking (t : Task) (n : ℕ) (task₀ task : List ℕ) (left k : ℕ) : Type 0 where
   pub within : k ≤ n
   pub few : n ≤ 64
-  pub room : 1348 ≤ length task₀
+  pub room : linksEnd ≤ length task₀
   pub long : length task ≡ length task₀
-  pub kept : (j : ℕ) → (j < 260) ⊎ (324 ≤ j) → getD task j 0 ≡ getD task₀ j 0
+  pub kept : (j : ℕ) → (j < orderFrom) ⊎ (nextsFrom ≤ j) → getD task j 0 ≡ getD task₀ j 0
   pub taken : ℕ → Bool
   pub still : (u : ℕ) → inSet left u ≡ (black t u && not (taken u))
-  pub so-far : slice 260 (260 + k) task ++ clientsFirst n (blackArc t) (black t) (n - k) taken ≡ order t
+  pub so-far : slice orderFrom (orderFrom + k) task ++ clientsFirst n (blackArc t) (black t) (n - k) taken ≡ order t
 
 module _ (t : Task) (rows : List ℕ) (n : ℕ) (arcs : setsOf rows ≡ blackArc t) (all : n ≡ variables t) where
   -- the test that the code makes of a variable of `left`
@@ -113,7 +113,7 @@ module _ (t : Task) (rows : List ℕ) (n : ℕ) (arcs : setsOf rows ≡ blackArc
   unfolding clientsFirst
   takes-one j taken v e = rw (clientsFirst, e) refl
 
-  pub taking-start : (task : List ℕ) (paint : ℕ) → modeOf paint ≡ black t → n ≤ 64 → 1348 ≤ length task → Taking t n task task paint 0
+  pub taking-start : (task : List ℕ) (paint : ℕ) → modeOf paint ≡ black t → n ≤ 64 → linksEnd ≤ length task → Taking t n task task paint 0
   unfolding modeOf order
   taking-start task paint e b room = record {
     within = omega arith;
@@ -123,7 +123,7 @@ module _ (t : Task) (rows : List ℕ) (n : ℕ) (arcs : setsOf rows ≡ blackArc
     kept = λ j h. refl;
     taken = λ _. false;
     still = λ u. ap (λ (g : ℕ → Bool). g u) e ∙ sym (and-true (black t u));
-    so-far = let z : n - 0 ≡ n = omega arith in rw (z, slice-empty 260 task, all) refl;
+    so-far = let z : n - 0 ≡ n = omega arith in rw (z, slice-empty orderFrom task, all) refl;
   }
 
   module _ (task₀ task : List ℕ) (left k : ℕ) (P : Taking t n task₀ task left k) where
@@ -144,23 +144,23 @@ module _ (t : Task) (rows : List ℕ) (n : ℕ) (arcs : setsOf rows ≡ blackArc
             (omega (arith, f .below), subst (λ (x : ℕ). T (inSet left x)) i (subst T (sym (P .still w)) l))
 
     pub taking-turn : k < n → (v w : ℕ) (task′ : List ℕ) → some v ≡ first n (λ v. inSet left v && not (someBelow 64 (λ u. inSet left u && setsOf rows v u)))
-        → w ≡ 2 ^ v → task′ ≡ set task (260 + k) v → Taking t n task₀ task′ (bitXor left w) (k + 1)
+        → w ≡ 2 ^ v → task′ ≡ set task (orderFrom + k) v → Taking t n task₀ task′ (bitXor left w) (k + 1)
     taking-turn h v w task′ e ew et = rw (ew, et) (record {
       within = omega arith;
       few = P .few;
       room = P .room;
-      long = length-set task (260 + k) v ∙ P .long;
-      kept = λ j l. getD-set-other task (260 + k) j v 0 (λ q. outside j l q) ∙ P .kept j l;
+      long = length-set task (orderFrom + k) v ∙ P .long;
+      kept = λ j l. getD-set-other task (orderFrom + k) j v 0 (λ q. outside j l q) ∙ P .kept j l;
       taken = λ u. eqb u v || P .taken u;
       still = λ u. rw (inSet-xor left (2 ^ v) u, inSet-single v u) (go u (ℕ-discrete u v));
       so-far =
           let j : n - k ≡ suc (n - (k + 1)) = omega arith in
           rw (slice-more task k v (omega (arith, P .long, P .room, P .few)), append-assoc)
-          (sym (ap (λ (l : List ℕ). slice 260 (260 + k) task ++ l) (takes-one (n - (k + 1)) (P .taken) v (same-first (some v) e)))
+          (sym (ap (λ (l : List ℕ). slice orderFrom (orderFrom + k) task ++ l) (takes-one (n - (k + 1)) (P .taken) v (same-first (some v) e)))
           ∙ (rw j at (P .so-far)));
     })
       where
-        outside : (j : ℕ) → (j < 260) ⊎ (324 ≤ j) → j ≡ 260 + k → ⊥
+        outside : (j : ℕ) → (j < orderFrom) ⊎ (nextsFrom ≤ j) → j ≡ orderFrom + k → ⊥
         outside j (inl l) q = omega arith
         outside j (inr l) q = omega (arith, P .few)
 
@@ -176,20 +176,20 @@ module _ (t : Task) (rows : List ℕ) (n : ℕ) (arcs : setsOf rows ≡ blackArc
             xor-false true = refl
             xor-false false = refl
 
-    filled : slice 260 (260 + k) task ≡ order t → (e : t ≡ taskIn task₀) → Filled k task₀ task
+    filled : slice orderFrom (orderFrom + k) task ≡ order t → (e : t ≡ taskIn task₀) → Filled k task₀ task
     filled o e = record { few = omega (arith, P .within, P .few); long = P .long; ordered = o ∙ ap order e; kept = P .kept }
 
     pub taking-stop : none ≡ first n (λ v. inSet left v && not (someBelow 64 (λ u. inSet left u && setsOf rows v u))) → t ≡ taskIn task₀ → Filled k task₀ task
     taking-stop e = filled
-        (sym (append-nil (slice 260 (260 + k) task))
-        ∙ sym (ap (λ (l : List ℕ). slice 260 (260 + k) task ++ l) (takes-none (n - k) (P .taken) (same-first none e))) ∙ P .so-far)
+        (sym (append-nil (slice orderFrom (orderFrom + k) task))
+        ∙ sym (ap (λ (l : List ℕ). slice orderFrom (orderFrom + k) task ++ l) (takes-none (n - k) (P .taken) (same-first none e))) ∙ P .so-far)
 
     pub taking-end : n ≤ k → t ≡ taskIn task₀ → Filled k task₀ task
     unfolding clientsFirst
-    taking-end h = let z : n - k ≡ 0 = omega arith in filled (sym (append-nil (slice 260 (260 + k) task)) ∙ (rw z at (P .so-far)))
+    taking-end h = let z : n - k ≡ 0 = omega arith in filled (sym (append-nil (slice orderFrom (orderFrom + k) task)) ∙ (rw z at (P .so-far)))
 
 -- the count is written behind the places
-pub ordered-end : (n : ℕ) (before filled after : List ℕ) → 1348 ≤ length before → Filled n before filled → after ≡ set filled 2 n → Ordered before after
+pub ordered-end : (n : ℕ) (before filled after : List ℕ) → linksEnd ≤ length before → Filled n before filled → after ≡ set filled 2 n → Ordered before after
 unfolding orderIn
 ordered-end n before filled after room F e = rw e (record {
   few = rw count (F .few);
@@ -201,5 +201,5 @@ ordered-end n before filled after room F e = rw e (record {
     count : cell (set filled 2 n) 0 2 ≡ n
     count = getD-set-same filled 2 n 0 (omega (arith, F .long))
 
-    place : slice 260 (260 + n) (set filled 2 n) ≡ slice 260 (260 + n) filled
-    place = rw (take-set-lt (260 + n) filled 2 n (omega arith)) (drop-set-lt 260 (take (260 + n) filled) 2 n (omega arith))
+    place : slice orderFrom (orderFrom + n) (set filled 2 n) ≡ slice orderFrom (orderFrom + n) filled
+    place = rw (take-set-lt (orderFrom + n) filled 2 n (omega arith)) (drop-set-lt orderFrom (take (orderFrom + n) filled) 2 n (omega arith))

@@ -21,7 +21,7 @@ use Rattle.laws.proofs.Formed.{formed-of}
 use Rattle.bits.specs.Windows.{Leading}
 use Rattle.bits.proofs.Window.{bitsAt-add}
 use Rattle.record.proofs.Laws.{false-not, leading-fact, Run, run-start}
-use Rattle.task.specs.Task.{cell, headsAt, factsIn, variableIn, actionIn, taskIn, Row, Loaded}
+use Rattle.task.specs.Task.{cell, headsAt, factsIn, variableIn, actionIn, taskIn, Row, Loaded, linksEnd, actionRows, endAt}
 use Rattle.task_size.specs.Size.{factsOf, factsFrom, taskSize}
 use Rattle.task.specs.Rows.{RowWritten}
 use Rattle.loader.specs.Loading.{FactsLoaded, Placed, ActionLoaded, ActionRead, VariablePlaced, VariableLoaded, Headed, RecordRead}
@@ -208,7 +208,7 @@ actions-as s n a en ea = rw (en, ea) refl
 
 -- the place of the first fact of action i
 unfoldable pub placeOf : List ℕ → ℕ → ℕ
-placeOf s i = 4 * (337 + actionsIn s) + factsFrom s (22 + 20 * variablesIn s) i
+placeOf s i = 4 * (actionRows + actionsIn s) + factsFrom s (22 + 20 * variablesIn s) i
 
 -- the loop over actions: those before i are in the list
 pub record Loading (s before task : List ℕ) (at i to : ℕ) : Type 0 where
@@ -217,9 +217,9 @@ pub record Loading (s before task : List ℕ) (at i to : ℕ) : Type 0 where
   pub place : to ≡ placeOf s i
   pub long : length task ≡ length before
   pub head : Headed s task
-  pub rows : (j : ℕ) → j < i → Placed s (actionStart s j) (337 + j) (placeOf s j) task
+  pub rows : (j : ℕ) → j < i → Placed s (actionStart s j) (actionRows + j) (placeOf s j) task
 
-pub loading-start : (s before task : List ℕ) (v n : ℕ) → v ≡ variablesIn s → n ≡ actionsIn s → Headed s task → length task ≡ length before → Loading s before task (22 + 20 * v) 0 (4 * (337 + n))
+pub loading-start : (s before task : List ℕ) (v n : ℕ) → v ≡ variablesIn s → n ≡ actionsIn s → Headed s task → length task ≡ length before → Loading s before task (22 + 20 * v) 0 (4 * (actionRows + n))
 unfolding placeOf factsFrom actionsEnd
 loading-start s before task v n ev en H l = record {
   within = omega arith;
@@ -246,7 +246,7 @@ module _ (s : List ℕ) where
   placeOf-next : (i j : ℕ) → i < j → placeOf s i + factsOf s (actionStart s i) ≤ placeOf s j
   placeOf-next i j h = omega (arith, placeOf-more i, placeOf-mono (i + 1) j (omega arith))
 
-  placeOf-rows : (i : ℕ) → 4 * (337 + actionsIn s) ≤ placeOf s i
+  placeOf-rows : (i : ℕ) → 4 * (actionRows + actionsIn s) ≤ placeOf s i
   unfolding placeOf
   placeOf-rows i = omega arith
 
@@ -259,7 +259,7 @@ module _ (s : List ℕ) where
   loading-low before task at i to L c = omega (arith, L .place, L .within, factsFrom-le s (22 + 20 * variablesIn s) i)
 
   module _ (before task : List ℕ) (at i to : ℕ) (L : Loading s before task at i to) (h : i < actionsIn s) where
-    pub loading-place : 1 ≤ variablesIn s → variablesIn s ≤ 64 → actionsIn s ≤ 1024 → (42 ≤ at) × (at ≤ 400000) × (4 * (337 + i) + 4 ≤ to) × (to ≤ 65000)
+    pub loading-place : 1 ≤ variablesIn s → variablesIn s ≤ 64 → actionsIn s ≤ 1024 → (42 ≤ at) × (at ≤ 400000) × (4 * (actionRows + i) + 4 ≤ to) × (to ≤ 65000)
     unfolding placeOf
     loading-place a b c =
         let e = actionsEnd-is s (22 + 20 * variablesIn s) i in
@@ -270,18 +270,18 @@ module _ (s : List ℕ) where
     loading-room v r = rw (L .bit, L .place) (omega (arith, placeOf-next i (actionsIn s) h, placeOf-end, L .long))
 
     -- an action that is placed stays so
-    stays : (after : List ℕ) (n : ℕ) → ActionLoaded s at (337 + i) to task after n → (j : ℕ) → j < i → Placed s (actionStart s j) (337 + j) (placeOf s j) after
+    stays : (after : List ℕ) (n : ℕ) → ActionLoaded s at (actionRows + i) to task after n → (j : ℕ) → j < i → Placed s (actionStart s j) (actionRows + j) (placeOf s j) after
     stays after n A j l =
         let P = L .rows j l in
         record {
-          cost = A .kept-rows (4 * (337 + j) + 0) (omega arith) ∙ P .cost;
-          pre = A .kept-rows (4 * (337 + j) + 1) (omega arith) ∙ P .pre;
-          eff = A .kept-rows (4 * (337 + j) + 2) (omega arith) ∙ P .eff;
-          end = A .kept-rows (4 * (337 + j) + 3) (omega arith) ∙ P .end;
+          cost = A .kept-rows (4 * (actionRows + j) + 0) (omega arith) ∙ P .cost;
+          pre = A .kept-rows (4 * (actionRows + j) + 1) (omega arith) ∙ P .pre;
+          eff = A .kept-rows (4 * (actionRows + j) + 2) (omega arith) ∙ P .eff;
+          end = A .kept-rows (4 * (actionRows + j) + 3) (omega arith) ∙ P .end;
           facts = λ k b. A .kept-facts (placeOf s j + k) (omega (arith, placeOf-rows j)) (omega (arith, L .place, placeOf-next j i l)) ∙ P .facts k b;
         }
 
-    pub loading-turn : variablesIn s ≤ 64 → (after : List ℕ) (n : ℕ) → 0 < n → ActionLoaded s at (337 + i) to task after (n - 1) → Loading s before after (at + (12 + 12 * n)) (i + 1) (to + (n - 1))
+    pub loading-turn : variablesIn s ≤ 64 → (after : List ℕ) (n : ℕ) → 0 < n → ActionLoaded s at (actionRows + i) to task after (n - 1) → Loading s before after (at + (12 + 12 * n)) (i + 1) (to + (n - 1))
     loading-turn few after n pos A =
         let c : n - 1 ≡ factsOf s (actionStart s i) = A .count ∙ ap (factsOf s) (L .bit) in
         record {
@@ -292,22 +292,22 @@ module _ (s : List ℕ) where
           head = record {
             variables = A .kept-rows 0 (omega arith) ∙ L .head .variables;
             actions = A .kept-rows 1 (omega arith) ∙ L .head .actions;
-            each = λ w b. placed-kept s task after w (4 * (337 + i)) (A .kept-rows) (omega arith) (L .head .each w b);
+            each = λ w b. placed-kept s task after w (4 * (actionRows + i)) (A .kept-rows) (omega arith) (L .head .each w b);
           };
           rows = λ j b. go j b (ℕ-discrete j i);
         }
       where
-        here : Placed s (actionStart s i) (337 + i) (placeOf s i) after
-        here = subst (λ x. Placed s x (337 + i) (placeOf s i) after) (L .bit) (subst (λ x. Placed s at (337 + i) x after) (L .place) (A .placed))
+        here : Placed s (actionStart s i) (actionRows + i) (placeOf s i) after
+        here = subst (λ x. Placed s x (actionRows + i) (placeOf s i) after) (L .bit) (subst (λ x. Placed s at (actionRows + i) x after) (L .place) (A .placed))
 
-        go : (j : ℕ) → j < i + 1 → Dec (j ≡ i) → Placed s (actionStart s j) (337 + j) (placeOf s j) after
+        go : (j : ℕ) → j < i + 1 → Dec (j ≡ i) → Placed s (actionStart s j) (actionRows + j) (placeOf s j) after
         go j b (yes q) = rw q here
         go j b (no q) = stays after (n - 1) A j (omega arith)
 
-    pub action-ends : (after : List ℕ) (n : ℕ) → 0 < n → ActionLoaded s at (337 + i) to task after (n - 1) → actionEnd s at ≡ at + (12 + 12 * n)
+    pub action-ends : (after : List ℕ) (n : ℕ) → 0 < n → ActionLoaded s at (actionRows + i) to task after (n - 1) → actionEnd s at ≡ at + (12 + 12 * n)
     action-ends after n pos A = omega (arith, A .count, actionEnd-is s at)
 
-    pub few-facts : (after : List ℕ) (n : ℕ) → ActionLoaded s at (337 + i) to task after (n - 1) → n ≤ 31
+    pub few-facts : (after : List ℕ) (n : ℕ) → ActionLoaded s at (actionRows + i) to task after (n - 1) → n ≤ 31
     few-facts after n A = omega (arith, A .count, factsOf-le s at)
 
 -- facts read back from their numbers
@@ -322,7 +322,7 @@ factsIn-read s task a p (suc n) h f =
     rw (slice-cons a (a + suc n) task 0 (omega arith) h, e, factOf-bits s p, m, r) refl
 
 -- a placed action is what its row states
-placed-action : (s task : List ℕ) (i to at : ℕ) → Placed s at (337 + i) to task → to + factsOf s at ≤ length task → actionIn task i ≡ actionAt s at
+placed-action : (s task : List ℕ) (i to at : ℕ) → Placed s at (actionRows + i) to task → to + factsOf s at ≤ length task → actionIn task i ≡ actionAt s at
 unfolding actionIn actionAt effectsFrom factsOf
 placed-action s task i to at P room =
     let p = preconditionsIn s at in
@@ -330,10 +330,10 @@ placed-action s task i to at P room =
     let eff : factsIn task (to + p) (to + p + effectsIn s at) ≡ factsAt s (at + 24 + 12 * p) (effectsIn s at) =
     factsIn-read s task (to + p) (at + 24 + 12 * p) (effectsIn s at) (omega arith)
     (λ k b. subst (λ x. getD task x 0 ≡ bitsAt s (at + 24 + 12 * p + 12 * k) 12) (omega arith) (P .facts (p + k) (omega arith) ∙ ap (λ (x : ℕ). bitsAt s x 12) (omega arith))) in
-    let end : cell task (337 + i) 3 ≡ to + p + effectsIn s at = P .end ∙ omega arith in
+    let end : endAt task i ≡ to + p + effectsIn s at = P .end ∙ omega arith in
     rw (P .cost, P .pre, P .eff, end, pre, eff) refl
 
-placed-row : (s task : List ℕ) (r to at : ℕ) → Placed s at r to task → to + factsOf s at ≤ headsAt task → 4 * r + 4 ≤ to → 1348 ≤ to → headsAt task ≤ length task → Row task r
+placed-row : (s task : List ℕ) (r to at : ℕ) → Placed s at r to task → to + factsOf s at ≤ headsAt task → 4 * r + 4 ≤ to → linksEnd ≤ to → headsAt task ≤ length task → Row task r
 unfolding factsOf
 placed-row s task r to at P fits h b room = record {
   room = omega arith;
@@ -378,10 +378,10 @@ module _ (s before task : List ℕ) (at i to : ℕ) (L : Loading s before task a
       each = λ v b. variable-as s task (set task 3 to) v (λ d _. kept (4 * (1 + v) + d) (λ q. omega arith)) (L .head .each v b);
     };
     rows = λ j b. let P = L .rows j b in record {
-      cost = kept (4 * (337 + j) + 0) (λ q. omega arith) ∙ P .cost;
-      pre = kept (4 * (337 + j) + 1) (λ q. omega arith) ∙ P .pre;
-      eff = kept (4 * (337 + j) + 2) (λ q. omega arith) ∙ P .eff;
-      end = kept (4 * (337 + j) + 3) (λ q. omega arith) ∙ P .end;
+      cost = kept (4 * (actionRows + j) + 0) (λ q. omega arith) ∙ P .cost;
+      pre = kept (4 * (actionRows + j) + 1) (λ q. omega arith) ∙ P .pre;
+      eff = kept (4 * (actionRows + j) + 2) (λ q. omega arith) ∙ P .eff;
+      end = kept (4 * (actionRows + j) + 3) (λ q. omega arith) ∙ P .end;
       facts = λ k l. kept (placeOf s j + k) (λ q. omega (arith, placeOf-rows s j)) ∙ P .facts k l;
     };
   }
@@ -393,7 +393,7 @@ module _ (s before task : List ℕ) (at i to : ℕ) (h : actionsIn s ≤ i) (L :
   pub loading-size : to + 64 * variablesIn s ≡ taskSize s
   loading-size = omega (arith, last, placeOf-end s)
 
-  placed : (j : ℕ) → j < actionsIn s → Placed s (actionStart s j) (337 + j) (placeOf s j) task
+  placed : (j : ℕ) → j < actionsIn s → Placed s (actionStart s j) (actionRows + j) (placeOf s j) task
   placed j b = L .rows j (omega arith)
 
   fits : (j : ℕ) → j < actionsIn s → placeOf s j + factsOf s (actionStart s j) ≤ to
@@ -420,7 +420,7 @@ module _ (s before task : List ℕ) (at i to : ℕ) (h : actionsIn s ≤ i) (L :
           head = omega arith;
           rows =
               λ j b. let b′ : j < actionsIn s = omega (arith, taskIn-actions task, L .head .actions) in
-              placed-row s task (337 + j) (placeOf s j) (actionStart s j) (placed j b′) (omega (arith, fits j b′))
+              placed-row s task (actionRows + j) (placeOf s j) (actionStart s j) (placed j b′) (omega (arith, fits j b′))
               (omega (arith, placeOf-rows s j)) (omega (arith, placeOf-rows s j)) (omega arith);
           heads = record { behind = omega arith; room = omega (arith, taskIn-variables task, L .head .variables) };
         }

@@ -17,7 +17,7 @@ use Rattle.laws.proofs.Facts.{has-here, has-there, has-cases, has→touches}
 use Rattle.laws.proofs.Arcs.{reduced-elim, reduced-func}
 use Rattle.laws.proofs.Formed.{Formed, sorted-has, eff-func}
 use Rattle.laws.proofs.Painting.{black-inside, one-black}
-use Rattle.task.specs.Task.{linksEnd, headsAt, taskIn, Heads, Loaded}
+use Rattle.task.specs.Task.{linksEnd, headsAt, taskIn, Heads, Loaded, orderFrom, nextsFrom}
 use Rattle.task.specs.Links.{headAt, nextAt, linked, Next, Changes, Chained, Link, Relinked, Unlinked}
 use Rattle.task.proofs.Relinking.{heads-fewer, heads-kept, relinked-task, relinked-loaded, relinked-none, relinked-link, relinked-trans, head-new, head-old, next-new, next-old}
 use Rattle.sets.specs.Sets.{modeOf}
@@ -247,19 +247,19 @@ module _ (entry task₀ : List ℕ) (paint : ℕ) (A : Acyclic entry paint) (n :
 pub ordered-chained : (t : Task) (before after : List ℕ) → linksEnd ≤ headsAt before → Ordered before after → Chained t before → Chained t after
 ordered-chained t before after l O C = record {
   heads = λ v e vb eb o. rw (same, O .kept (headsAt before + (64 * v + e)) (λ q. omega arith) (inr (omega arith))) (C .heads v e vb eb o);
-  links = λ v e i o b h. rw (O .kept (324 + i) (λ q. omega arith) (inr (omega arith))) (C .links v e i o b h);
+  links = λ v e i o b h. rw (O .kept (nextsFrom + i) (λ q. omega arith) (inr (omega arith))) (C .links v e i o b h);
 }
   where
     same : headsAt after ≡ headsAt before
     same = O .kept 3 (λ q. omega arith) (inl (omega arith))
 
 pub ordered-relinked : (before after : List ℕ) → Ordered before after → Relinked before after
-ordered-relinked before after O = record { long = O .long; kept = λ k h. O .kept k (λ q. h (inl q)) (go k h (decLt k 260)) }
+ordered-relinked before after O = record { long = O .long; kept = λ k h. O .kept k (λ q. h (inl q)) (go k h (decLt k orderFrom)) }
   where
-    go : (k : ℕ) → (Link before k → ⊥) → Dec (k < 260) → (k < 260) ⊎ (324 ≤ k)
+    go : (k : ℕ) → (Link before k → ⊥) → Dec (k < orderFrom) → (k < orderFrom) ⊎ (nextsFrom ≤ k)
     go k h (yes l) = inl l
-    go k h (no l) = inr (far (decLt k 1348))
+    go k h (no l) = inr (far (decLt k linksEnd))
       where
-        far : Dec (k < 1348) → 324 ≤ k
+        far : Dec (k < linksEnd) → nextsFrom ≤ k
         far (yes m) = absurd (h (inr (omega arith, inl m)))
         far (no m) = omega arith

@@ -13,7 +13,7 @@ use lib.ListN.{length, getD, set, length-set}
 use lib.Seq.{slice-cons, slice-empty, getD-set-same, getD-set-other}
 use Rattle.planning.specs.Record.{Fact, Action}
 use Rattle.planning.specs.Runs.{State, has, look, holds, step, relaxed, act}
-use Rattle.task.specs.Task.{cell, factOf, factsIn, actionIn, taskIn}
+use Rattle.task.specs.Task.{factOf, factsIn, actionIn, taskIn, effAt, endAt}
 use Rattle.sets.specs.Sets.{inSet, setsOf, Asked}
 use Rattle.sets.proofs.Listed.{Rising, Listed}
 use Rattle.sets.proofs.Members.{inSet-added}
@@ -100,12 +100,12 @@ putAll-end ms l k t e = rw (factsIn-none l k t e) refl
 
 -- a loop over the effects of action i, at k
 pub record Walking (task : List ℕ) (i end k : ℕ) : Type 0 where
-  pub at-end : end ≡ cell task (337 + i) 3
-  pub from : cell task (337 + i) 2 ≤ k
+  pub at-end : end ≡ endAt task i
+  pub from : effAt task i ≤ k
   pub within : k ≤ end
 
 module _ (task : List ℕ) (i : ℕ) (L : Listed task i) where
-  pub walking-start : (end k : ℕ) → end ≡ cell task (337 + i) 3 → k ≡ cell task (337 + i) 2 → Walking task i end k
+  pub walking-start : (end k : ℕ) → end ≡ endAt task i → k ≡ effAt task i → Walking task i end k
   walking-start end k e h = record { at-end = e; from = omega arith; within = omega (arith, L .eff-below) }
 
   module _ (end k : ℕ) (w : Walking task i end k) where
@@ -122,9 +122,9 @@ module _ (task : List ℕ) (i : ℕ) (L : Listed task i) where
 pub record Putting (task : List ℕ) (i : ℕ) (ms₀ ms : List ℕ) (k : ℕ) : Type 0 where
   pub long₀ : length ms₀ ≡ 64
   pub long : length ms ≡ 64
-  pub so-far : putAll (factsIn task (cell task (337 + i) 2) (cell task (337 + i) 3)) ms₀ ≡ putAll (factsIn task k (cell task (337 + i) 3)) ms
+  pub so-far : putAll (factsIn task (effAt task i) (endAt task i)) ms₀ ≡ putAll (factsIn task k (endAt task i)) ms
 
-pub putting-start : (task : List ℕ) (i : ℕ) (ms : List ℕ) (k : ℕ) → k ≡ cell task (337 + i) 2 → length ms ≡ 64 → Putting task i ms ms k
+pub putting-start : (task : List ℕ) (i : ℕ) (ms : List ℕ) (k : ℕ) → k ≡ effAt task i → length ms ≡ 64 → Putting task i ms ms k
 putting-start task i ms k h n = record { long₀ = n; long = n; so-far = rw h refl }
 
 module _ (task : List ℕ) (i : ℕ) (L : Listed task i) (end k : ℕ) (ms₀ ms : List ℕ) (w : Walking task i end k) (p : Putting task i ms₀ ms k) where
@@ -133,11 +133,11 @@ module _ (task : List ℕ) (i : ℕ) (L : Listed task i) (end k : ℕ) (ms₀ ms
   putting-turn h f v x y ef ev ex ey = record {
     long₀ = p .long₀;
     long = length-set ms v (bitOr (getD ms v 0) y) ∙ p .long;
-    so-far = p .so-far ∙ putAll-turn task k (cell task (337 + i) 3) (omega (arith, w .at-end)) (L .end-below) ms ∙ rw (ey, ex, ev, ef) refl;
+    so-far = p .so-far ∙ putAll-turn task k (endAt task i) (omega (arith, w .at-end)) (L .end-below) ms ∙ rw (ey, ex, ev, ef) refl;
   }
 
   pub putting-end : end ≤ k → setsOf ms ≡ step relaxed (act (taskIn task) i) (setsOf ms₀)
   unfolding actionIn
   putting-end h =
-      ap setsOf (sym (p .so-far ∙ putAll-end ms task k (cell task (337 + i) 3) (omega (arith, w .within, w .at-end))))
+      ap setsOf (sym (p .so-far ∙ putAll-end ms task k (endAt task i) (omega (arith, w .within, w .at-end))))
       ∙ putAll-step (actionIn task i) ms₀ (L .rises) (p .long₀) ∙ ap (λ (a : Action). step relaxed a (setsOf ms₀)) (L .states)

@@ -10,7 +10,7 @@ use lib.ListN.{length, getD}
 use Rattle.planning.specs.Record.{Fact, Action, Task}
 use Rattle.planning.specs.Runs.{variables, actions, count, goals}
 use Rattle.laws.proofs.Formed.{Sorted, Formed, goals-sorted}
-use Rattle.task.specs.Task.{cell, factOf, factsIn, actionIn, taskIn, Loaded}
+use Rattle.task.specs.Task.{factOf, factsIn, actionIn, taskIn, Loaded, preAt, effAt, endAt}
 use Rattle.task.proofs.Reading.{taskIn-act}
 use Rattle.sets.proofs.Listed.{Rising, Listed}
 use Rattle.sets.proofs.Effects.{factsIn-cons}
@@ -50,18 +50,18 @@ loaded-listed task L i b =
       pre-below = R .pre-below;
       eff-below = R .eff-below;
       end-below = R .end-below;
-      small = λ k l m. go k l m pre eff (decLt k (cell task (337 + i) 2));
-      rises = sorted-rising (variables (taskIn task)) (count (taskIn task)) 0 (factsIn task (cell task (337 + i) 2) (cell task (337 + i) 3)) (F .variables-max) eff;
+      small = λ k l m. go k l m pre eff (decLt k (effAt task i));
+      rises = sorted-rising (variables (taskIn task)) (count (taskIn task)) 0 (factsIn task (effAt task i) (endAt task i)) (F .variables-max) eff;
       states = sym e;
     }
   where
-    go : (k : ℕ) → cell task (337 + i) 1 ≤ k → k < cell task (337 + i) 3 → Sorted (variables (taskIn task)) (count (taskIn task)) 0 (factsIn task (cell task (337 + i) 1) (cell task (337 + i) 2))
-        → Sorted (variables (taskIn task)) (count (taskIn task)) 0 (factsIn task (cell task (337 + i) 2) (cell task (337 + i) 3)) → Dec (k < cell task (337 + i) 2) → getD task k 0 < 4096
+    go : (k : ℕ) → preAt task i ≤ k → k < endAt task i → Sorted (variables (taskIn task)) (count (taskIn task)) 0 (factsIn task (preAt task i) (effAt task i))
+        → Sorted (variables (taskIn task)) (count (taskIn task)) 0 (factsIn task (effAt task i) (endAt task i)) → Dec (k < effAt task i) → getD task k 0 < 4096
     go k l m pre eff (yes h) =
-        between-small (variables (taskIn task)) (count (taskIn task)) task (cell task (337 + i) 2)
-        (omega (arith, L .rows i b .eff-below, L .rows i b .end-below)) (L .formed .variables-max) (cell task (337 + i) 1) k l h pre
+        between-small (variables (taskIn task)) (count (taskIn task)) task (effAt task i)
+        (omega (arith, L .rows i b .eff-below, L .rows i b .end-below)) (L .formed .variables-max) (preAt task i) k l h pre
     go k l m pre eff (no h) =
-        between-small (variables (taskIn task)) (count (taskIn task)) task (cell task (337 + i) 3) (L .rows i b .end-below) (L .formed .variables-max) (cell task (337 + i) 2) k (omega arith) m eff
+        between-small (variables (taskIn task)) (count (taskIn task)) task (endAt task i) (L .rows i b .end-below) (L .formed .variables-max) (effAt task i) k (omega arith) m eff
 
 -- a list that states the goals
 pub goals-small : (t : Task) (l : List ℕ) (n : ℕ) → Formed t → n ≤ length l → factsIn l 0 n ≡ goals t → (k : ℕ) → k < n → getD l k 0 < 4096

@@ -13,7 +13,7 @@ use Rattle.planning.specs.Runs.{look, act, variable}
 use Rattle.planning.specs.Newest.{newer, initialValues}
 use Rattle.laws.proofs.Fields.{variable-past}
 use Rattle.laws.proofs.Lists.{getD-zeros}
-use Rattle.task.specs.Task.{cell, factOf, factsIn, actionIn, taskIn}
+use Rattle.task.specs.Task.{factOf, factsIn, actionIn, taskIn, effAt, endAt}
 use Rattle.sets.specs.Sets.{valuesOf}
 use Rattle.sets.proofs.Listed.{Rising, Listed}
 use Rattle.sets.proofs.Effects.{factsIn-cons, factsIn-none, Walking}
@@ -58,9 +58,9 @@ setAll-newer a ns r n = fun-ext (λ v. setAll-at (a .eff) ns 0 r n v ∙ go v (l
 pub record Renewing (task : List ℕ) (i : ℕ) (ns₀ ns : List ℕ) (k : ℕ) : Type 0 where
   pub long₀ : length ns₀ ≡ 64
   pub long : length ns ≡ 64
-  pub so-far : setAll (factsIn task (cell task (337 + i) 2) (cell task (337 + i) 3)) ns₀ ≡ setAll (factsIn task k (cell task (337 + i) 3)) ns
+  pub so-far : setAll (factsIn task (effAt task i) (endAt task i)) ns₀ ≡ setAll (factsIn task k (endAt task i)) ns
 
-pub renewing-start : (task : List ℕ) (i : ℕ) (ns₀ : List ℕ) (k : ℕ) → k ≡ cell task (337 + i) 2 → length ns₀ ≡ 64 → Renewing task i ns₀ ns₀ k
+pub renewing-start : (task : List ℕ) (i : ℕ) (ns₀ : List ℕ) (k : ℕ) → k ≡ effAt task i → length ns₀ ≡ 64 → Renewing task i ns₀ ns₀ k
 renewing-start task i ns₀ k e n = record { long₀ = n; long = n; so-far = rw e refl }
 
 module _ (task : List ℕ) (i : ℕ) (L : Listed task i) (end k : ℕ) (ns₀ ns : List ℕ) (w : Walking task i end k) (q : Renewing task i ns₀ ns k) where
@@ -69,7 +69,7 @@ module _ (task : List ℕ) (i : ℕ) (L : Listed task i) (end k : ℕ) (ns₀ ns
   renewing-turn h f v x ef ev ex = record {
     long₀ = q .long₀;
     long = length-set ns v x ∙ q .long;
-    so-far = q .so-far ∙ rw (factsIn-cons task k (cell task (337 + i) 3) (omega (arith, w .at-end)) (L .end-below), ex, ev, ef) refl;
+    so-far = q .so-far ∙ rw (factsIn-cons task k (endAt task i) (omega (arith, w .at-end)) (L .end-below), ex, ev, ef) refl;
   }
 
   pub renewing-placed : k < end → (f : ℕ) (r : List ℕ) → f ≡ getD task k 0 → r ≡ set ns (f / 64) (f % 64) → Renewing task i ns₀ r (k + 1)
@@ -78,7 +78,7 @@ module _ (task : List ℕ) (i : ℕ) (L : Listed task i) (end k : ℕ) (ns₀ ns
   pub renewing-end : end ≤ k → valuesOf ns ≡ newer (act (taskIn task) i) (valuesOf ns₀)
   unfolding setAll actionIn
   renewing-end h =
-      let e = factsIn-none task k (cell task (337 + i) 3) (omega (arith, w .within, w .at-end)) in
+      let e = factsIn-none task k (endAt task i) (omega (arith, w .within, w .at-end)) in
       ap valuesOf (sym (q .so-far ∙ rw e refl)) ∙ setAll-newer (actionIn task i) ns₀ (L .rises) (q .long₀) ∙ ap (λ (a : Action). newer a (valuesOf ns₀)) (L .states)
 
 -- the initial values: those of the variables below v are set, the others 0

@@ -9,7 +9,7 @@ use lib.ListN.{length, getD, take}
 use lib.Seq.{length-slice, getD-take, getD-drop}
 use Rattle.planning.specs.Record.{Variable, goalOf}
 use Rattle.planning.specs.Runs.{noVariable, noAction, variables, actions, variable, act, count, black}
-use Rattle.task.specs.Task.{cell, variableIn, actionIn, each, taskIn}
+use Rattle.task.specs.Task.{cell, variableIn, actionIn, each, taskIn, orderFrom}
 use Rattle.task.specs.Links.{orderIn, Prepared}
 
 module _ {A : Type 0} (f : ℕ → A) where
@@ -71,8 +71,8 @@ module _ (task : List ℕ) where
 module _ (task : List ℕ) (P : Prepared task) where
   pub order-length : length (orderIn task) ≡ cell task 0 2
   unfolding orderIn
-  order-length = length-slice 260 (260 + cell task 0 2) task (omega (arith, P .few, P .loaded .head)) ∙ omega arith
+  order-length = length-slice orderFrom (orderFrom + cell task 0 2) task (omega (arith, P .few, P .loaded .head)) ∙ omega arith
 
-  pub order-get : (p : ℕ) → p < length (orderIn task) → getD (orderIn task) p 0 ≡ getD task (260 + p) 0
+  pub order-get : (p : ℕ) → p < length (orderIn task) → getD (orderIn task) p 0 ≡ getD task (orderFrom + p) 0
   unfolding orderIn
-  order-get p h = getD-drop 260 (take (260 + cell task 0 2) task) p 0 ∙ getD-take (260 + cell task 0 2) task (260 + p) 0 (omega (arith, order-length))
+  order-get p h = getD-drop orderFrom (take (orderFrom + cell task 0 2) task) p 0 ∙ getD-take (orderFrom + cell task 0 2) task (orderFrom + p) 0 (omega (arith, order-length))

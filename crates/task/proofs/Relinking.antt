@@ -8,7 +8,7 @@ use lib.ListN.{length, getD, set, length-set}
 use native.Mathlib.Decide.{ℕ-discrete}
 use lib.Seq.{slice, slice-cons, slice-empty, getD-set-same, getD-set-other}
 use Rattle.planning.specs.Runs.{variables, actions}
-use Rattle.task.specs.Task.{linksEnd, cell, headsAt, factsIn, variableIn, actionIn, each, taskIn, preAt, effAt, endAt, Row, Heads, Loaded}
+use Rattle.task.specs.Task.{linksEnd, cell, headsAt, factsIn, variableIn, actionIn, each, taskIn, preAt, effAt, endAt, Row, Heads, Loaded, orderFrom, nextsFrom, actionRows}
 use Rattle.task.specs.Links.{headAt, nextAt, Link, Relinked, Unlinked, linked}
 use Rattle.task.proofs.Reading.{taskIn-variables, taskIn-actions}
 
@@ -21,7 +21,7 @@ relinked-heads before after R = R .kept 3 apart
     apart (inr e) = omega (arith, e .0)
 
 link-back : (before after : List ℕ) → Relinked before after → (k : ℕ) → Link after k → Link before k
-link-back before after R k l = subst (λ (h : ℕ). (k ≡ 2) ⊎ ((260 ≤ k) × ((k < 1348) ⊎ (h ≤ k)))) (relinked-heads before after R) l
+link-back before after R k l = subst (λ (h : ℕ). (k ≡ 2) ⊎ ((orderFrom ≤ k) × ((k < linksEnd) ⊎ (h ≤ k)))) (relinked-heads before after R) l
 
 pub heads-fewer : (m n : ℕ) (task : List ℕ) → m ≤ n → Heads n task → Heads m task
 heads-fewer m n task l H = record { behind = H .behind; room = omega (arith, H .room) }
@@ -45,8 +45,8 @@ pub relinked-link : (before after : List ℕ) (f i : ℕ) → linksEnd ≤ heads
 unfolding linked
 relinked-link before after f i b c R =
     let e = relinked-heads before after R in
-    relinked-set before (set after (324 + i) (headAt after f)) (headsAt after + f) i (inr (omega arith, inr (omega arith)))
-    (relinked-set before after (324 + i) (headAt after f) (inr (omega arith, inl (omega arith))) R)
+    relinked-set before (set after (nextsFrom + i) (headAt after f)) (headsAt after + f) i (inr (omega arith, inr (omega arith)))
+    (relinked-set before after (nextsFrom + i) (headAt after f) (inr (omega arith, inl (omega arith))) R)
 
 -- what is linked behind a new head
 module _ (task : List ℕ) (f i : ℕ) (c : i < 1024) (H : Heads (f + 1) task) where
@@ -57,24 +57,24 @@ module _ (task : List ℕ) (f i : ℕ) (c : i < 1024) (H : Heads (f + 1) task) w
   unfolding linked
   head-new =
       rw heads-same
-      (getD-set-same (set task (324 + i) (headAt task f)) (headsAt task + f) i 0 (rw (length-set task (324 + i) (headAt task f)) (omega (arith, H .room))))
+      (getD-set-same (set task (nextsFrom + i) (headAt task f)) (headsAt task + f) i 0 (rw (length-set task (nextsFrom + i) (headAt task f)) (omega (arith, H .room))))
 
   pub head-old : (g : ℕ) → (g ≡ f → ⊥) → headAt (linked f i task) g ≡ headAt task g
   unfolding linked
   head-old g d =
       rw heads-same
-      (getD-set-other (set task (324 + i) (headAt task f)) (headsAt task + f) (headsAt task + g) i 0 (λ q. d (omega arith))
-      ∙ getD-set-other task (324 + i) (headsAt task + g) (headAt task f) 0 (λ q. omega (arith, H .behind)))
+      (getD-set-other (set task (nextsFrom + i) (headAt task f)) (headsAt task + f) (headsAt task + g) i 0 (λ q. d (omega arith))
+      ∙ getD-set-other task (nextsFrom + i) (headsAt task + g) (headAt task f) 0 (λ q. omega (arith, H .behind)))
 
-  next-kept : (j : ℕ) → j < 1024 → nextAt (linked f i task) j ≡ nextAt (set task (324 + i) (headAt task f)) j
+  next-kept : (j : ℕ) → j < 1024 → nextAt (linked f i task) j ≡ nextAt (set task (nextsFrom + i) (headAt task f)) j
   unfolding linked
-  next-kept j l = getD-set-other (set task (324 + i) (headAt task f)) (headsAt task + f) (324 + j) i 0 (λ q. omega (arith, H .behind))
+  next-kept j l = getD-set-other (set task (nextsFrom + i) (headAt task f)) (headsAt task + f) (nextsFrom + j) i 0 (λ q. omega (arith, H .behind))
 
   pub next-new : nextAt (linked f i task) i ≡ headAt task f
-  next-new = next-kept i c ∙ getD-set-same task (324 + i) (headAt task f) 0 (omega (arith, H .behind, H .room))
+  next-new = next-kept i c ∙ getD-set-same task (nextsFrom + i) (headAt task f) 0 (omega (arith, H .behind, H .room))
 
   pub next-old : (j : ℕ) → j < 1024 → (j ≡ i → ⊥) → nextAt (linked f i task) j ≡ nextAt task j
-  next-old j l d = next-kept j l ∙ getD-set-other task (324 + i) (324 + j) (headAt task f) 0 (λ q. d (omega arith))
+  next-old j l d = next-kept j l ∙ getD-set-other task (nextsFrom + i) (nextsFrom + j) (headAt task f) 0 (λ q. d (omega arith))
 
 -- heads one after the other
 pub unlinked-none : (task : List ℕ) → Unlinked 0 task task
@@ -114,24 +114,24 @@ unfolding each
 each-same f g a zero h = refl
 each-same f g a (suc n) h = rw (h a (omega arith) (omega arith), each-same f g (suc a) n (λ k x y. h k (omega arith) (omega arith))) refl
 
-outside-head : (task : List ℕ) (k : ℕ) → k < 260 → (k ≡ 2 → ⊥) → Link task k → ⊥
+outside-head : (task : List ℕ) (k : ℕ) → k < orderFrom → (k ≡ 2 → ⊥) → Link task k → ⊥
 outside-head task k h n (inl e) = n e
 outside-head task k h n (inr e) = omega (arith, e .0)
 
-outside-rows : (task : List ℕ) (k : ℕ) → 1348 ≤ k → k < headsAt task → Link task k → ⊥
+outside-rows : (task : List ℕ) (k : ℕ) → linksEnd ≤ k → k < headsAt task → Link task k → ⊥
 outside-rows task k h l (inl e) = omega arith
 outside-rows task k h l (inr (o, inl e)) = omega arith
 outside-rows task k h l (inr (o, inr e)) = omega arith
 
 module _ (before after : List ℕ) (L : Loaded before) (R : Relinked before after) where
-  head-kept : (k : ℕ) → k < 260 → (k ≡ 2 → ⊥) → getD after k 0 ≡ getD before k 0
+  head-kept : (k : ℕ) → k < orderFrom → (k ≡ 2 → ⊥) → getD after k 0 ≡ getD before k 0
   head-kept k h n = R .kept k (outside-head before k h n)
 
-  rows-kept : (k : ℕ) → 1348 ≤ k → k < headsAt before → getD after k 0 ≡ getD before k 0
+  rows-kept : (k : ℕ) → linksEnd ≤ k → k < headsAt before → getD after k 0 ≡ getD before k 0
   rows-kept k h l = R .kept k (outside-rows before k h l)
 
-  cell-kept : (i d : ℕ) → i < actions (taskIn before) → d < 4 → cell after (337 + i) d ≡ cell before (337 + i) d
-  cell-kept i d h l = rows-kept (4 * (337 + i) + d) (omega arith) (omega (arith, L .rows i h .apart .0))
+  cell-kept : (i d : ℕ) → i < actions (taskIn before) → d < 4 → cell after (actionRows + i) d ≡ cell before (actionRows + i) d
+  cell-kept i d h l = rows-kept (4 * (actionRows + i) + d) (omega arith) (omega (arith, L .rows i h .apart .0))
 
   variable-kept : (v : ℕ) → v < 64 → variableIn after v ≡ variableIn before v
   unfolding variableIn
@@ -139,7 +139,7 @@ module _ (before after : List ℕ) (L : Loaded before) (R : Relinked before afte
       let k : (d : ℕ) → d < 4 → cell after (1 + v) d ≡ cell before (1 + v) d = λ d l. head-kept (4 * (1 + v) + d) (omega arith) (λ q. omega arith) in
       rw (k 0 (omega arith), k 1 (omega arith), k 2 (omega arith), k 3 (omega arith)) refl
 
-  facts-kept : (a b : ℕ) → 1348 ≤ a → a ≤ b → b ≤ headsAt before → factsIn after a b ≡ factsIn before a b
+  facts-kept : (a b : ℕ) → linksEnd ≤ a → a ≤ b → b ≤ headsAt before → factsIn after a b ≡ factsIn before a b
   unfolding factsIn
   facts-kept a b h l m =
       let r = L .heads .room in
@@ -181,7 +181,7 @@ module _ (before after : List ℕ) (L : Loaded before) (R : Relinked before afte
     heads = rw relinked-task (heads-kept (64 * variables (taskIn before)) before after R (L .heads));
   }
     where
-      row : (i : ℕ) → i < actions (taskIn before) → Row after (337 + i)
+      row : (i : ℕ) → i < actions (taskIn before) → Row after (actionRows + i)
       row i h =
           let r = L .rows i h in
           let e = relinked-heads before after R in
