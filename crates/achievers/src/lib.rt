@@ -1,5 +1,7 @@
 // First achievers. They are noted behind the run, backwards, so that of several actions that set a fact the first one stays; initial facts
 // are unset at the end.
+#![tactic(auto)]
+
 ghost use Rattle.std.specs.Prelude.{◌≡◌, ◌<◌, length, replicate};
 ghost use Rattle.planning.specs.Runs.{has, initial, actions, act};
 ghost use Rattle.planning.specs.Relaxed.{forward_run};

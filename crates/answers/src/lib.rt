@@ -1,5 +1,7 @@
 // What the parts of the library answer: a check passes or refuses, a call with one number gives it or refuses,
 // planner and repair tell of a plan or refuse. A refusal has its number in the table and its place.
+#![tactic(auto)]
+
 ghost use Rattle.std.specs.Prelude.{◌≡◌};
 ghost use Rattle.answers.specs.Answers.{refusal_in, refusal_of};
 

@@ -1,5 +1,7 @@
 // Whether an action applies, and whether its effects are held: in the sets, which are the relaxed state; in the newest values, which are the
 // real one; in the red-black state, which has the newest value of a black variable and the set of a red one.
+#![tactic(auto)]
+
 ghost use Rattle.std.specs.Prelude.{◌≡◌, ℕ, ◌/◌, ◌%◌, ◌<◌, ◌≤◌, length, get_or};
 ghost use Rattle.planning.specs.Runs.{actions, act, holds, step, relaxed};
 ghost use Rattle.planning.specs.Newest.{alone};

@@ -1,5 +1,7 @@
 // What one entry of a list asks of a black variable: a value below 64, or none. Whether a path leads there, which value the variable
 // has behind it and how many paths were asked for; and the list so far, as a pass tells it: its end and the searches, or that it does not fit.
+#![tactic(auto)]
+
 ghost use Rattle.std.specs.Prelude.{◌≡◌, ◌||◌, eqb, leb};
 ghost use Rattle.planning.specs.Repair.{after, asked_for};
 ghost use Rattle.asking.specs.Asking.{asked_by, inserted_by, Behind};

@@ -1,5 +1,7 @@
 // What a call that plans hands back: the plan stands in the front of the plan list and its marks in that of the mark area, as many as its
 // answer has steps; whatever stood behind them, and after a refusal everywhere, is blanked.
+#![tactic(auto)]
+
 ghost use Rattle.std.specs.Prelude.{◌≡◌, length};
 ghost use Rattle.planning.specs.Calls.{plan_in, marks_in, lent, lent_bytes};
 ghost use Rattle.answers.specs.Plans.{answer_of, steps_of};

@@ -1,5 +1,7 @@
 // A caller's relaxed plan: its relaxed run, and checks 13 and 9, of which the second is where that run stops. Judging takes the same run
 // from where the red-black one stops.
+#![tactic(auto)]
+
 ghost use Rattle.std.specs.Prelude.{◌≡◌, length};
 ghost use Rattle.planning.specs.Basics.{answer};
 ghost use Rattle.planning.specs.Runs.{relaxed, judged};

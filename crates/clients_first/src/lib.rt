@@ -1,4 +1,6 @@
 // The clients-first order of the black variables, written into the loaded task: the lowest one next whose row leads to none of those left.
+#![tactic(auto)]
+
 ghost use Rattle.std.specs.Prelude.{◌≡◌, ◌&&◌, not, ◌<◌, ◌≤◌};
 ghost use Rattle.planning.specs.Basics.{some_below, first};
 ghost use Rattle.planning.specs.Runs.{black};

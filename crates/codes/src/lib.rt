@@ -1,5 +1,7 @@
 // What C reads of an answer: its code, 0 or 32 times the place and the number; and the planner's answer as one struct, whose other fields
 // are 0 after a refusal.
+#![tactic(auto)]
+
 ghost use Rattle.std.specs.Prelude.{◌≡◌, ℕ};
 ghost use Rattle.planning.specs.Basics.{code, refused};
 ghost use Rattle.answers.specs.Answers.{value_of};

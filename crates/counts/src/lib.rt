@@ -1,6 +1,8 @@
 // What the repair tells of its list: marks, steps, those that run for real, the cost, the verdict. As long as every step ran for real the newest
 // values are the real state. An action that needs black variables alone applies for real wherever it does red-black: steps by such
 // actions, where their effects are held too, are counted without a look at the values.
+#![tactic(auto)]
+
 ghost use Rattle.std.specs.Prelude.{◌≡◌, true, not, ◌++◌, ◌-◌, ◌*◌, ◌<◌, ◌≤◌, length, take};
 ghost use Rattle.planning.specs.Basics.{one_if, done, refused};
 ghost use Rattle.planning.specs.Runs.{holds, step, relaxed, actions, act, black, goals};

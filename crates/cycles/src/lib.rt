@@ -1,5 +1,7 @@
 // Check 7: the lowest variable on a cycle of the black causal graph. With ways through ever more variables allowed, one is on a cycle exactly
 // if it has a way to itself.
+#![tactic(auto)]
+
 ghost use Rattle.std.specs.Prelude.{◌≡◌, ◌||◌, ◌&&◌, ◌<◌, ◌≤◌, length};
 ghost use Rattle.planning.specs.Basics.{first};
 ghost use Rattle.planning.specs.Painting.{black_arc, cyclic};

@@ -1,4 +1,6 @@
 // The checks of a list of actions: that it is not too long, and that each entry is the number of an action.
+#![tactic(auto)]
+
 ghost use Rattle.std.specs.Prelude.{◌≡◌, ◌≤◌, length};
 ghost use Rattle.planning.specs.Basics.{answer};
 ghost use Rattle.answers.specs.Answers.{value_of};

@@ -1,4 +1,6 @@
 // The one pass over a list, red-black: it tells the real run as well, by the newest values.
+#![tactic(auto)]
+
 ghost use Rattle.task.specs.Task.{task_in};
 ghost use Rattle.entries.specs.Entries.{Ready};
 ghost use Rattle.execution.specs.Traces.{Traces};

@@ -1,5 +1,7 @@
 // The way back over the forward run: an action is kept if it first reached a needed fact, and its preconditions are needed then. The
 // actions that first reached a needed fact are the wanted ones, a set.
+#![tactic(auto)]
+
 ghost use Rattle.std.specs.Prelude.{◌≡◌, ◌<◌, ◌≤◌, eqb, length, drop};
 ghost use Rattle.planning.specs.Runs.{goals, actions, act};
 ghost use Rattle.planning.specs.Relaxed.{forward_run, relaxed_plan};

@@ -1,5 +1,7 @@
 // The forward run of a loaded task and of a record. Actions go by their rank, the place in an order by cost and number that is made once;
 // up to 16 variables what waits is kept in a shorter list.
+#![tactic(auto)]
+
 ghost use Rattle.std.specs.Prelude.{◌≡◌, length};
 ghost use Rattle.planning.specs.Calls.{forward_call, forward_list};
 ghost use Rattle.task.specs.Task.{task_in, Loaded};

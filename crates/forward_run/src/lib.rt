@@ -1,5 +1,7 @@
 // The forward run by an order of the actions. Its cost grows with the work and not with actions × steps: an action is looked at again only
 // when the precondition that it waits for is reached.
+#![tactic(auto)]
+
 ghost use Rattle.std.specs.Prelude.{◌≡◌, length};
 ghost use Rattle.task.specs.Task.{task_in, Loaded};
 ghost use Rattle.waiting.specs.Waiting.{Free, ByCost};

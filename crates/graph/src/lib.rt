@@ -1,4 +1,6 @@
 // The black causal graph as 64 sets, one a variable: bit v of row u is the arc from u to v.
+#![tactic(auto)]
+
 ghost use Rattle.std.specs.Prelude.{◌≡◌, ◌||◌, ◌&&◌, not, ℕ, ◌/◌, ◌%◌, ◌<◌, eqb, length};
 ghost use Rattle.planning.specs.Runs.{has, touches, actions, act, black};
 ghost use Rattle.planning.specs.Painting.{reduced_effects, black_arc};

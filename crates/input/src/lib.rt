@@ -1,4 +1,6 @@
 // Standard input, read into lent bytes until they are full or it ends.
+#![tactic(auto)]
+
 ghost use Rattle.input.specs.Inputs.{Front};
 
 use libc::STDIN_FILENO;

@@ -1,5 +1,7 @@
 // Judging: for each of the three semantics, the steps of a list that run and whether it is a plan. One pass red-black tells the real run as
 // well, by the newest values; the relaxed run goes on where the red-black one stops.
+#![tactic(auto)]
+
 ghost use Rattle.std.specs.Prelude.{◌≡◌};
 ghost use Rattle.planning.specs.Runs.{real, black, judged, judgement};
 ghost use Rattle.planning.specs.Calls.{judge_call};

@@ -1,5 +1,7 @@
 // Sets of values and labels of 64 bits, one for each value: the least member of a set from a place on, a label noted for the members where
 // they have no lesser one, and a member that has the least. Labels are only compared here; what one says of a path is for `search`.
+#![tactic(auto)]
+
 ghost use Rattle.std.specs.Prelude.{◌≡◌, ℕ, ◌<◌, ◌≤◌, min, length, get_or};
 ghost use Rattle.sets.specs.Sets.{in_set};
 ghost use Rattle.labels.specs.Labels.{Member, lower, Nearest};

@@ -1,5 +1,7 @@
 // Whether an arc of one action, whose move is known and whose facts are marked, lacks its return. For arcs from every
 // value an action is kept whose preconditions allow all the returns, so that the search is not repeated for each action that allows them.
+#![tactic(auto)]
+
 ghost use Rattle.std.specs.Prelude.{◌≡◌, true, false, ◌||◌, ◌+◌, ◌-◌, ◌*◌, ◌/◌, ◌%◌, ◌<◌, ◌≤◌, eqb};
 ghost use Rattle.planning.specs.Runs.{actions};
 ghost use Rattle.task.specs.Task.{task_in};

@@ -1,5 +1,7 @@
 // When the leads of paths stay: an action that sets no new fact of a variable on which a move depends makes no move usable, and before
 // any other the leads are forgotten.
+#![tactic(auto)]
+
 ghost use Rattle.std.specs.Prelude.{◌≡◌, not, ◌&&◌, ◌/◌, ◌%◌, ◌<◌, ◌≤◌, length};
 ghost use Rattle.planning.specs.Runs.{relaxed, step, actions, act};
 ghost use Rattle.planning.specs.Repair.{black_met};

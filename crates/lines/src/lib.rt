@@ -1,5 +1,7 @@
 // What a listing takes from the answers of the calls: its first two lines, by the forward run and the relaxed plan; and, for the line that the
 // planner's answer gives, the first entries of a list and the refusal.
+#![tactic(auto)]
+
 ghost use Rattle.std.specs.Prelude.{◌≤◌, ◌≡◌, length, take};
 ghost use Rattle.planning.specs.Calls.{forward_call, relax_call, relax_list};
 ghost use Rattle.text.specs.Put.{Put};

@@ -1,6 +1,8 @@
 // Reads a record on standard input and writes its listing. A record has at most 49,315 bytes, so one byte more tells a longer
 // input from it: its listing depends on no byte behind (crates/laws/proofs/Listing.antt). Where a read or a write fails, one line on
 // standard error says so; after a failed read nothing is listed.
+#![tactic(auto)]
+
 use input::Input;
 use libc::STDERR_FILENO;
 

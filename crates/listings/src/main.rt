@@ -1,5 +1,7 @@
 // Writes the listings of several records. Standard input has the records one after another, each behind the count of its bytes:
 // two bytes, the most significant first. rust/generate/src/bin/write-listings.rs writes what stands in `stdin` and `stdout`.
+#![tactic(auto)]
+
 ghost use Rattle.std.specs.Prelude.{◌≡◌, ◌<◌};
 
 use input::Input;

@@ -1,4 +1,6 @@
 // Lists and areas that the caller lends: a result in the front, and behind it 65,535 in lists, 0 in bytes; entries moved in them.
+#![tactic(auto)]
+
 ghost use Rattle.std.specs.Prelude.{◌≡◌, ◌++◌, ◌+◌, ◌-◌, ◌≤◌, min, length, take, drop, replicate};
 ghost use Rattle.planning.specs.Calls.{capacity, room_check};
 ghost use Rattle.answers.specs.Answers.{check_of};

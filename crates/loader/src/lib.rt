@@ -1,4 +1,6 @@
 // The loader: one pass over the bytes of a record tests them and loads the task that they state. Callers above it hand the bytes on and look at none.
+#![tactic(auto)]
+
 ghost use Rattle.std.specs.Prelude.{◌≡◌, ◌+◌, ◌*◌, ◌/◌, ◌%◌, ◌^◌, ◌<◌, ◌≤◌, length};
 ghost use Rattle.std.proofs.Math.Option.{none};
 ghost use Rattle.planning.specs.Record.{record_check, variables_in, actions_in};

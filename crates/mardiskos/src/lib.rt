@@ -1,4 +1,6 @@
 // The entry points as C calls them: a slice is a pointer and a length.
+#![tactic(auto)]
+
 mod plans;
 mod runs;
 mod sheets;

@@ -1,4 +1,6 @@
 // Newest values of a list for the control desk: the value of each variable that was set last, where the red-black run stops.
+#![tactic(auto)]
+
 ghost use Rattle.std.specs.Prelude.{◌≡◌, ◌++◌, ◌≤◌, length, drop};
 ghost use Rattle.planning.specs.Newest.{tabulate};
 ghost use Rattle.planning.specs.Calls.{newest_call, newest_list};

@@ -1,5 +1,7 @@
 // A list of steps and its marks packed into words. A mark and its step are one number, an entry, of 10 bits in edition 1 and of 11 in edition
 // 2: four of them are one number again, and with five bits before them one word.
+#![tactic(auto)]
+
 ghost use Rattle.std.specs.Prelude.{◌≡◌, List, ◌++◌, ℕ, suc, ◌+◌, ◌-◌, ◌*◌, ◌/◌, ◌%◌, ◌^◌, ◌<◌, ◌≤◌, length, get_or};
 ghost use Rattle.planning.specs.Basics.{one_if};
 ghost use Rattle.planning.specs.Sheet.{bits_of, mark_of};

@@ -1,6 +1,8 @@
 // The check of a painting, 7 then 8, and what it leaves in the loaded task: the chains of actions by their moves,
 // and the clients-first order. Once the black causal graph has no cycle, an action changes one black variable at most; its move is the fact to
 // which it does. The return of an arc is looked for in the chain of the move that it has to be, with what the first action allows marked.
+#![tactic(auto)]
+
 ghost use Rattle.std.specs.Prelude.{◌≡◌, ℕ, ◌+◌, ◌*◌, ◌<◌};
 ghost use Rattle.std.proofs.Math.Option.{some};
 ghost use Rattle.planning.specs.Basics.{refuse_at};

@@ -1,5 +1,7 @@
 // One pass for one black variable: the list built so far, with the best path inserted before each entry that needs a value of
 // the variable, and at the end if a value is wanted.
+#![tactic(auto)]
+
 ghost use Rattle.std.specs.Prelude.{◌≡◌, ◌/◌, ◌%◌, ◌<◌, ◌≤◌, T, length, take, drop};
 ghost use Rattle.planning.specs.Runs.{count, black};
 ghost use Rattle.planning.specs.Repair.{toward};

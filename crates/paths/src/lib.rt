@@ -1,6 +1,8 @@
 // Best paths of one black variable along usable arcs: the cheapest, of these the shortest, of these the first by its actions. A search
 // gives for each value the smallest action that a best path from there starts with, and its target: the leads, which are kept in the slots of
 // a memo, and along which a path is written down.
+#![tactic(auto)]
+
 ghost use Rattle.std.specs.Prelude.{◌≡◌, ◌||◌, ℕ, ◌+◌, ◌<◌, ◌≤◌, T, length};
 ghost use Rattle.planning.specs.Runs.{touches, actions, count, act, black};
 ghost use Rattle.task.specs.Task.{task_in, Loaded};

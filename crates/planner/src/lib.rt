@@ -1,6 +1,8 @@
 // The planner: from a record to a repaired plan, and the repair of a caller's relaxed plan. Both are one way: the record, the painting, the
 // relaxed plan, the repair, each check in the table's order. The plan stands in the front of the plan list from the repair on, its marks in
 // that of the mark area, and what is behind them is blanked at the end.
+#![tactic(auto)]
+
 ghost use Rattle.std.specs.Prelude.{◌≡◌, true, [], ◌≤◌, length};
 ghost use Rattle.std.proofs.Math.Option.{none};
 ghost use Rattle.planning.specs.Record.{task_of, record_check};

@@ -1,4 +1,6 @@
 // Reading a sheet: its checks, then its steps and its marks in front of what the caller lends, and the rest of that overwritten.
+#![tactic(auto)]
+
 ghost use Rattle.std.specs.Prelude.{◌≡◌, ◌++◌, ◌+◌, ◌-◌, ◌*◌, ◌≤◌};
 ghost use Rattle.std.proofs.Math.ListN.{length, take, replicate};
 ghost use Rattle.planning.specs.Basics.{done};

@@ -1,5 +1,7 @@
 // The set of ready ranks. One set above the others says which of them have a member, so that the lowest rank is found by two looks, however
 // many are ready.
+#![tactic(auto)]
+
 ghost use Rattle.std.specs.Prelude.{◌<◌, T};
 ghost use Rattle.ready.specs.Ready.{member, Ready, LowestIn, Lowest, With, Without};
 

@@ -2,6 +2,8 @@
 // four facts at a time are read in one load and tested quickly. Where such a test fails, the fields
 // are gone through one by one: a function for each field or kind of field takes the answer of the one below apart and hands on
 // the refusal with its place. The loader of the task uses the quick tests too.
+#![tactic(auto)]
+
 ghost use Rattle.std.specs.Prelude.{◌≡◌, true, ◌+◌, ◌*◌, ◌/◌, ◌<◌, ◌≤◌, length};
 ghost use Rattle.std.proofs.Math.Option.{none};
 ghost use Rattle.planning.specs.Basics.{answer, done, in_order, bits_at};

@@ -1,5 +1,7 @@
 // The relaxed plan of a loaded task, from its forward run, the first achievers and the way back; the call for a record. The plan stands
 // where the run stood.
+#![tactic(auto)]
+
 ghost use Rattle.std.specs.Prelude.{◌≡◌, ◌-◌, ◌≤◌, length, take, drop, replicate};
 ghost use Rattle.planning.specs.Calls.{relax_call, relax_list};
 ghost use Rattle.answers.specs.Answers.{value_of};

@@ -1,5 +1,7 @@
 // The repair of a relaxed plan: one loop that places the next stage where every step placed is taken, and else takes and counts the next
 // step. Stages only append, so as soon as one does not fit, the whole plan does not.
+#![tactic(auto)]
+
 ghost use Rattle.std.specs.Prelude.{◌≡◌, ◌≤◌, length};
 ghost use Rattle.task.specs.Task.{task_in};
 ghost use Rattle.repair.specs.Answers.{room_in, Held};

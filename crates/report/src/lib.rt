@@ -1,4 +1,6 @@
 // The listing of a record, as text in a lent area of bytes; and its printing.
+#![tactic(auto)]
+
 ghost use Rattle.std.specs.Prelude.{◌-◌, ◌≤◌, ◌≡◌, ◌++◌, length, replicate};
 ghost use Rattle.planning.specs.Calls.{runnable};
 ghost use Rattle.planning.specs.Listing.{listing_of};

@@ -1,5 +1,7 @@
 // The return to one fact. An action marks what its return may need; the returns are looked for in the chain of the fact, which has all actions
 // that change its variable to it: the first one that needs marked facts alone is enough. What served last is tried first.
+#![tactic(auto)]
+
 ghost use Rattle.std.specs.Prelude.{◌≡◌, ◌/◌, ◌%◌, ◌<◌, T};
 ghost use Rattle.planning.specs.Runs.{holds, actions, act};
 ghost use Rattle.task.specs.Task.{facts_in, task_in, Loaded};

@@ -1,6 +1,8 @@
 // The search for best paths of one black variable to one value, along usable arcs: backwards from the wanted value, the nearest first
 // (Dijkstra). Each value has a label, which is the key of the best path from there, cost × 64 + moves, and behind it the smallest action that
 // such a path starts with and its target; so the lesser of two labels is always the better one.
+#![tactic(auto)]
+
 ghost use Rattle.std.specs.Prelude.{◌≡◌, ◌&&◌, ℕ, ◌/◌, ◌<◌, ◌≤◌, T, length, get_or, replicate};
 ghost use Rattle.planning.specs.Runs.{holds, actions, count, act, black};
 ghost use Rattle.task.specs.Task.{facts_in, task_in, Loaded};

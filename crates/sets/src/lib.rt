@@ -1,5 +1,7 @@
 // Sets of values, one bit a value: membership, the facts of a state as 64 such sets, what a list of facts asks of a variable, and the black
 // variables of a task as a set.
+#![tactic(auto)]
+
 ghost use Rattle.std.specs.Prelude.{◌≡◌, ℕ, ◌/◌, ◌%◌, ◌^◌, ◌<◌, ◌≤◌, length, get_or};
 ghost use Rattle.planning.specs.Runs.{actions, act, has, holds, look, black};
 ghost use Rattle.task.specs.Task.{facts_in, task_in, Loaded};

@@ -1,5 +1,7 @@
 // Plan sheets (clause 8): what a sheet and its round trip are, in specs/ and proofs/, and the checks before one is written or read. A sheet
 // is a list of steps with their marks, its cost and its verdict; an edition counts only by the bits of a mark, none or one.
+#![tactic(auto)]
+
 ghost use Rattle.std.specs.Prelude.{◌≡◌, Bool, List, ℕ, ◌*◌, ◌≤◌, min, length};
 ghost use Rattle.std.proofs.Math.Option.{none};
 ghost use Rattle.planning.specs.Basics.{bits_at, answer, refuse_at};

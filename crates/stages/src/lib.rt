@@ -1,5 +1,7 @@
 // The steps of one stage of the repair: moves for the black preconditions of an entry, and the entry, or in the end moves for the goals.
 // They are built where they stay, in the plan list behind the steps so far. Passes only insert, so as soon as moves do not fit, the stage does not.
+#![tactic(auto)]
+
 ghost use Rattle.std.specs.Prelude.{◌≡◌, not, ◌&&◌, ◌/◌, ◌%◌, ◌<◌, ◌≤◌, length};
 ghost use Rattle.planning.specs.Runs.{variables, actions, black};
 ghost use Rattle.planning.specs.Newest.{alone};

@@ -1,5 +1,7 @@
 // States: for each of 64 variables the set of the values that it has had, one bit a value, and the newest of them. The step takes a state
 // and hands the next one back whole. The goals of a task stand here too, as facts.
+#![tactic(auto)]
+
 ghost use Rattle.std.specs.Prelude.{◌≡◌, ◌/◌, ◌%◌, ◌<◌, length, set};
 ghost use Rattle.planning.specs.Runs.{actions, act, step, initial, relaxed, size};
 ghost use Rattle.planning.specs.Newest.{initial_values, newer};

@@ -1,4 +1,6 @@
 // The loaded task: one list of numbers that states the task of an accepted record. Its readers, and the writers of its parts.
+#![tactic(auto)]
+
 ghost use Rattle.std.specs.Prelude.{◌≡◌, ◌+◌, ◌*◌, ◌<◌, ◌≤◌, length, get_or, set};
 ghost use Rattle.planning.specs.Runs.{variables, actions, variable, count, black};
 ghost use Rattle.task.specs.Task.{order_from, links_end, task_in, Heads, Loaded, cost_at, pre_at, eff_at, end_at};

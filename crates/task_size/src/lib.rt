@@ -1,4 +1,6 @@
 // How long a list the loaded task of a record needs. It is told before the record is read, so that a small store clears little.
+#![tactic(auto)]
+
 ghost use Rattle.std.specs.Prelude.{◌≡◌, ◌≤◌};
 ghost use Rattle.std.proofs.Math.Option.{none};
 ghost use Rattle.planning.specs.Record.{record_check};

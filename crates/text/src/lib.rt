@@ -1,5 +1,7 @@
 // Text in lent bytes: words, numbers, and the lines of a listing. Each function writes from the place `at` on and answers where
 // its text ends.
+#![tactic(auto)]
+
 ghost use Rattle.std.specs.Prelude.{◌+◌, ◌*◌, ◌≤◌, ◌<◌, [], ◌∷◌, ◌++◌, ◌≡◌, length};
 ghost use Rattle.planning.specs.Listing.{numbers, line, relaxed_word, plan_word, refused_word, verdict_word};
 ghost use Rattle.text.specs.Put.{Put};

@@ -1,5 +1,7 @@
 // The steps and the marks of a sheet, unpacked into a list and an area that the caller lends. As long as ten entries are left, eight are
 // taken a turn, by two loads of eight bytes that do not pass the end; the rest one by one.
+#![tactic(auto)]
+
 ghost use Rattle.std.specs.Prelude.{◌≡◌, ◌++◌, ◌+◌, ◌-◌, ◌*◌, ◌/◌, ◌%◌, ◌^◌, ◌<◌, ◌≤◌, length, take};
 ghost use Rattle.planning.specs.Basics.{bits_at};
 ghost use Rattle.planning.specs.Sheet.{steps_at, marks_at};

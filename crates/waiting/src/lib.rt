@@ -1,5 +1,7 @@
 // What waits. An action that does not apply hangs on the chain of one of its preconditions that is not reached, and is looked at again,
 // from that one on, when the fact is reached. Actions go by their rank, the place in an order by cost and number that is made once.
+#![tactic(auto)]
+
 ghost use Rattle.std.specs.Prelude.{◌≡◌, [], ◌+◌, ◌<◌, ◌≤◌, length, get_or, replicate};
 ghost use Rattle.planning.specs.Runs.{has, actions};
 ghost use Rattle.task.specs.Task.{facts_in, task_in, Loaded};

@@ -1,5 +1,7 @@
 // Writing a sheet into bytes that the caller lends, eight entries a turn: they fill as many bytes as one of them has bits, so that each
 // eight starts behind five bits of what was before.
+#![tactic(auto)]
+
 ghost use Rattle.std.specs.Prelude.{◌≡◌, ◌++◌, ℕ, suc, ◌+◌, ◌-◌, ◌*◌, ◌^◌, ◌<◌, ◌≤◌, length, take, get_or};
 ghost use Rattle.planning.specs.Basics.{done};
 ghost use Rattle.planning.specs.Sheet.{bits_of, packed, step_bits, sheet_size};

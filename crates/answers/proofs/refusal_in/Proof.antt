@@ -4,17 +4,17 @@ use borrow.Author.Rules.{rules}
 use Rattle.answers.proofs.refusal_in.Statement.{statement}
 use Rattle.answers.proofs.refusal_in.Tie as tie
 
-enum-known-c : tie.Need-enum-known-c
-enum-known-c c = search rules
+enum_known-c : tie.Need-enum_known-c
+enum_known-c c = search rules
 
-enum_told : tie.Need-enum-told
-enum_told c = search rules
+enum_told-1 : tie.Need-enum_told-1
+enum_told-1 c = search rules
+
+returns-in_default : tie.Need-returns-in_default
+returns-in_default c = sym (ap refusal_in c.in_default.is)
 
 returns : tie.Need-returns
-returns c = sym (ap refusal_in c.enum_told.given.1)
+returns c = search rules
 
-returns-2 : tie.Need-returns-2
-returns-2 c = search rules
-
-pub refusal-in-spec : {M : Type 1} → statement M
-refusal-in-spec = tie.close (tie.spec enum-known-c enum_told returns returns-2)
+pub refusal_in_spec : {M : Type 1} → statement M
+refusal_in_spec = tie.close (tie.spec enum_known-c enum_told-1 returns-in_default returns)

@@ -9,77 +9,77 @@ use borrow.Author.Rules.{rules}
 use Rattle.bits.proofs.put_eight.Statement.{statement}
 use Rattle.bits.proofs.put_eight.Tie as tie
 
-cast-bytes : tie.Need-overflow-cast-bytes
-cast-bytes c = search rules
+overflow_cast-bytes : tie.Need-overflow_cast-bytes
+overflow_cast-bytes c = search rules
 
-slice-write-bytes : tie.Need-slice-write-bytes
-slice-write-bytes c = search rules
+bounds-bytes-at : tie.Need-bounds-bytes-at
+bounds-bytes-at c = search rules
 
-cast-bytes-2 : tie.Need-overflow-cast-bytes-2
-cast-bytes-2 c = search rules
+overflow_cast-bytes-2 : tie.Need-overflow_cast-bytes-2
+overflow_cast-bytes-2 c = search rules
 
-add-bytes : tie.Need-overflow-add-bytes
-add-bytes c = search rules
+overflow_add-bytes : tie.Need-overflow_add-bytes
+overflow_add-bytes c = search rules
 
-slice-write-bytes-2 : tie.Need-slice-write-bytes-2
-slice-write-bytes-2 c = simp length-set (omega arith)
+bounds-bytes-at-2 : tie.Need-bounds-bytes-at-2
+bounds-bytes-at-2 c = simp length-set (omega arith)
 
-cast-bytes-3 : tie.Need-overflow-cast-bytes-3
-cast-bytes-3 c = search rules
+overflow_cast-bytes-3 : tie.Need-overflow_cast-bytes-3
+overflow_cast-bytes-3 c = search rules
 
-add-bytes-2 : tie.Need-overflow-add-bytes-2
-add-bytes-2 c = search rules
+overflow_add-bytes-2 : tie.Need-overflow_add-bytes-2
+overflow_add-bytes-2 c = search rules
 
-slice-write-bytes-3 : tie.Need-slice-write-bytes-3
-slice-write-bytes-3 c = simp length-set (omega arith)
+bounds-bytes-at-3 : tie.Need-bounds-bytes-at-3
+bounds-bytes-at-3 c = simp length-set (omega arith)
 
-cast-bytes-4 : tie.Need-overflow-cast-bytes-4
-cast-bytes-4 c = search rules
+overflow_cast-bytes-4 : tie.Need-overflow_cast-bytes-4
+overflow_cast-bytes-4 c = search rules
 
-add-bytes-3 : tie.Need-overflow-add-bytes-3
-add-bytes-3 c = search rules
+overflow_add-bytes-3 : tie.Need-overflow_add-bytes-3
+overflow_add-bytes-3 c = search rules
 
-slice-write-bytes-4 : tie.Need-slice-write-bytes-4
-slice-write-bytes-4 c = simp length-set (omega arith)
+bounds-bytes-at-4 : tie.Need-bounds-bytes-at-4
+bounds-bytes-at-4 c = simp length-set (omega arith)
 
-cast-bytes-5 : tie.Need-overflow-cast-bytes-5
-cast-bytes-5 c = search rules
+overflow_cast-bytes-5 : tie.Need-overflow_cast-bytes-5
+overflow_cast-bytes-5 c = search rules
 
-add-bytes-4 : tie.Need-overflow-add-bytes-4
-add-bytes-4 c = search rules
+overflow_add-bytes-4 : tie.Need-overflow_add-bytes-4
+overflow_add-bytes-4 c = search rules
 
-slice-write-bytes-5 : tie.Need-slice-write-bytes-5
-slice-write-bytes-5 c = simp length-set (omega arith)
+bounds-bytes-at-5 : tie.Need-bounds-bytes-at-5
+bounds-bytes-at-5 c = simp length-set (omega arith)
 
-cast-bytes-6 : tie.Need-overflow-cast-bytes-6
-cast-bytes-6 c = search rules
+overflow_cast-bytes-6 : tie.Need-overflow_cast-bytes-6
+overflow_cast-bytes-6 c = search rules
 
-add-bytes-5 : tie.Need-overflow-add-bytes-5
-add-bytes-5 c = search rules
+overflow_add-bytes-5 : tie.Need-overflow_add-bytes-5
+overflow_add-bytes-5 c = search rules
 
-slice-write-bytes-6 : tie.Need-slice-write-bytes-6
-slice-write-bytes-6 c = simp length-set (omega arith)
+bounds-bytes-at-6 : tie.Need-bounds-bytes-at-6
+bounds-bytes-at-6 c = simp length-set (omega arith)
 
-cast-bytes-7 : tie.Need-overflow-cast-bytes-7
-cast-bytes-7 c = search rules
+overflow_cast-bytes-7 : tie.Need-overflow_cast-bytes-7
+overflow_cast-bytes-7 c = search rules
 
-add-bytes-6 : tie.Need-overflow-add-bytes-6
-add-bytes-6 c = search rules
+overflow_add-bytes-6 : tie.Need-overflow_add-bytes-6
+overflow_add-bytes-6 c = search rules
 
-slice-write-bytes-7 : tie.Need-slice-write-bytes-7
-slice-write-bytes-7 c = simp length-set (omega arith)
+bounds-bytes-at-7 : tie.Need-bounds-bytes-at-7
+bounds-bytes-at-7 c = simp length-set (omega arith)
 
-cast-bytes-8 : tie.Need-overflow-cast-bytes-8
-cast-bytes-8 c = search rules
+overflow_cast-bytes-8 : tie.Need-overflow_cast-bytes-8
+overflow_cast-bytes-8 c = search rules
 
-add-bytes-7 : tie.Need-overflow-add-bytes-7
-add-bytes-7 c = search rules
+overflow_add-bytes-7 : tie.Need-overflow_add-bytes-7
+overflow_add-bytes-7 c = search rules
 
-slice-write-bytes-8 : tie.Need-slice-write-bytes-8
-slice-write-bytes-8 c = simp length-set (omega arith)
+bounds-bytes-at-8 : tie.Need-bounds-bytes-at-8
+bounds-bytes-at-8 c = simp length-set (omega arith)
 
-same_length : tie.Need-same-length
-same_length c = search rules
+shape_of-bytes : tie.Need-shape_of-bytes
+shape_of-bytes c = search rules
 
 returns : tie.Need-returns
 returns c =
@@ -94,32 +94,5 @@ returns c =
     let i7 : at + 7 ≡ suc (suc (suc (suc (suc (suc (suc at)))))) = omega arith in
     rw (i1, i2, i3, i4, i5, i6, i7) (sets-eq (eight_of a.x) a.bytes.now at (omega arith))
 
-pub put-eight-spec : {M : Type 1} → statement M
-put-eight-spec =
-    tie.close
-    (tie.spec
-    cast-bytes
-    slice-write-bytes
-    cast-bytes-2
-    add-bytes
-    slice-write-bytes-2
-    cast-bytes-3
-    add-bytes-2
-    slice-write-bytes-3
-    cast-bytes-4
-    add-bytes-3
-    slice-write-bytes-4
-    cast-bytes-5
-    add-bytes-4
-    slice-write-bytes-5
-    cast-bytes-6
-    add-bytes-5
-    slice-write-bytes-6
-    cast-bytes-7
-    add-bytes-6
-    slice-write-bytes-7
-    cast-bytes-8
-    add-bytes-7
-    slice-write-bytes-8
-    same_length
-    returns)
+pub put_eight_spec : {M : Type 1} → statement M
+put_eight_spec = tie.close (tie.spec overflow_cast-bytes bounds-bytes-at overflow_cast-bytes-2 overflow_add-bytes bounds-bytes-at-2 overflow_cast-bytes-3 overflow_add-bytes-2 bounds-bytes-at-3 overflow_cast-bytes-4 overflow_add-bytes-3 bounds-bytes-at-4 overflow_cast-bytes-5 overflow_add-bytes-4 bounds-bytes-at-5 overflow_cast-bytes-6 overflow_add-bytes-5 bounds-bytes-at-6 overflow_cast-bytes-7 overflow_add-bytes-6 bounds-bytes-at-7 overflow_cast-bytes-8 overflow_add-bytes-7 bounds-bytes-at-8 shape_of-bytes returns)

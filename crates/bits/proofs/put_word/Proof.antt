@@ -8,16 +8,15 @@ use Rattle.bits.proofs.put_word.Tie as tie
 swapped-requires : tie.Need-swapped-requires
 swapped-requires c κs = search rules
 
-put-eight-requires : tie.Need-put-eight-requires
-put-eight-requires c κs = search rules
+put_eight-requires : tie.Need-put_eight-requires
+put_eight-requires c κs = search rules
 
-same_length : tie.Need-same-length
-same_length c = search rules
+shape_of-bytes : tie.Need-shape_of-bytes
+shape_of-bytes c = search rules
 
 returns : tie.Need-returns
 returns c =
-    let at-eight = c.before.before in
-    at-eight.put-eight.ensures ∙ rw (swapped_bytes _ _ at-eight.before.swapped.ensures) refl
+    c.put_eight.ensures ∙ rw (swapped_bytes _ _ c.swapped.ensures) refl
 
-pub put-word-spec : {M : Type 1} → statement M
-put-word-spec = tie.close (tie.spec swapped-requires put-eight-requires same_length returns)
+pub put_word_spec : {M : Type 1} → statement M
+put_word_spec = tie.close (tie.spec swapped-requires put_eight-requires shape_of-bytes returns)

@@ -4,14 +4,14 @@ use borrow.Author.Rules.{rules}
 use Rattle.lists.proofs.blank.Statement.{statement}
 use Rattle.lists.proofs.blank.Tie as tie
 
-blank-from-requires : tie.Need-blank-from-requires
-blank-from-requires c κs = search rules
+blank_from-requires : tie.Need-blank_from-requires
+blank_from-requires c κs = search rules
 
-same_length : tie.Need-same-length
-same_length c = search rules
+shape_of-d : tie.Need-shape_of-d
+shape_of-d c = search rules
 
 returns : tie.Need-returns
-returns c = c.before.before.blank-from.ensures ∙ rw sub-zero refl
+returns c = c.blank_from.ensures ∙ rw sub-zero refl
 
-pub blank-spec : {M : Type 1} → statement M
-blank-spec = tie.close (tie.spec blank-from-requires same_length returns)
+pub blank_spec : {M : Type 1} → statement M
+blank_spec = tie.close (tie.spec blank_from-requires shape_of-d returns)

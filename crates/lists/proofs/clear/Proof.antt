@@ -4,14 +4,14 @@ use borrow.Author.Rules.{rules}
 use Rattle.lists.proofs.clear.Statement.{statement}
 use Rattle.lists.proofs.clear.Tie as tie
 
-clear-from-requires : tie.Need-clear-from-requires
-clear-from-requires c κs = search rules
+clear_from-requires : tie.Need-clear_from-requires
+clear_from-requires c κs = search rules
 
-same_length : tie.Need-same-length
-same_length c = search rules
+shape_of-d : tie.Need-shape_of-d
+shape_of-d c = search rules
 
 returns : tie.Need-returns
-returns c = c.before.before.clear-from.ensures ∙ rw sub-zero refl
+returns c = c.clear_from.ensures ∙ rw sub-zero refl
 
 pub clear_spec : {M : Type 1} → statement M
-clear_spec = tie.close (tie.spec clear-from-requires same_length returns)
+clear_spec = tie.close (tie.spec clear_from-requires shape_of-d returns)

@@ -9,46 +9,35 @@ use lib.ListN.{length-set, length, take, drop, replicate}
 use Rattle.lists.proofs.clear_from.Statement.{statement}
 use Rattle.lists.proofs.clear_from.Tie as tie
 
-abbrev invariant-loop : tie.invariant-loop
-invariant-loop d₀ k i₀ d i = (k ≤ i) × (i ≤ max k (length d₀)) × (length d ≡ length d₀) × (d ≡ take k d₀ ++ (replicate (i - k) 0 ++ drop i d₀))
+abbrev invariant-loop-i : tie.invariant-loop-i
+invariant-loop-i d₀ k i₀ d i = (k ≤ i) × (i ≤ max k (length d₀)) × (length d ≡ length d₀) × (d ≡ take k d₀ ++ (replicate (i - k) 0 ++ drop i d₀))
 
-abbrev decreases-loop : tie.decreases-loop
-decreases-loop d₀ k i₀ d i = length d₀ - i
+abbrev decreases-loop-i : tie.decreases-loop-i
+decreases-loop-i d₀ k i₀ d i = length d₀ - i
 
-loop-holds : tie.Need-loop-init invariant-loop decreases-loop
-loop-holds c = (omega arith, omega arith, refl, from_none c.args.d.now c.args.k 0)
+loop-i-init : tie.Need-loop-i-init invariant-loop-i decreases-loop-i
+loop-i-init c = (omega arith, omega arith, refl, from_none c.args.d.now c.args.k 0)
 
-slice-write-d : tie.Need-slice-write-d invariant-loop decreases-loop
-slice-write-d c = search rules
+bounds-d-i : tie.Need-bounds-d-i invariant-loop-i decreases-loop-i
+bounds-d-i c = search rules
 
-add-i : tie.Need-overflow-add-i invariant-loop decreases-loop
-add-i c = search rules
+overflow_add-i : tie.Need-overflow_add-i invariant-loop-i decreases-loop-i
+overflow_add-i c = search rules
 
-loop-less : tie.Need-loop-smaller invariant-loop decreases-loop
-loop-less c = search rules
+loop-i-smaller : tie.Need-loop-i-smaller invariant-loop-i decreases-loop-i
+loop-i-smaller c = search rules
 
-loop-again : tie.Need-loop-preserved invariant-loop decreases-loop
-loop-again c =
-    let a = c.before.before.args in
-    let h = c.before.loop in
+loop-i-preserved : tie.Need-loop-i-preserved invariant-loop-i decreases-loop-i
+loop-i-preserved c =
+    let a = c.args in
+    let h = c.loop-i in
     (omega arith, omega arith, simp length-set (omega arith), rw h.invariant.3 (from_more a.d.now a.k h.i 0 (omega arith) (omega arith)))
 
-same_length : tie.Need-same-length invariant-loop decreases-loop
-same_length c = search rules
+shape_of-d : tie.Need-shape_of-d invariant-loop-i decreases-loop-i
+shape_of-d c = search rules
 
-returns : tie.Need-returns invariant-loop decreases-loop
-returns c = c.before.loop.invariant.3 ∙ from_end_lem c.before.before.args.d.now c.before.before.args.k c.before.loop.i 0 (omega arith) (omega arith)
+returns : tie.Need-returns invariant-loop-i decreases-loop-i
+returns c = c.loop-i.invariant.3 ∙ from_end_lem c.args.d.now c.args.k c.loop-i.i 0 (omega arith) (omega arith)
 
-pub clear-from-spec : {M : Type 1} → statement M
-clear-from-spec =
-    tie.close
-    (tie.spec
-    invariant-loop
-    decreases-loop
-    loop-holds
-    slice-write-d
-    add-i
-    loop-less
-    loop-again
-    same_length
-    returns)
+pub clear_from_spec : {M : Type 1} → statement M
+clear_from_spec = tie.close (tie.spec invariant-loop-i decreases-loop-i loop-i-init bounds-d-i overflow_add-i loop-i-smaller loop-i-preserved shape_of-d returns)

@@ -5,75 +5,56 @@ use lib.ListN.{length-set}
 use Rattle.lists.proofs.put_four.Statement.{statement}
 use Rattle.lists.proofs.put_four.Tie as tie
 
-cast-list : tie.Need-overflow-cast-list
-cast-list c = search rules
+overflow_cast-list : tie.Need-overflow_cast-list
+overflow_cast-list c = search rules
 
-mul-list : tie.Need-overflow-mul-list
-mul-list c = search rules
+offset_bounds-list-i : tie.Need-offset_bounds-list-i
+offset_bounds-list-i c = search rules
 
-slice-write-list : tie.Need-slice-write-list
-slice-write-list c = search rules
+bounds-list-i : tie.Need-bounds-list-i
+bounds-list-i c = search rules
 
-cast-list-2 : tie.Need-overflow-cast-list-2
-cast-list-2 c = search rules
+overflow_cast-list-2 : tie.Need-overflow_cast-list-2
+overflow_cast-list-2 c = search rules
 
-add-list : tie.Need-overflow-add-list
-add-list c = search rules
+overflow_add-list : tie.Need-overflow_add-list
+overflow_add-list c = search rules
 
-mul-list-2 : tie.Need-overflow-mul-list-2
-mul-list-2 c = search rules
+offset_bounds-list-i-2 : tie.Need-offset_bounds-list-i-2
+offset_bounds-list-i-2 c = search rules
 
-slice-write-list-2 : tie.Need-slice-write-list-2
-slice-write-list-2 c = simp length-set (omega arith)
+bounds-list-i-2 : tie.Need-bounds-list-i-2
+bounds-list-i-2 c = simp length-set (omega arith)
 
-cast-list-3 : tie.Need-overflow-cast-list-3
-cast-list-3 c = search rules
+overflow_cast-list-3 : tie.Need-overflow_cast-list-3
+overflow_cast-list-3 c = search rules
 
-add-list-2 : tie.Need-overflow-add-list-2
-add-list-2 c = search rules
+overflow_add-list-2 : tie.Need-overflow_add-list-2
+overflow_add-list-2 c = search rules
 
-mul-list-3 : tie.Need-overflow-mul-list-3
-mul-list-3 c = search rules
+offset_bounds-list-i-3 : tie.Need-offset_bounds-list-i-3
+offset_bounds-list-i-3 c = search rules
 
-slice-write-list-3 : tie.Need-slice-write-list-3
-slice-write-list-3 c = simp length-set (omega arith)
+bounds-list-i-3 : tie.Need-bounds-list-i-3
+bounds-list-i-3 c = simp length-set (omega arith)
 
-cast-list-4 : tie.Need-overflow-cast-list-4
-cast-list-4 c = search rules
+overflow_cast-list-4 : tie.Need-overflow_cast-list-4
+overflow_cast-list-4 c = search rules
 
-add-list-3 : tie.Need-overflow-add-list-3
-add-list-3 c = search rules
+overflow_add-list-3 : tie.Need-overflow_add-list-3
+overflow_add-list-3 c = search rules
 
-mul-list-4 : tie.Need-overflow-mul-list-4
-mul-list-4 c = search rules
+offset_bounds-list-i-4 : tie.Need-offset_bounds-list-i-4
+offset_bounds-list-i-4 c = search rules
 
-slice-write-list-4 : tie.Need-slice-write-list-4
-slice-write-list-4 c = simp length-set (omega arith)
+bounds-list-i-4 : tie.Need-bounds-list-i-4
+bounds-list-i-4 c = simp length-set (omega arith)
 
-same_length : tie.Need-same-length
-same_length c = search rules
+shape_of-list : tie.Need-shape_of-list
+shape_of-list c = search rules
 
 returns : tie.Need-returns
 returns c = search rules
 
-pub put-four-spec : {M : Type 1} → statement M
-put-four-spec =
-    tie.close
-    (tie.spec
-    cast-list
-    mul-list
-    slice-write-list
-    cast-list-2
-    add-list
-    mul-list-2
-    slice-write-list-2
-    cast-list-3
-    add-list-2
-    mul-list-3
-    slice-write-list-3
-    cast-list-4
-    add-list-3
-    mul-list-4
-    slice-write-list-4
-    same_length
-    returns)
+pub put_four_spec : {M : Type 1} → statement M
+put_four_spec = tie.close (tie.spec overflow_cast-list offset_bounds-list-i bounds-list-i overflow_cast-list-2 overflow_add-list offset_bounds-list-i-2 bounds-list-i-2 overflow_cast-list-3 overflow_add-list-2 offset_bounds-list-i-3 bounds-list-i-3 overflow_cast-list-4 overflow_add-list-3 offset_bounds-list-i-4 bounds-list-i-4 shape_of-list returns)

@@ -6,63 +6,47 @@ use Rattle.lists.proofs.Moving.{Moving, moving_start, moving_turn, moving_end}
 use Rattle.lists.proofs.to_end.Statement.{statement}
 use Rattle.lists.proofs.to_end.Tie as tie
 
-abbrev invariant-loop : tie.invariant-loop
-invariant-loop d₀ n from k₀ d k = Moving d₀ n from d k
+abbrev invariant-loop-k : tie.invariant-loop-k
+invariant-loop-k d₀ n from k₀ d k = Moving d₀ n from d k
 
-abbrev decreases-loop : tie.decreases-loop
-decreases-loop d₀ n from k₀ d k = k
+abbrev decreases-loop-k : tie.decreases-loop-k
+decreases-loop-k d₀ n from k₀ d k = k
 
-sub-from : tie.Need-overflow-sub-from invariant-loop decreases-loop
-sub-from c = search rules
+overflow_sub-from : tie.Need-overflow_sub-from invariant-loop-k decreases-loop-k
+overflow_sub-from c = search rules
 
-loop-holds : tie.Need-loop-init invariant-loop decreases-loop
-loop-holds c = moving_start _ _ _ (omega (arith, c.requires))
+loop-k-init : tie.Need-loop-k-init invariant-loop-k decreases-loop-k
+loop-k-init c = moving_start _ _ _ (omega (arith, c.requires))
 
-sub-k : tie.Need-overflow-sub-k invariant-loop decreases-loop
-sub-k c = search rules
+overflow_sub-k : tie.Need-overflow_sub-k invariant-loop-k decreases-loop-k
+overflow_sub-k c = search rules
 
-mul-d : tie.Need-overflow-mul-d invariant-loop decreases-loop
-mul-d c = search rules
+offset_bounds-d-k : tie.Need-offset_bounds-d-k invariant-loop-k decreases-loop-k
+offset_bounds-d-k c = search rules
 
-slice-read-d : tie.Need-slice-read-d invariant-loop decreases-loop
-slice-read-d c = search rules
+bounds-d-k : tie.Need-bounds-d-k invariant-loop-k decreases-loop-k
+bounds-d-k c = search rules
 
-add-d : tie.Need-overflow-add-d invariant-loop decreases-loop
-add-d c = search rules
+overflow_add-d : tie.Need-overflow_add-d invariant-loop-k decreases-loop-k
+overflow_add-d c = search rules
 
-mul-d-2 : tie.Need-overflow-mul-d-2 invariant-loop decreases-loop
-mul-d-2 c = search rules
+offset_bounds-d-from : tie.Need-offset_bounds-d-from invariant-loop-k decreases-loop-k
+offset_bounds-d-from c = search rules
 
-slice-write-d : tie.Need-slice-write-d invariant-loop decreases-loop
-slice-write-d c = search rules
+bounds-d-from : tie.Need-bounds-d-from invariant-loop-k decreases-loop-k
+bounds-d-from c = search rules
 
-loop-less : tie.Need-loop-smaller invariant-loop decreases-loop
-loop-less c = search rules
+loop-k-smaller : tie.Need-loop-k-smaller invariant-loop-k decreases-loop-k
+loop-k-smaller c = search rules
 
-loop-again : tie.Need-loop-preserved invariant-loop decreases-loop
-loop-again c = moving_turn c.before.before.loop.invariant (omega (arith, c.before.loop-test.true))
+loop-k-preserved : tie.Need-loop-k-preserved invariant-loop-k decreases-loop-k
+loop-k-preserved c = moving_turn c.loop-k.invariant (omega (arith, c.loop-k-test.true))
 
-same_length : tie.Need-same-length invariant-loop decreases-loop
-same_length c = search rules
+shape_of-d : tie.Need-shape_of-d invariant-loop-k decreases-loop-k
+shape_of-d c = search rules
 
-returns : tie.Need-returns invariant-loop decreases-loop
-returns c = (refl, moving_end c.before.loop.invariant (omega arith))
+returns : tie.Need-returns invariant-loop-k decreases-loop-k
+returns c = (refl, moving_end c.loop-k.invariant (omega arith))
 
-pub to-end-spec : {M : Type 1} → statement M
-to-end-spec =
-    tie.close
-    (tie.spec
-    invariant-loop
-    decreases-loop
-    sub-from
-    loop-holds
-    sub-k
-    mul-d
-    slice-read-d
-    add-d
-    mul-d-2
-    slice-write-d
-    loop-less
-    loop-again
-    same_length
-    returns)
+pub to_end_spec : {M : Type 1} → statement M
+to_end_spec = tie.close (tie.spec invariant-loop-k decreases-loop-k overflow_sub-from loop-k-init overflow_sub-k offset_bounds-d-k bounds-d-k overflow_add-d offset_bounds-d-from bounds-d-from loop-k-smaller loop-k-preserved shape_of-d returns)

@@ -9,53 +9,40 @@ use Rattle.sheet.proofs.check_each.Statement.{statement}
 use Rattle.sheet.proofs.check_each.Tie as tie
 use Rattle.planning.specs.Basics.{refuse_at}
 
-abbrev invariant-loop : tie.invariant-loop
-invariant-loop list i₀ i = (i ≤ length list) × (not_below 1024 0 list ≡ not_below 1024 i (drop i list))
+abbrev invariant-loop-i : tie.invariant-loop-i
+invariant-loop-i list i₀ i = (i ≤ length list) × (not_below 1024 0 list ≡ not_below 1024 i (drop i list))
 
-abbrev decreases-loop : tie.decreases-loop
-decreases-loop list i₀ i = length list - i
+abbrev decreases-loop-i : tie.decreases-loop-i
+decreases-loop-i list i₀ i = length list - i
 
-loop-holds : tie.Need-loop-init invariant-loop decreases-loop
-loop-holds c = (omega arith, refl)
+loop-i-init : tie.Need-loop-i-init invariant-loop-i decreases-loop-i
+loop-i-init c = (omega arith, refl)
 
-mul-if1 : tie.Need-overflow-mul-if1 invariant-loop decreases-loop
-mul-if1 c = omega arith
+offset_bounds-list-i : tie.Need-offset_bounds-list-i invariant-loop-i decreases-loop-i
+offset_bounds-list-i c = omega arith
 
-shared-slice-read-if1 : tie.Need-shared-slice-read-if1 invariant-loop decreases-loop
-shared-slice-read-if1 c = omega arith
+bounds-list-i : tie.Need-bounds-list-i invariant-loop-i decreases-loop-i
+bounds-list-i c = omega arith
 
-cast-t7 : tie.Need-overflow-cast-t7 invariant-loop decreases-loop
-cast-t7 c = omega (arith, c.before.before.before.before.requires)
+overflow_cast-result : tie.Need-overflow_cast-result invariant-loop-i decreases-loop-i
+overflow_cast-result c = omega (arith, c.requires)
 
-returns : tie.Need-returns invariant-loop decreases-loop
+returns-then-list-i-gt1023 : tie.Need-returns-then-list-i-gt1023 invariant-loop-i decreases-loop-i
 unfolding refuse_at
-returns c = rw (c.before.before.before.loop.invariant.1 ∙ entry_fails 1024 _ _ (omega arith) (omega arith)) refl
+returns-then-list-i-gt1023 c = rw (c.loop-i.invariant.1 ∙ entry_fails 1024 _ _ (omega arith) (omega arith)) refl
 
-add-i : tie.Need-overflow-add-i invariant-loop decreases-loop
-add-i c = omega arith
+overflow_add-i : tie.Need-overflow_add-i invariant-loop-i decreases-loop-i
+overflow_add-i c = omega arith
 
-loop-less : tie.Need-loop-smaller invariant-loop decreases-loop
-loop-less c = omega arith
+loop-i-smaller : tie.Need-loop-i-smaller invariant-loop-i decreases-loop-i
+loop-i-smaller c = omega arith
 
-loop-again : tie.Need-loop-preserved invariant-loop decreases-loop
-loop-again c = (omega arith, c.before.before.before.loop.invariant.1 ∙ entry_passes 1024 _ _ (omega arith) (omega arith))
+loop-i-preserved : tie.Need-loop-i-preserved invariant-loop-i decreases-loop-i
+loop-i-preserved c = (omega arith, c.loop-i.invariant.1 ∙ entry_passes 1024 _ _ (omega arith) (omega arith))
 
-returns-2 : tie.Need-returns-2 invariant-loop decreases-loop
+returns : tie.Need-returns invariant-loop-i decreases-loop-i
 unfolding refuse_at
-returns-2 c = rw (c.before.loop.invariant.1 ∙ no_entry_left 1024 _ _ (omega arith)) refl
+returns c = rw (c.loop-i.invariant.1 ∙ no_entry_left 1024 _ _ (omega arith)) refl
 
-pub check-each-spec : {M : Type 1} → statement M
-check-each-spec =
-    tie.close
-    (tie.spec
-    invariant-loop
-    decreases-loop
-    loop-holds
-    mul-if1
-    shared-slice-read-if1
-    cast-t7
-    returns
-    add-i
-    loop-less
-    loop-again
-    returns-2)
+pub check_each_spec : {M : Type 1} → statement M
+check_each_spec = tie.close (tie.spec invariant-loop-i decreases-loop-i loop-i-init offset_bounds-list-i bounds-list-i overflow_cast-result returns-then-list-i-gt1023 overflow_add-i loop-i-smaller loop-i-preserved returns)

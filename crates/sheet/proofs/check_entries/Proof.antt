@@ -8,15 +8,15 @@ use Rattle.planning.specs.Basics.{refuse_at}
 excess-requires : tie.Need-excess-requires
 excess-requires c κs = search rules
 
-returns : tie.Need-returns
+returns-then-excess-eq0 : tie.Need-returns-then-excess-eq0
 unfolding refuse_at
-returns c = rw (c.before.excess.ensures c.if1.true) refl
+returns-then-excess-eq0 c = rw (c.excess.ensures c.if-excess-eq0.true) refl
 
-check-each-requires : tie.Need-check-each-requires
-check-each-requires c κs = search rules
+check_each-requires : tie.Need-check_each-requires
+check_each-requires c κs = search rules
 
-returns-2 : tie.Need-returns-2
-returns-2 c = search rules
+returns : tie.Need-returns
+returns c = search rules
 
-pub check-entries-spec : {M : Type 1} → statement M
-check-entries-spec = tie.close (tie.spec excess-requires returns check-each-requires returns-2)
+pub check_entries_spec : {M : Type 1} → statement M
+check_entries_spec = tie.close (tie.spec excess-requires returns-then-excess-eq0 check_each-requires returns)

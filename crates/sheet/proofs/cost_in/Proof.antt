@@ -7,31 +7,29 @@ use Rattle.bits.proofs.Window.{bits_at_add}
 use Rattle.sheet.proofs.cost_in.Statement.{statement}
 use Rattle.sheet.proofs.cost_in.Tie as tie
 
-read-bits-requires : tie.Need-read-bits-requires
-read-bits-requires c κs = omega arith
+read_bits-requires : tie.Need-read_bits-requires
+read_bits-requires c κs = omega arith
 
-first : (c : tie.After-read-bits) → c.read-bits.result < 2 ^ 16
-first c = rw c.read-bits.ensures (bits_at_below _ _ 16)
+first : (c : tie.After-read_bits) → c.read_bits.result < 2 ^ 16
+first c = rw c.read_bits.ensures (bits_at_below _ _ 16)
 
-second : (c : tie.After-read-bits2) → c.read-bits2.result < 2 ^ 16
-second c = rw c.read-bits2.ensures (bits_at_below _ _ 16)
+second : (c : tie.After-read_bits-2) → c.read_bits-2.result < 2 ^ 16
+second c = rw c.read_bits-2.ensures (bits_at_below _ _ 16)
 
-mul-result : tie.Need-overflow-mul-result
-mul-result c = omega (arith, first c)
+overflow_mul-result : tie.Need-overflow_mul-result
+overflow_mul-result c = omega (arith, first c)
 
-read-bits-requires-2 : tie.Need-read-bits-requires-2
-read-bits-requires-2 c κs = omega arith
+read_bits-requires-2 : tie.Need-read_bits-requires-2
+read_bits-requires-2 c κs = omega arith
 
-add-result : tie.Need-overflow-add-result
-add-result c = omega (arith, first c.before, second c)
+overflow_add-result : tie.Need-overflow_add-result
+overflow_add-result c = omega (arith, first c.before, second c)
 
-cast-result : tie.Need-overflow-cast-result
-cast-result c = omega (arith, first c.before, second c)
+overflow_cast-result : tie.Need-overflow_cast-result
+overflow_cast-result c = omega (arith, first c.before, second c)
 
 returns : tie.Need-returns
-returns c = rw (c.before.read-bits.ensures, c.read-bits2.ensures) (sym (bits_at_add c.before.before.before.args.bytes.now 21 16 16))
+returns c = rw (c.read_bits.ensures, c.read_bits-2.ensures) (sym (bits_at_add c.args.bytes.now 21 16 16))
 
-pub cost-in-spec : {M : Type 1} → statement M
-cost-in-spec =
-    tie.close
-    (tie.spec read-bits-requires mul-result read-bits-requires-2 add-result cast-result returns)
+pub cost_in_spec : {M : Type 1} → statement M
+cost_in_spec = tie.close (tie.spec read_bits-requires overflow_mul-result read_bits-requires-2 overflow_add-result overflow_cast-result returns)

@@ -6,51 +6,40 @@ use borrow.Author.Rules.{rules}
 use Rattle.sheet.proofs.cut_at.Statement.{statement}
 use Rattle.sheet.proofs.cut_at.Tie as tie
 
-sub_held : tie.Need-overflow-sub-held
-sub_held c = search rules
+overflow_sub-held : tie.Need-overflow_sub-held
+overflow_sub-held c = search rules
 
-mul-result : tie.Need-overflow-mul-result
-mul-result c = search rules
+overflow_mul-result : tie.Need-overflow_mul-result
+overflow_mul-result c = search rules
 
-add-result : tie.Need-overflow-add-result
-add-result c = search rules
+overflow_add-result : tie.Need-overflow_add-result
+overflow_add-result c = search rules
 
-returns : tie.Need-returns
+returns-then-mark-eq0 : tie.Need-returns-then-mark-eq0
 unfolding cut_in
-returns c =
-    let a = c.before.args in
+returns-then-mark-eq0 c =
+    let a = c.args in
     let e : a.mark ≡ 0 = omega arith in
     rw e (omega arith, omega arith)
 
-mul-result-2 : tie.Need-overflow-mul-result-2
-mul-result-2 c = search rules
+overflow_mul-result-2 : tie.Need-overflow_mul-result-2
+overflow_mul-result-2 c = search rules
 
-add-result-2 : tie.Need-overflow-add-result-2
-add-result-2 c = search rules
+overflow_add-result-2 : tie.Need-overflow_add-result-2
+overflow_add-result-2 c = search rules
 
 lesser-requires : tie.Need-lesser-requires
 lesser-requires c κs = search rules
 
-add-result-3 : tie.Need-overflow-add-result-3
-add-result-3 c = search rules
+overflow_add-result-3 : tie.Need-overflow_add-result-3
+overflow_add-result-3 c = search rules
 
-returns-2 : tie.Need-returns-2
+returns : tie.Need-returns
 unfolding cut_in
-returns-2 c =
-    let a = c.before.before.args in
+returns c =
+    let a = c.args in
     let e : a.mark ≡ 1 = omega arith in
     rw e (omega (arith, c.lesser.ensures), omega (arith, c.lesser.ensures))
 
-pub cut-at-spec : {M : Type 1} → statement M
-cut-at-spec =
-    tie.close
-    (tie.spec
-    sub_held
-    mul-result
-    add-result
-    returns
-    mul-result-2
-    add-result-2
-    lesser-requires
-    add-result-3
-    returns-2)
+pub cut_at_spec : {M : Type 1} → statement M
+cut_at_spec = tie.close (tie.spec overflow_sub-held overflow_mul-result overflow_add-result returns-then-mark-eq0 overflow_mul-result-2 overflow_add-result-2 lesser-requires overflow_add-result-3 returns)

@@ -6,26 +6,25 @@ use Rattle.planning.specs.Record.{ends_at}
 use Rattle.sheet.proofs.ends.Statement.{statement}
 use Rattle.sheet.proofs.ends.Tie as tie
 
-add-if1 : tie.Need-overflow-add-if1
-add-if1 c = search rules
+overflow_add-end : tie.Need-overflow_add-end
+overflow_add-end c = search rules
+
+returns-then-n-end : tie.Need-returns-then-n-end
+unfolding ends_at
+returns-then-n-end c = rw (ne_eqb _ _ c.if-n-end.true) refl
+
+overflow_mul-n : tie.Need-overflow_mul-n
+overflow_mul-n c = search rules
+
+overflow_sub-n : tie.Need-overflow_sub-n
+overflow_sub-n c = search rules
+
+read_bits-requires : tie.Need-read_bits-requires
+read_bits-requires c κs = search rules
 
 returns : tie.Need-returns
 unfolding ends_at
-returns c = rw (ne_eqb _ _ c.if1.true) refl
+returns c = rw (c.read_bits.ensures, eq-eqb _ _ c.if-n-end.false) refl
 
-mul-read-bits : tie.Need-overflow-mul-read-bits
-mul-read-bits c = search rules
-
-sub-read-bits : tie.Need-overflow-sub-read-bits
-sub-read-bits c = search rules
-
-read-bits-requires : tie.Need-read-bits-requires
-read-bits-requires c κs = search rules
-
-returns-2 : tie.Need-returns-2
-unfolding ends_at
-returns-2 c = rw (c.read-bits.ensures, eq-eqb _ _ c.before.if1.false) refl
-
-pub ends-spec : {M : Type 1} → statement M
-ends-spec =
-    tie.close (tie.spec add-if1 returns mul-read-bits sub-read-bits read-bits-requires returns-2)
+pub ends_spec : {M : Type 1} → statement M
+ends_spec = tie.close (tie.spec overflow_add-end returns-then-n-end overflow_mul-n overflow_sub-n read_bits-requires returns)

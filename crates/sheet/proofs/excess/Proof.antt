@@ -9,46 +9,35 @@ use Rattle.sheet.proofs.Entries.{entry_passes, no_entry_left}
 use Rattle.sheet.proofs.excess.Statement.{statement}
 use Rattle.sheet.proofs.excess.Tie as tie
 
-abbrev invariant-loop : tie.invariant-loop
-invariant-loop list any₀ i₀ any i = (i ≤ length list) × (any < 1024 → not_below 1024 0 list ≡ not_below 1024 i (drop i list))
+abbrev invariant-loop-i : tie.invariant-loop-i
+invariant-loop-i list any₀ i₀ any i = (i ≤ length list) × (any < 1024 → not_below 1024 0 list ≡ not_below 1024 i (drop i list))
 
-abbrev decreases-loop : tie.decreases-loop
-decreases-loop list any₀ i₀ any i = length list - i
+abbrev decreases-loop-i : tie.decreases-loop-i
+decreases-loop-i list any₀ i₀ any i = length list - i
 
-loop-holds : tie.Need-loop-init invariant-loop decreases-loop
-loop-holds c = (omega arith, λ _. refl)
+loop-i-init : tie.Need-loop-i-init invariant-loop-i decreases-loop-i
+loop-i-init c = (omega arith, λ _. refl)
 
-mul-any : tie.Need-overflow-mul-any invariant-loop decreases-loop
-mul-any c = omega arith
+offset_bounds-list-i : tie.Need-offset_bounds-list-i invariant-loop-i decreases-loop-i
+offset_bounds-list-i c = omega arith
 
-shared-slice-read-any : tie.Need-shared-slice-read-any invariant-loop decreases-loop
-shared-slice-read-any c = omega arith
+bounds-list-i : tie.Need-bounds-list-i invariant-loop-i decreases-loop-i
+bounds-list-i c = omega arith
 
-add-i : tie.Need-overflow-add-i invariant-loop decreases-loop
-add-i c = omega arith
+overflow_add-i : tie.Need-overflow_add-i invariant-loop-i decreases-loop-i
+overflow_add-i c = omega arith
 
-loop-less : tie.Need-loop-smaller invariant-loop decreases-loop
-loop-less c = omega arith
+loop-i-smaller : tie.Need-loop-i-smaller invariant-loop-i decreases-loop-i
+loop-i-smaller c = omega arith
 
-loop-again : tie.Need-loop-preserved invariant-loop decreases-loop
-loop-again c =
-    let x = c.before.before.loop.any in
-    let y = get_or c.before.before.before.args.list.now c.before.before.loop.i 0 in
-    (omega arith, λ z. c.before.before.loop.invariant.1 (omega (arith, or_add_and x y, and_le_r x y)) ∙ entry_passes 1024 _ _ (omega arith) (omega (arith, or_add_and x y, and_le_l x y)))
+loop-i-preserved : tie.Need-loop-i-preserved invariant-loop-i decreases-loop-i
+loop-i-preserved c =
+    let x = c.loop-i.any in
+    let y = get_or c.args.list.now c.loop-i.i 0 in
+    (omega arith, λ z. c.loop-i.invariant.1 (omega (arith, or_add_and x y, and_le_r x y)) ∙ entry_passes 1024 _ _ (omega arith) (omega (arith, or_add_and x y, and_le_l x y)))
 
-returns : tie.Need-returns invariant-loop decreases-loop
-returns c = λ z. c.before.loop.invariant.1 (omega arith) ∙ no_entry_left 1024 _ _ (omega arith)
+returns : tie.Need-returns invariant-loop-i decreases-loop-i
+returns c = λ z. c.loop-i.invariant.1 (omega arith) ∙ no_entry_left 1024 _ _ (omega arith)
 
-pub excess-spec : {M : Type 1} → statement M
-excess-spec =
-    tie.close
-    (tie.spec
-    invariant-loop
-    decreases-loop
-    loop-holds
-    mul-any
-    shared-slice-read-any
-    add-i
-    loop-less
-    loop-again
-    returns)
+pub excess_spec : {M : Type 1} → statement M
+excess_spec = tie.close (tie.spec invariant-loop-i decreases-loop-i loop-i-init offset_bounds-list-i bounds-list-i overflow_add-i loop-i-smaller loop-i-preserved returns)

@@ -4,11 +4,11 @@ use Rattle.sheet.proofs.Widths.{width_one, width_other}
 use Rattle.sheet.proofs.mark_width.Statement.{statement}
 use Rattle.sheet.proofs.mark_width.Tie as tie
 
-returns : tie.Need-returns
-returns c = (width_one _ (omega arith), omega arith)
+returns-then-edition-eq1 : tie.Need-returns-then-edition-eq1
+returns-then-edition-eq1 c = (width_one _ (omega arith), omega arith)
 
-returns-2 : tie.Need-returns-2
-returns-2 c = (width_other _ (λ e. omega arith), omega arith)
+returns-else-edition-eq1 : tie.Need-returns-else-edition-eq1
+returns-else-edition-eq1 c = (width_other _ (λ e. omega arith), omega arith)
 
-pub mark-width-spec : {M : Type 1} → statement M
-mark-width-spec = tie.close (tie.spec returns returns-2)
+pub mark_width_spec : {M : Type 1} → statement M
+mark_width_spec = tie.close (tie.spec returns-then-edition-eq1 returns-else-edition-eq1)

@@ -15,85 +15,68 @@ use lib.ListN.{length}
 use Rattle.sheet.proofs.size_for.Statement.{statement}
 use Rattle.sheet.proofs.size_for.Tie as tie
 
-no-fault : (c : tie.After-enum-told) → not_below 1024 0 c.before.before.before.before.before.args.list.now ≡ none
-no-fault c = refuse_at_none 13 _ (passed_by_lem _ _ c.enum_told.given.1 c.before.before.check-entries.ensures)
+no_fault : (c : tie.In-Accepted) → not_below 1024 0 c.args.list.now ≡ none
+no_fault c = refuse_at_none 13 _ (passed_by_lem _ _ c.in-Accepted.is c.check_entries-entries.ensures)
 
 -- a mark has one bit at most
-little : (c : tie.After-mark-width) → let n = length c.before.before.before.before.before.before.args.list.now in c.mark-width.result * n ≤ 1 * n
-little c = mul-le-mul_right _ c.mark-width.ensures.1
+little : (c : tie.After-mark_width) → let n = length c.args.list.now in c.mark_width.result * n ≤ 1 * n
+little c = mul-le-mul_right _ c.mark_width.ensures.1
 
-returns : tie.Need-returns
-returns c = λ ms k b. let a = c.before.before.args in sym (over_length (sheet a.edition a.list.now ms k b) a.room (omega arith))
+returns-then-list-gt32768 : tie.Need-returns-then-list-gt32768
+returns-then-list-gt32768 c = λ ms k b. let a = c.args in sym (over_length (sheet a.edition a.list.now ms k b) a.room (omega arith))
 
-check-entries-requires : tie.Need-check-entries-requires
-check-entries-requires c κs = search rules
+check_entries-entries-requires : tie.Need-check_entries-entries-requires
+check_entries-entries-requires c κs = search rules
 
-enum_told : tie.Need-enum-told
-enum_told c = search rules
+enum_told-1 : tie.Need-enum_told-1
+enum_told-1 c = search rules
 
-enum-told-2 : tie.Need-enum-told-2
-enum-told-2 c = search rules
+enum_told-in_default : tie.Need-enum_told-in_default
+enum_told-in_default c = search rules
 
-refusal-in-requires : tie.Need-refusal-in-requires
-refusal-in-requires c κs = search rules
+refusal_in-requires : tie.Need-refusal_in-requires
+refusal_in-requires c κs = search rules
 
-returns-2 : tie.Need-returns-2
-returns-2 c = λ ms k b.
-    let a = c.before.before.before.before.before.before.args in
-    let f = c.refusal-in.result in
-    let told = refused_by _ _ f _ c.before.enum-told2.given.1 c.refusal-in.ensures c.before.before.before.check-entries.ensures in
+returns-in_default : tie.Need-returns-in_default
+returns-in_default c = λ ms k b.
+    let a = c.args in
+    let f = c.refusal_in.result in
+    let told = refused_by _ _ f _ c.in_default.is c.refusal_in.ensures c.check_entries-entries.ensures in
     sym (over_entry (sheet a.edition a.list.now ms k b) a.room (omega arith) _ _ told)
 
-mark-width-requires : tie.Need-mark-width-requires
-mark-width-requires c κs = search rules
+mark_width-requires : tie.Need-mark_width-requires
+mark_width-requires c κs = search rules
 
-add-size : tie.Need-overflow-add-size
-add-size c = search rules
+overflow_add-size : tie.Need-overflow_add-size
+overflow_add-size c = search rules
 
-mul-size : tie.Need-overflow-mul-size
-mul-size c = omega (arith, little c)
+overflow_mul-size : tie.Need-overflow_mul-size
+overflow_mul-size c = omega (arith, little c)
 
-add-size-2 : tie.Need-overflow-add-size-2
-add-size-2 c = omega (arith, little c)
+overflow_add-size-2 : tie.Need-overflow_add-size-2
+overflow_add-size-2 c = omega (arith, little c)
 
-add-size-3 : tie.Need-overflow-add-size-3
-add-size-3 c = omega (arith, little c)
+overflow_add-size-3 : tie.Need-overflow_add-size-3
+overflow_add-size-3 c = omega (arith, little c)
 
-cast-t15 : tie.Need-overflow-cast-t15
-cast-t15 c = omega (arith, little c.before)
+overflow_cast-result : tie.Need-overflow_cast-result
+overflow_cast-result c = omega (arith, little c.before)
 
-returns-3 : tie.Need-returns-3
+returns-then-room-size : tie.Need-returns-then-room-size
 unfolding sheet_size sheet_end
-returns-3 c = λ ms k b.
-    let a = c.before.before.before.before.before.before.before.args in
-    sym (over_room (sheet a.edition a.list.now ms k b) a.room (omega arith) (no-fault c.before.before) (rw (← c.before.mark-width.ensures.0) (omega arith)))
+returns-then-room-size c = λ ms k b.
+    let a = c.args in
+    sym (over_room (sheet a.edition a.list.now ms k b) a.room (omega arith) (no_fault c.before.before) (rw (← c.mark_width.ensures.0) (omega arith)))
 
-cast-t17 : tie.Need-overflow-cast-t17
-cast-t17 c = omega (arith, little c.before)
+overflow_cast-result-2 : tie.Need-overflow_cast-result-2
+overflow_cast-result-2 c = omega (arith, little c.before)
 
-returns-4 : tie.Need-returns-4
+returns : tie.Need-returns
 unfolding sheet_size sheet_end
-returns-4 c = λ ms k b.
-    let a = c.before.before.before.before.before.before.before.args in
-    let e = c.before.mark-width.ensures.0 in
-    rw e (sym (writes (sheet a.edition a.list.now ms k b) a.room (omega arith) (no-fault c.before.before) (rw (← e) (omega arith))))
+returns c = λ ms k b.
+    let a = c.args in
+    let e = c.mark_width.ensures.0 in
+    rw e (sym (writes (sheet a.edition a.list.now ms k b) a.room (omega arith) (no_fault c.before.before) (rw (← e) (omega arith))))
 
-pub size-for-spec : {M : Type 1} → statement M
-size-for-spec =
-    tie.close
-    (tie.spec
-    returns
-    check-entries-requires
-    enum_told
-    enum-told-2
-    refusal-in-requires
-    returns-2
-    mark-width-requires
-    add-size
-    mul-size
-    add-size-2
-    add-size-3
-    cast-t15
-    returns-3
-    cast-t17
-    returns-4)
+pub size_for_spec : {M : Type 1} → statement M
+size_for_spec = tie.close (tie.spec returns-then-list-gt32768 check_entries-entries-requires enum_told-1 enum_told-in_default refusal_in-requires returns-in_default mark_width-requires overflow_add-size overflow_mul-size overflow_add-size-2 overflow_add-size-3 overflow_cast-result returns-then-room-size overflow_cast-result-2 returns)

@@ -6,24 +6,23 @@ use borrow.Author.Rules.{rules}
 use Rattle.task.proofs.count.Statement.{statement}
 use Rattle.task.proofs.count.Tie as tie
 
-add_wide : tie.Need-overflow-add-wide
-add_wide c = search rules
+overflow_add-v : tie.Need-overflow_add-v
+overflow_add-v c = search rules
 
-mul_wide : tie.Need-overflow-mul-wide
-mul_wide c = search rules
+overflow_mul-v : tie.Need-overflow_mul-v
+overflow_mul-v c = search rules
 
-mul-wide-2 : tie.Need-overflow-mul-wide-2
-mul-wide-2 c = search rules
+offset_bounds-task-v : tie.Need-offset_bounds-task-v
+offset_bounds-task-v c = search rules
 
-shared-slice-read-wide : tie.Need-shared-slice-read-wide
-shared-slice-read-wide c = search rules
+bounds-task-v : tie.Need-bounds-task-v
+bounds-task-v c = search rules
 
 wide-requires : tie.Need-wide-requires
 wide-requires c κs = search rules
 
 returns : tie.Need-returns
-returns c = let a = c.before.before.before.args in c.wide.ensures ∙ sym (at_zero a.task.now (1 + a.v)) ∙ count_is _ _ (search rules)
+returns c = let a = c.args in c.wide.ensures ∙ sym (at_zero a.task.now (1 + a.v)) ∙ count_is _ _ (search rules)
 
 pub count_spec : {M : Type 1} → statement M
-count_spec =
-    tie.close (tie.spec add_wide mul_wide mul-wide-2 shared-slice-read-wide wide-requires returns)
+count_spec = tie.close (tie.spec overflow_add-v overflow_mul-v offset_bounds-task-v bounds-task-v wide-requires returns)

@@ -3,20 +3,20 @@ use borrow.Author.Rules.{rules}
 use Rattle.task.proofs.eff_start.Statement.{statement}
 use Rattle.task.proofs.eff_start.Tie as tie
 
-add_wide : tie.Need-overflow-add-wide
-add_wide c = search rules
+overflow_add-i : tie.Need-overflow_add-i
+overflow_add-i c = search rules
 
-mul_wide : tie.Need-overflow-mul-wide
-mul_wide c = search rules
+overflow_mul-i : tie.Need-overflow_mul-i
+overflow_mul-i c = search rules
 
-add-wide-2 : tie.Need-overflow-add-wide-2
-add-wide-2 c = search rules
+overflow_add-i-2 : tie.Need-overflow_add-i-2
+overflow_add-i-2 c = search rules
 
-mul-wide-2 : tie.Need-overflow-mul-wide-2
-mul-wide-2 c = search rules
+offset_bounds-task-i : tie.Need-offset_bounds-task-i
+offset_bounds-task-i c = search rules
 
-shared-slice-read-wide : tie.Need-shared-slice-read-wide
-shared-slice-read-wide c = omega (arith, (c.before.before.requires.0.rows _ c.before.before.requires.1).room)
+bounds-task-i : tie.Need-bounds-task-i
+bounds-task-i c = omega (arith, (c.requires.0.rows _ c.requires.1).room)
 
 wide-requires : tie.Need-wide-requires
 wide-requires c κs = search rules
@@ -24,7 +24,5 @@ wide-requires c κs = search rules
 returns : tie.Need-returns
 returns c = search rules
 
-pub eff-start-spec : {M : Type 1} → statement M
-eff-start-spec =
-    tie.close
-    (tie.spec add_wide mul_wide add-wide-2 mul-wide-2 shared-slice-read-wide wide-requires returns)
+pub eff_start_spec : {M : Type 1} → statement M
+eff_start_spec = tie.close (tie.spec overflow_add-i overflow_mul-i overflow_add-i-2 offset_bounds-task-i bounds-task-i wide-requires returns)

@@ -6,64 +6,48 @@ use borrow.Author.Rules.{rules}
 use Rattle.task.proofs.link.Statement.{statement}
 use Rattle.task.proofs.link.Tie as tie
 
-slice-read-wide : tie.Need-slice-read-wide
-slice-read-wide c = search rules
+bounds-task-3 : tie.Need-bounds-task-3
+bounds-task-3 c = search rules
 
-wide-requires : tie.Need-wide-requires
-wide-requires c κs = search rules
+wide-heads-requires : tie.Need-wide-heads-requires
+wide-heads-requires c κs = search rules
 
-add-task : tie.Need-overflow-add-task
-add-task c = search rules
+overflow_add-task : tie.Need-overflow_add-task
+overflow_add-task c = search rules
 
-mul-task : tie.Need-overflow-mul-task
-mul-task c = search rules
+offset_bounds-task-heads : tie.Need-offset_bounds-task-heads
+offset_bounds-task-heads c = search rules
 
-slice-read-task : tie.Need-slice-read-task
-slice-read-task c = search rules
+bounds-task-heads : tie.Need-bounds-task-heads
+bounds-task-heads c = search rules
 
-add-task-2 : tie.Need-overflow-add-task-2
-add-task-2 c = search rules
+overflow_add-task-2 : tie.Need-overflow_add-task-2
+overflow_add-task-2 c = search rules
 
-mul-task-2 : tie.Need-overflow-mul-task-2
-mul-task-2 c = search rules
+offset_bounds-task-i : tie.Need-offset_bounds-task-i
+offset_bounds-task-i c = search rules
 
-slice-write-task : tie.Need-slice-write-task
-slice-write-task c = search rules
+bounds-task-i : tie.Need-bounds-task-i
+bounds-task-i c = search rules
 
-cast-task : tie.Need-overflow-cast-task
-cast-task c = search rules
+overflow_cast-task : tie.Need-overflow_cast-task
+overflow_cast-task c = search rules
 
-add-task-3 : tie.Need-overflow-add-task-3
-add-task-3 c = search rules
+overflow_add-task-3 : tie.Need-overflow_add-task-3
+overflow_add-task-3 c = search rules
 
-mul-task-3 : tie.Need-overflow-mul-task-3
-mul-task-3 c = search rules
+offset_bounds-task-heads-2 : tie.Need-offset_bounds-task-heads-2
+offset_bounds-task-heads-2 c = search rules
 
-slice-write-task-2 : tie.Need-slice-write-task-2
-slice-write-task-2 c = simp length-set (omega arith)
+bounds-task-heads-2 : tie.Need-bounds-task-heads-2
+bounds-task-heads-2 c = simp length-set (omega arith)
 
-same_length : tie.Need-same-length
-same_length c = search rules
+shape_of-task : tie.Need-shape_of-task
+shape_of-task c = search rules
 
 returns : tie.Need-returns
 unfolding linked
-returns c = rw c.before.wide.ensures refl
+returns c = rw c.wide-heads.ensures refl
 
-pub link-spec : {M : Type 1} → statement M
-link-spec =
-    tie.close
-    (tie.spec
-    slice-read-wide
-    wide-requires
-    add-task
-    mul-task
-    slice-read-task
-    add-task-2
-    mul-task-2
-    slice-write-task
-    cast-task
-    add-task-3
-    mul-task-3
-    slice-write-task-2
-    same_length
-    returns)
+pub link_spec : {M : Type 1} → statement M
+link_spec = tie.close (tie.spec bounds-task-3 wide-heads-requires overflow_add-task offset_bounds-task-heads bounds-task-heads overflow_add-task-2 offset_bounds-task-i bounds-task-i overflow_cast-task overflow_add-task-3 offset_bounds-task-heads-2 bounds-task-heads-2 shape_of-task returns)

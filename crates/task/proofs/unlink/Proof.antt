@@ -7,59 +7,44 @@ use Rattle.task.proofs.Relinking.{heads_fewer, unlinked_none, unlinked_more, unl
 use Rattle.task.proofs.unlink.Statement.{statement}
 use Rattle.task.proofs.unlink.Tie as tie
 
-abbrev invariant-loop : tie.invariant-loop
-invariant-loop task₀ n heads f₀ task f = (f ≤ n) × Unlinked f task₀ task
+abbrev invariant-loop-f : tie.invariant-loop-f
+invariant-loop-f task₀ n heads f₀ task f = (f ≤ n) × Unlinked f task₀ task
 
-abbrev decreases-loop : tie.decreases-loop
-decreases-loop task₀ n heads f₀ task f = n - f
+abbrev decreases-loop-f : tie.decreases-loop-f
+decreases-loop-f task₀ n heads f₀ task f = n - f
 
-slice-read-wide : tie.Need-slice-read-wide invariant-loop decreases-loop
-slice-read-wide c = search rules
+bounds-task-3 : tie.Need-bounds-task-3 invariant-loop-f decreases-loop-f
+bounds-task-3 c = search rules
 
-wide-requires : tie.Need-wide-requires invariant-loop decreases-loop
-wide-requires c κs = search rules
+wide-heads-requires : tie.Need-wide-heads-requires invariant-loop-f decreases-loop-f
+wide-heads-requires c κs = search rules
 
-loop-holds : tie.Need-loop-init invariant-loop decreases-loop
-loop-holds c = (search rules, unlinked_none _)
+loop-f-init : tie.Need-loop-f-init invariant-loop-f decreases-loop-f
+loop-f-init c = (search rules, unlinked_none _)
 
-add-task : tie.Need-overflow-add-task invariant-loop decreases-loop
-add-task c = search rules
+overflow_add-task : tie.Need-overflow_add-task invariant-loop-f decreases-loop-f
+overflow_add-task c = search rules
 
-mul-task : tie.Need-overflow-mul-task invariant-loop decreases-loop
-mul-task c = search rules
+offset_bounds-task-heads : tie.Need-offset_bounds-task-heads invariant-loop-f decreases-loop-f
+offset_bounds-task-heads c = search rules
 
-slice-write-task : tie.Need-slice-write-task invariant-loop decreases-loop
-slice-write-task c = let l = c.before in omega (arith, l.loop.invariant.1.relinked.long)
+bounds-task-heads : tie.Need-bounds-task-heads invariant-loop-f decreases-loop-f
+bounds-task-heads c = omega (arith, c.loop-f.invariant.1.relinked.long)
 
-add-f : tie.Need-overflow-add-f invariant-loop decreases-loop
-add-f c = search rules
+overflow_add-f : tie.Need-overflow_add-f invariant-loop-f decreases-loop-f
+overflow_add-f c = search rules
 
-loop-less : tie.Need-loop-smaller invariant-loop decreases-loop
-loop-less c = search rules
+loop-f-smaller : tie.Need-loop-f-smaller invariant-loop-f decreases-loop-f
+loop-f-smaller c = search rules
 
-loop-again : tie.Need-loop-preserved invariant-loop decreases-loop
-loop-again c = let l = c.before in (omega arith, unlinked_more _ _ _ _ l.before.wide.ensures (heads_fewer _ _ _ (omega arith) l.before.before.before.before.requires) l.loop.invariant.1)
+loop-f-preserved : tie.Need-loop-f-preserved invariant-loop-f decreases-loop-f
+loop-f-preserved c = (omega arith, unlinked_more _ _ _ _ c.wide-heads.ensures (heads_fewer _ _ _ (omega arith) c.requires) c.loop-f.invariant.1)
 
-same_length : tie.Need-same-length invariant-loop decreases-loop
-same_length c = c.before.loop.invariant.1.relinked.long
+shape_of-task : tie.Need-shape_of-task invariant-loop-f decreases-loop-f
+shape_of-task c = c.loop-f.invariant.1.relinked.long
 
-returns : tie.Need-returns invariant-loop decreases-loop
-returns c = let l = c.before.loop in unlinked_all _ _ _ _ (omega (arith, l.invariant.0)) l.invariant.1
+returns : tie.Need-returns invariant-loop-f decreases-loop-f
+returns c = let l = c.loop-f in unlinked_all _ _ _ _ (omega (arith, l.invariant.0)) l.invariant.1
 
-pub unlink-spec : {M : Type 1} → statement M
-unlink-spec =
-    tie.close
-    (tie.spec
-    invariant-loop
-    decreases-loop
-    slice-read-wide
-    wide-requires
-    loop-holds
-    add-task
-    mul-task
-    slice-write-task
-    add-f
-    loop-less
-    loop-again
-    same_length
-    returns)
+pub unlink_spec : {M : Type 1} → statement M
+unlink_spec = tie.close (tie.spec invariant-loop-f decreases-loop-f bounds-task-3 wide-heads-requires loop-f-init overflow_add-task offset_bounds-task-heads bounds-task-heads overflow_add-f loop-f-smaller loop-f-preserved shape_of-task returns)

@@ -9,57 +9,43 @@ use Rattle.text.proofs.Texts.{copy_start, copy_turn, copy_end}
 use Rattle.text.proofs.put.Statement.{statement}
 use Rattle.text.proofs.put.Tie as tie
 
-abbrev invariant-loop : tie.invariant-loop
-invariant-loop out₀ at word k₀ out k = (k ≤ length word) × (length out ≡ length out₀) × (take (at + k) out ≡ take at out₀ ++ take k word)
+abbrev invariant-loop-k : tie.invariant-loop-k
+invariant-loop-k out₀ at word k₀ out k = (k ≤ length word) × (length out ≡ length out₀) × (take (at + k) out ≡ take at out₀ ++ take k word)
 
-abbrev decreases-loop : tie.decreases-loop
-decreases-loop out₀ at word k₀ out k = length word - k
+abbrev decreases-loop-k : tie.decreases-loop-k
+decreases-loop-k out₀ at word k₀ out k = length word - k
 
-loop-holds : tie.Need-loop-init invariant-loop decreases-loop
-loop-holds c = (omega arith, refl, let a = c.args in copy_start a.out.now a.word.now a.at)
+loop-k-init : tie.Need-loop-k-init invariant-loop-k decreases-loop-k
+loop-k-init c = (omega arith, refl, let a = c.args in copy_start a.out.now a.word.now a.at)
 
-shared-slice-read-out : tie.Need-shared-slice-read-out invariant-loop decreases-loop
-shared-slice-read-out c = search rules
+bounds-word-k : tie.Need-bounds-word-k invariant-loop-k decreases-loop-k
+bounds-word-k c = search rules
 
-add-out : tie.Need-overflow-add-out invariant-loop decreases-loop
-add-out c = search rules
+overflow_add-out : tie.Need-overflow_add-out invariant-loop-k decreases-loop-k
+overflow_add-out c = search rules
 
-slice-write-out : tie.Need-slice-write-out invariant-loop decreases-loop
-slice-write-out c = search rules
+bounds-out-at : tie.Need-bounds-out-at invariant-loop-k decreases-loop-k
+bounds-out-at c = search rules
 
-add-k : tie.Need-overflow-add-k invariant-loop decreases-loop
-add-k c = search rules
+overflow_add-k : tie.Need-overflow_add-k invariant-loop-k decreases-loop-k
+overflow_add-k c = search rules
 
-loop-less : tie.Need-loop-smaller invariant-loop decreases-loop
-loop-less c = search rules
+loop-k-smaller : tie.Need-loop-k-smaller invariant-loop-k decreases-loop-k
+loop-k-smaller c = search rules
 
-loop-again : tie.Need-loop-preserved invariant-loop decreases-loop
-loop-again c =
-    let a = c.before.before.before.args in
-    let b = c.before.before.loop in (omega arith, simp length-set b.invariant.1, copy_turn a.out.now a.word.now a.at b.out b.k (omega arith) (omega arith) b.invariant.2)
+loop-k-preserved : tie.Need-loop-k-preserved invariant-loop-k decreases-loop-k
+loop-k-preserved c =
+    let a = c.args in
+    let b = c.loop-k in (omega arith, simp length-set b.invariant.1, copy_turn a.out.now a.word.now a.at b.out b.k (omega arith) (omega arith) b.invariant.2)
 
-add-result : tie.Need-overflow-add-result invariant-loop decreases-loop
-add-result c = search rules
+overflow_add-result : tie.Need-overflow_add-result invariant-loop-k decreases-loop-k
+overflow_add-result c = search rules
 
-same_length : tie.Need-same-length invariant-loop decreases-loop
-same_length c = search rules
+shape_of-out : tie.Need-shape_of-out invariant-loop-k decreases-loop-k
+shape_of-out c = search rules
 
-returns : tie.Need-returns invariant-loop decreases-loop
-returns c = let a = c.before.before.args in copy_end a.out.now a.word.now a.at _ c.before.loop.k (omega arith) (omega arith) c.before.loop.invariant.2
+returns : tie.Need-returns invariant-loop-k decreases-loop-k
+returns c = let a = c.args in copy_end a.out.now a.word.now a.at _ c.loop-k.k (omega arith) (omega arith) c.loop-k.invariant.2
 
 pub put_spec : {M : Type 1} → statement M
-put_spec =
-    tie.close
-    (tie.spec
-    invariant-loop
-    decreases-loop
-    loop-holds
-    shared-slice-read-out
-    add-out
-    slice-write-out
-    add-k
-    loop-less
-    loop-again
-    add-result
-    same_length
-    returns)
+put_spec = tie.close (tie.spec invariant-loop-k decreases-loop-k loop-k-init bounds-word-k overflow_add-out bounds-out-at overflow_add-k loop-k-smaller loop-k-preserved overflow_add-result shape_of-out returns)

@@ -4,32 +4,21 @@ use borrow.Author.Rules.{rules}
 use Rattle.text.proofs.put_relaxed.Statement.{statement}
 use Rattle.text.proofs.put_relaxed.Tie as tie
 
-slice-aggregate-put-head : tie.Need-slice-aggregate-put-head
-slice-aggregate-put-head c = search rules
+overflow_cast-list : tie.Need-overflow_cast-list
+overflow_cast-list c = search rules
 
-cast-put-head : tie.Need-overflow-cast-put-head
-cast-put-head c = search rules
+put_head-end-requires : tie.Need-put_head-end-requires
+put_head-end-requires c κs = search rules
 
-put-head-requires : tie.Need-put-head-requires
-put-head-requires c κs = search rules
+put_rest-requires : tie.Need-put_rest-requires
+put_rest-requires c κs = search rules
 
-put-rest-requires : tie.Need-put-rest-requires
-put-rest-requires c κs = search rules
-
-same_length : tie.Need-same-length
-same_length c = search rules
+shape_of-out : tie.Need-shape_of-out
+shape_of-out c = search rules
 
 returns : tie.Need-returns
-returns c = let P = c.before.before.before.before.before.before.put-head.ensures in
-    let Q = c.before.before.put_rest.ensures in (put_then (line_more _ _ _) P.0 Q.0, omega (arith, P.1, Q.1))
+returns c = let P = c.put_head-end.ensures in
+    let Q = c.put_rest.ensures in (put_then (line_more _ _ _) P.0 Q.0, omega (arith, P.1, Q.1))
 
-pub put-relaxed-spec : {M : Type 1} → statement M
-put-relaxed-spec =
-    tie.close
-    (tie.spec
-    slice-aggregate-put-head
-    cast-put-head
-    put-head-requires
-    put-rest-requires
-    same_length
-    returns)
+pub put_relaxed_spec : {M : Type 1} → statement M
+put_relaxed_spec = tie.close (tie.spec overflow_cast-list put_head-end-requires put_rest-requires shape_of-out returns)

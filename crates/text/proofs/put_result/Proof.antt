@@ -4,17 +4,17 @@ use borrow.Author.Rules.{rules}
 use Rattle.text.proofs.put_result.Statement.{statement}
 use Rattle.text.proofs.put_result.Tie as tie
 
-put-plan-requires : tie.Need-put-plan-requires
-put-plan-requires c κs = search rules
+put_plan-end-requires : tie.Need-put_plan-end-requires
+put_plan-end-requires c κs = search rules
 
-put-verdict-requires : tie.Need-put-verdict-requires
-put-verdict-requires c κs = search rules
+put_verdict-requires : tie.Need-put_verdict-requires
+put_verdict-requires c κs = search rules
 
-same_length : tie.Need-same-length
-same_length c = search rules
+shape_of-out : tie.Need-shape_of-out
+shape_of-out c = search rules
 
 returns : tie.Need-returns
-returns c = put_then refl c.before.before.before.before.before.before.put-plan.ensures.0 c.before.before.put-verdict.ensures
+returns c = put_then refl c.put_plan-end.ensures.0 c.put_verdict.ensures
 
-pub put-result-spec : {M : Type 1} → statement M
-put-result-spec = tie.close (tie.spec put-plan-requires put-verdict-requires same_length returns)
+pub put_result_spec : {M : Type 1} → statement M
+put_result_spec = tie.close (tie.spec put_plan-end-requires put_verdict-requires shape_of-out returns)
