@@ -4,20 +4,20 @@ use borrow.Author.Rules.{rules}
 use Rattle.blanking.proofs.steps_of.Statement.{statement}
 use Rattle.blanking.proofs.steps_of.Tie as tie
 
-enum-known-answer : tie.Need-enum-known-answer
-enum-known-answer c = search rules
+enum_known-answer : tie.Need-enum_known-answer
+enum_known-answer c = search rules
 
-enum_told : tie.Need-enum-told
-enum_told c = search rules
+enum_told-1 : tie.Need-enum_told-1
+enum_told-1 c = search rules
+
+returns-in_default : tie.Need-returns-in_default
+returns-in_default c = search rules
+
+overflow_cast-result : tie.Need-overflow_cast-result
+overflow_cast-result c = search rules
 
 returns : tie.Need-returns
-returns c = search rules
+returns c = ap steps_of (sym c.in-Plan.is)
 
-cast-result : tie.Need-overflow-cast-result
-cast-result c = search rules
-
-returns-2 : tie.Need-returns-2
-returns-2 c = ap steps_of (sym c.before.answer.given.1)
-
-pub steps-of-spec : {M : Type 1} → statement M
-steps-of-spec = tie.close (tie.spec enum-known-answer enum_told returns cast-result returns-2)
+pub steps_of_spec : {M : Type 1} → statement M
+steps_of_spec = tie.close (tie.spec enum_known-answer enum_told-1 returns-in_default overflow_cast-result returns)

@@ -4,21 +4,21 @@ use borrow.Author.Rules.{rules}
 use Rattle.codes.proofs.code_of.Statement.{statement}
 use Rattle.codes.proofs.code_of.Tie as tie
 
-cast-result : tie.Need-overflow-cast-result
-cast-result c = search rules
+overflow_cast-result : tie.Need-overflow_cast-result
+overflow_cast-result c = search rules
 
-mul-result : tie.Need-overflow-mul-result
-mul-result c = search rules
+overflow_mul-result : tie.Need-overflow_mul-result
+overflow_mul-result c = search rules
 
-cast-result-2 : tie.Need-overflow-cast-result-2
-cast-result-2 c = search rules
+overflow_cast-result-2 : tie.Need-overflow_cast-result-2
+overflow_cast-result-2 c = search rules
 
-add-result : tie.Need-overflow-add-result
-add-result c = search rules
+overflow_add-result : tie.Need-overflow_add-result
+overflow_add-result c = search rules
 
 returns : tie.Need-returns
 unfolding code
 returns c = refl
 
-pub code-of-spec : {M : Type 1} → statement M
-code-of-spec = tie.close (tie.spec cast-result mul-result cast-result-2 add-result returns)
+pub code_of_spec : {M : Type 1} → statement M
+code_of_spec = tie.close (tie.spec overflow_cast-result overflow_mul-result overflow_cast-result-2 overflow_add-result returns)

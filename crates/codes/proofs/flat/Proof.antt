@@ -6,21 +6,21 @@ use borrow.Author.Rules.{rules}
 use Rattle.codes.proofs.flat.Statement.{statement}
 use Rattle.codes.proofs.flat.Tie as tie
 
-enum-known-p : tie.Need-enum-known-p
-enum-known-p c = search rules
+enum_known-p : tie.Need-enum_known-p
+enum_known-p c = search rules
 
-enum_told : tie.Need-enum-told
-enum_told c = search rules
+enum_told-1 : tie.Need-enum_told-1
+enum_told-1 c = search rules
 
-planned-code-requires : tie.Need-planned-code-requires
-planned-code-requires c κs = search rules
+planned_code-requires : tie.Need-planned_code-requires
+planned_code-requires c κs = search rules
+
+returns-in_default : tie.Need-returns-in_default
+unfolding code
+returns-in_default c = rw (c.planned_code.ensures, c.in_default.is) refl
 
 returns : tie.Need-returns
-unfolding code
-returns c = rw (c.planned-code.ensures, c.before.enum_told.given.1) refl
+returns c = ap (λ x. plan_result_of (answer_of x)) (sym c.in-Plan.is)
 
-returns-2 : tie.Need-returns-2
-returns-2 c = ap (λ x. plan_result_of (answer_of x)) (sym c.before.p.given.1)
-
-pub flat-spec : {M : Type 1} → statement M
-flat-spec = tie.close (tie.spec enum-known-p enum_told planned-code-requires returns returns-2)
+pub flat_spec : {M : Type 1} → statement M
+flat_spec = tie.close (tie.spec enum_known-p enum_told-1 planned_code-requires returns-in_default returns)

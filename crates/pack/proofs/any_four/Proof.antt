@@ -7,103 +7,76 @@ use borrow.Author.Rules.{rules}
 use Rattle.pack.proofs.any_four.Statement.{statement}
 use Rattle.pack.proofs.any_four.Tie as tie
 
-entry-at-requires : tie.Need-entry-at-requires
-entry-at-requires c κs = search rules
+entry_at-a-requires : tie.Need-entry_at-a-requires
+entry_at-a-requires c κs = search rules
 
-add-entry-at : tie.Need-overflow-add-entry-at
-add-entry-at c = search rules
+overflow_add-i : tie.Need-overflow_add-i
+overflow_add-i c = search rules
 
-entry-at-requires-2 : tie.Need-entry-at-requires-2
-entry-at-requires-2 c κs = search rules
+entry_at-b-requires : tie.Need-entry_at-b-requires
+entry_at-b-requires c κs = search rules
 
-add-entry-at-2 : tie.Need-overflow-add-entry-at-2
-add-entry-at-2 c = search rules
+overflow_add-i-2 : tie.Need-overflow_add-i-2
+overflow_add-i-2 c = search rules
 
-entry-at-requires-3 : tie.Need-entry-at-requires-3
-entry-at-requires-3 c κs = search rules
+entry_at-c-requires : tie.Need-entry_at-c-requires
+entry_at-c-requires c κs = search rules
 
-add-entry-at-3 : tie.Need-overflow-add-entry-at-3
-add-entry-at-3 c = search rules
+overflow_add-i-3 : tie.Need-overflow_add-i-3
+overflow_add-i-3 c = search rules
 
-entry-at-requires-4 : tie.Need-entry-at-requires-4
-entry-at-requires-4 c κs = search rules
+entry_at-d-requires : tie.Need-entry_at-d-requires
+entry_at-d-requires c κs = search rules
 
-mul-result : tie.Need-overflow-mul-result
-mul-result c = search rules
+overflow_mul-result : tie.Need-overflow_mul-result
+overflow_mul-result c = search rules
 
-mul-result-2 : tie.Need-overflow-mul-result-2
-mul-result-2 c = search rules
+overflow_mul-result-then-mark-eq0 : tie.Need-overflow_mul-result-then-mark-eq0
+overflow_mul-result-then-mark-eq0 c = search rules
 
-add-result : tie.Need-overflow-add-result
-add-result c = search rules
+overflow_add-result : tie.Need-overflow_add-result
+overflow_add-result c = search rules
 
-mul-result-3 : tie.Need-overflow-mul-result-3
-mul-result-3 c = search rules
+overflow_mul-result-then-mark-eq0-2 : tie.Need-overflow_mul-result-then-mark-eq0-2
+overflow_mul-result-then-mark-eq0-2 c = search rules
 
-add-result-2 : tie.Need-overflow-add-result-2
-add-result-2 c = search rules
+overflow_add-result-then-mark-eq0 : tie.Need-overflow_add-result-then-mark-eq0
+overflow_add-result-then-mark-eq0 c = search rules
 
-add-result-3 : tie.Need-overflow-add-result-3
-add-result-3 c = search rules
+overflow_add-result-then-mark-eq0-2 : tie.Need-overflow_add-result-then-mark-eq0-2
+overflow_add-result-then-mark-eq0-2 c = search rules
+
+returns-then-mark-eq0 : tie.Need-returns-then-mark-eq0
+returns-then-mark-eq0 c =
+    let o = c.args in
+    four_plain o.mark (omega arith) (entries (suc o.mark) o.list.now o.marks.now) o.i _ _ _ _
+    c.entry_at-a.ensures.0 c.entry_at-b.ensures.0 c.entry_at-c.ensures.0 c.entry_at-d.ensures.0
+    c.entry_at-a.ensures.1 c.entry_at-b.ensures.1 c.entry_at-c.ensures.1 c.entry_at-d.ensures.1
+
+overflow_mul-result-2 : tie.Need-overflow_mul-result-2
+overflow_mul-result-2 c = search rules
+
+overflow_mul-result-3 : tie.Need-overflow_mul-result-3
+overflow_mul-result-3 c = search rules
+
+overflow_add-result-2 : tie.Need-overflow_add-result-2
+overflow_add-result-2 c = search rules
+
+overflow_mul-result-4 : tie.Need-overflow_mul-result-4
+overflow_mul-result-4 c = search rules
+
+overflow_add-result-3 : tie.Need-overflow_add-result-3
+overflow_add-result-3 c = search rules
+
+overflow_add-result-4 : tie.Need-overflow_add-result-4
+overflow_add-result-4 c = search rules
 
 returns : tie.Need-returns
 returns c =
-    let at-entries = c.before in
-    let a = at-entries.before.before.before in
-    let o = a.before.before.before.args in
-    four_plain o.mark (omega arith) (entries (suc o.mark) o.list.now o.marks.now) o.i _ _ _ _
-    a.entry_at.ensures.0 at-entries.before.before.entry-at2.ensures.0 at-entries.before.entry-at3.ensures.0 at-entries.entry-at4.ensures.0
-    a.entry_at.ensures.1 at-entries.before.before.entry-at2.ensures.1 at-entries.before.entry-at3.ensures.1 at-entries.entry-at4.ensures.1
+    let o = c.args in
+    four_marked o.mark (omega (arith, c.requires.0)) (entries (suc o.mark) o.list.now o.marks.now) o.i _ _ _ _
+    c.entry_at-a.ensures.0 c.entry_at-b.ensures.0 c.entry_at-c.ensures.0 c.entry_at-d.ensures.0
+    c.entry_at-a.ensures.1 c.entry_at-b.ensures.1 c.entry_at-c.ensures.1 c.entry_at-d.ensures.1
 
-mul-result-4 : tie.Need-overflow-mul-result-4
-mul-result-4 c = search rules
-
-mul-result-5 : tie.Need-overflow-mul-result-5
-mul-result-5 c = search rules
-
-add-result-4 : tie.Need-overflow-add-result-4
-add-result-4 c = search rules
-
-mul-result-6 : tie.Need-overflow-mul-result-6
-mul-result-6 c = search rules
-
-add-result-5 : tie.Need-overflow-add-result-5
-add-result-5 c = search rules
-
-add-result-6 : tie.Need-overflow-add-result-6
-add-result-6 c = search rules
-
-returns-2 : tie.Need-returns-2
-returns-2 c =
-    let at-entries = c.before in
-    let a = at-entries.before.before.before in
-    let o = a.before.before.before.args in
-    four_marked o.mark (omega (arith, a.before.before.before.requires.0)) (entries (suc o.mark) o.list.now o.marks.now) o.i _ _ _ _
-    a.entry_at.ensures.0 at-entries.before.before.entry-at2.ensures.0 at-entries.before.entry-at3.ensures.0 at-entries.entry-at4.ensures.0
-    a.entry_at.ensures.1 at-entries.before.before.entry-at2.ensures.1 at-entries.before.entry-at3.ensures.1 at-entries.entry-at4.ensures.1
-
-pub any-four-spec : {M : Type 1} → statement M
-any-four-spec =
-    tie.close
-    (tie.spec
-    entry-at-requires
-    add-entry-at
-    entry-at-requires-2
-    add-entry-at-2
-    entry-at-requires-3
-    add-entry-at-3
-    entry-at-requires-4
-    mul-result
-    mul-result-2
-    add-result
-    mul-result-3
-    add-result-2
-    add-result-3
-    returns
-    mul-result-4
-    mul-result-5
-    add-result-4
-    mul-result-6
-    add-result-5
-    add-result-6
-    returns-2)
+pub any_four_spec : {M : Type 1} → statement M
+any_four_spec = tie.close (tie.spec entry_at-a-requires overflow_add-i entry_at-b-requires overflow_add-i-2 entry_at-c-requires overflow_add-i-3 entry_at-d-requires overflow_mul-result overflow_mul-result-then-mark-eq0 overflow_add-result overflow_mul-result-then-mark-eq0-2 overflow_add-result-then-mark-eq0 overflow_add-result-then-mark-eq0-2 returns-then-mark-eq0 overflow_mul-result-2 overflow_mul-result-3 overflow_add-result-2 overflow_mul-result-4 overflow_add-result-3 overflow_add-result-4 returns)

@@ -5,13 +5,13 @@ use Rattle.planning.specs.Basics.{one_if}
 use Rattle.pack.proofs.one_if.Statement.{statement}
 use Rattle.pack.proofs.one_if.Tie as tie
 
-returns : tie.Need-returns
+returns-then-b : tie.Need-returns-then-b
 unfolding one_if
-returns c = (rw c.if1.true refl, omega arith)
+returns-then-b c = (rw c.if-b.true refl, omega arith)
 
-returns-2 : tie.Need-returns-2
+returns-else-b : tie.Need-returns-else-b
 unfolding one_if
-returns-2 c = (rw c.if1.false refl, omega arith)
+returns-else-b c = (rw c.if-b.false refl, omega arith)
 
-pub one-if-spec : {M : Type 1} → statement M
-one-if-spec = tie.close (tie.spec returns returns-2)
+pub one_if_spec : {M : Type 1} → statement M
+one_if_spec = tie.close (tie.spec returns-then-b returns-else-b)

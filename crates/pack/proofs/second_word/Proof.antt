@@ -5,24 +5,23 @@ use Rattle.pack.proofs.Words.{second_plain, second_marked}
 use Rattle.pack.proofs.second_word.Statement.{statement}
 use Rattle.pack.proofs.second_word.Tie as tie
 
-mul-result : tie.Need-overflow-mul-result
-mul-result c = let z : c.before.args.mark ≡ 0 = omega (arith, c.before.requires.0) in omega (arith, rw z at c.before.requires.1)
+overflow_mul-result : tie.Need-overflow_mul-result
+overflow_mul-result c = let z : c.args.mark ≡ 0 = omega (arith, c.requires.0) in omega (arith, rw z at c.requires.1)
 
-add-result : tie.Need-overflow-add-result
-add-result c = let z : c.before.args.mark ≡ 0 = omega (arith, c.before.requires.0) in omega (arith, rw z at c.before.requires.1)
+overflow_add-result : tie.Need-overflow_add-result
+overflow_add-result c = let z : c.args.mark ≡ 0 = omega (arith, c.requires.0) in omega (arith, rw z at c.requires.1)
+
+returns-then-mark-eq0 : tie.Need-returns-then-mark-eq0
+returns-then-mark-eq0 c = second_plain _ _ _ (omega arith) c.requires.1
+
+overflow_mul-result-2 : tie.Need-overflow_mul-result-2
+overflow_mul-result-2 c = let z : c.args.mark ≡ 1 = omega (arith, c.requires.0) in omega (arith, rw z at c.requires.1)
+
+overflow_add-result-2 : tie.Need-overflow_add-result-2
+overflow_add-result-2 c = let z : c.args.mark ≡ 1 = omega (arith, c.requires.0) in omega (arith, rw z at c.requires.1)
 
 returns : tie.Need-returns
-returns c = second_plain _ _ _ (omega arith) c.before.requires.1
+returns c = second_marked _ _ _ (omega (arith, c.requires.0)) c.requires.1
 
-mul-result-2 : tie.Need-overflow-mul-result-2
-mul-result-2 c = let z : c.before.args.mark ≡ 1 = omega (arith, c.before.requires.0) in omega (arith, rw z at c.before.requires.1)
-
-add-result-2 : tie.Need-overflow-add-result-2
-add-result-2 c = let z : c.before.args.mark ≡ 1 = omega (arith, c.before.requires.0) in omega (arith, rw z at c.before.requires.1)
-
-returns-2 : tie.Need-returns-2
-returns-2 c = second_marked _ _ _ (omega (arith, c.before.requires.0)) c.before.requires.1
-
-pub second-word-spec : {M : Type 1} → statement M
-second-word-spec =
-    tie.close (tie.spec mul-result add-result returns mul-result-2 add-result-2 returns-2)
+pub second_word_spec : {M : Type 1} → statement M
+second_word_spec = tie.close (tie.spec overflow_mul-result overflow_add-result returns-then-mark-eq0 overflow_mul-result-2 overflow_add-result-2 returns)
