@@ -1,3 +1,4 @@
+use borrow.Author.Tests.{eq-eqb, ne_eqb}
 use borrow.Author.Rules.{rules}
 use mathlib.Core.Path.{◌≡◌, sym, ap, ◌∙◌}
 use mathlib.Core.Logic.{inl, inr}
@@ -13,6 +14,7 @@ use Rattle.entries.proofs.Lists.{long_refused, entries_below}
 use Rattle.callers.proofs.Relaxed.{front_entries, relaxed_passed, relaxed_refused, relaxes_none}
 use Rattle.callers.proofs.check_relaxed.Statement.{statement}
 use Rattle.callers.proofs.check_relaxed.Tie as tie
+use Rattle.callers.proofs.check_relaxed.Lts.{else-v-via-then-v+else-n-list, else-v-via-else-v}
 
 returns-then-list-gt32768 : tie.Need-returns-then-list-gt32768
 returns-then-list-gt32768 c = let a = c.args in long_refused (relaxed_check (task_in a.task.now) a.list.now) a.list.now (omega arith)
@@ -52,13 +54,13 @@ returns-then-n-list : tie.Need-returns-then-n-list
 returns-then-n-list c =
     let a = c.args in
     relaxed_passed (task_in a.task.now) a.list.now c.leading-n.result (ensured c.before.before.before.before)
-    (omega arith) c.leading-n.ensures.1 _ c.judge_relaxed-v.ensures c.if-v.true c.if-n-list.true
+    (omega arith) c.leading-n.ensures.1 _ c.judge_relaxed-v.ensures c.if-v.true (eq-eqb _ _ c.if-n-list.true)
 
 returns : tie.Need-returns
 returns c =
     let a = c.args in
     relaxed_refused (task_in a.task.now) a.list.now c.leading-n.result (ensured c.before.before.before) (omega arith)
-    c.leading-n.ensures.1 _ c.judge_relaxed-v.ensures (elim c.else-v.branch [ inl q ↦ inl q.1.left | inr q ↦ inr q.left ])
+    c.leading-n.ensures.1 _ c.judge_relaxed-v.ensures (elim c.else-v.branch [ else-v-via-then-v+else-n-list q ↦ inl (ne_eqb _ _ q.if-n-list.false) | else-v-via-else-v q ↦ inr q.if-v.false ])
 
 pub check_relaxed_spec : {M : Type 1} → statement M
 check_relaxed_spec = tie.close (tie.spec returns-then-list-gt32768 actions-requires leading-n-requires slice_bounds-judge_relaxed-end initial-requires judge_relaxed-v-requires overflow_cast-result returns-then-n-list returns)

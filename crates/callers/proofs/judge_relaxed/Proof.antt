@@ -23,12 +23,12 @@ decreases-loop-k task list from s₀ k₀ s k = length list - k
 abbrev start_of : tie.In-loop-k invariant-loop-k decreases-loop-k → tie.Start invariant-loop-k decreases-loop-k
 start_of c = c.before.before.before.before
 
-module _ (c : tie.In-loop invariant-loop-k decreases-loop-k) where
+module _ (c : tie.In-loop-k invariant-loop-k decreases-loop-k) where
   abbrev entry : ℕ
-  entry = get_or (start_of c).args.list.now c.before.loop.k 0
+  entry = get_or (start_of c).args.list.now c.loop-k.k 0
 
   below : entry < actions (task_in (start_of c).args.task.now)
-  below = (start_of c).requires.0.entries c.before.loop.k (omega arith)
+  below = (start_of c).requires.0.entries c.loop-k.k (omega arith)
 
 -- the turn in which the action was tested
 abbrev turn_of : tie.After-applies invariant-loop-k decreases-loop-k → tie.In-loop-k invariant-loop-k decreases-loop-k
@@ -47,11 +47,11 @@ overflow_cast-i : tie.Need-overflow_cast-i invariant-loop-k decreases-loop-k
 overflow_cast-i c = omega (arith, c.shared_slice_known-in-loop-k-1.given c.loop-k.k)
 
 applies-requires : tie.Need-applies-requires invariant-loop-k decreases-loop-k
-applies-requires c κs = (c.requires.0.loaded, below c.before.before.before)
+applies-requires c κs = (c.requires.0.loaded, below c.before.before)
 
-applied : (c : tie.After-applies invariant-loop-k decreases-loop-k) → ◌≡◌ {A = Bool} (not c.applies.result) false
+applied : (c : tie.After-applies invariant-loop-k decreases-loop-k) → c.applies.result ≡ true
     → holds (sets_of c.loop-k.s.sets) (act (task_in c.args.task.now) (entry c.before.before.before)).pre ≡ true
-applied c e = sym c.applies.ensures ∙ not-false _ e
+applied c e = sym c.applies.ensures ∙ e
 
 overflow_cast-steps : tie.Need-overflow_cast-steps invariant-loop-k decreases-loop-k
 overflow_cast-steps c = search rules

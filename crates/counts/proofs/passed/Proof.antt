@@ -12,6 +12,7 @@ use Rattle.sets.specs.Sets.{further}
 use Rattle.counts.proofs.Plainly.{passed_all, passed_some, passed_is}
 use Rattle.counts.proofs.passed.Statement.{statement}
 use Rattle.counts.proofs.passed.Tie as tie
+use Rattle.counts.proofs.passed.Lts.{then-runs-c, else-runs-c}
 
 abbrev joined_of : tie.After-cost → tie.Joined-runs-c
 joined_of c = c.before.before
@@ -26,7 +27,10 @@ cost_is c = c.cost.ensures ∙ ap (λ (a : Action). a.cost) (sym (task_in_act c.
 runs_are : (j : tie.Joined-runs-c) → let c = j.args.c in j.if-runs-c.runs ≡ further true c.runs c.steps
 runs_are j =
     let a = act (task_in j.args.task.now) j.args.i in
-    ⊎_elim (λ w. passed_all a j.args.c _ (eq-eqb _ _ w.0.taken) w.1) (λ w. w.1 ∙ passed_some a j.args.c (ne_eqb _ _ w.0.left)) j.if-runs-c.branch
+    elim j.if-runs-c.branch [
+      | then-runs-c w ↦ passed_all a j.args.c _ (eq-eqb _ _ w.if-runs-c.true) w.runs-is
+      | else-runs-c w ↦ w.runs-is ∙ passed_some a j.args.c (ne_eqb _ _ w.if-runs-c.false)
+    ]
 
 overflow_add-runs : tie.Need-overflow_add-runs
 overflow_add-runs c = search rules
