@@ -110,7 +110,7 @@ module _ (task : List ℕ) (i : ℕ) (L : Listed task i) where
 
   module _ (end k : ℕ) (w : Walking task i end k) where
     pub walking_inside : k < end → k < length task
-    walking_inside h = omega (arith, L.end_Below, w.at_end)
+    walking_inside h = omega (arith, L.end_below, w.at_end)
 
     pub walking_small : k < end → get_or task k 0 < 4096
     walking_small h = L.small k (omega (arith, L.pre_below, w.from)) (omega (arith, w.at_end))
@@ -133,7 +133,7 @@ module _ (task : List ℕ) (i : ℕ) (L : Listed task i) (end k : ℕ) (ms₀ ms
   putting_turn h f v x y ef ev ex ey = record {
     long₀ = p.long₀;
     long = length-set ms v (bit_or (get_or ms v 0) y) ∙ p.long;
-    so_far = p.so_far ∙ put_all_turn task k (end_at task i) (omega (arith, w.at_end)) L.end_Below ms ∙ rw (ey, ex, ev, ef) refl;
+    so_far = p.so_far ∙ put_all_turn task k (end_at task i) (omega (arith, w.at_end)) L.end_below ms ∙ rw (ey, ex, ev, ef) refl;
   }
 
   pub putting_end : end ≤ k → sets_of ms ≡ step relaxed (act (task_in task) i) (sets_of ms₀)

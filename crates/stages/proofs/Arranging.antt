@@ -87,7 +87,7 @@ module _ (task : List ℕ) (L : Loaded task) (k from to i : ℕ) (ek : k ≡ i) 
   pub pre_bounds : (from ≤ to) × (to ≤ length task)
   pre_bounds =
       let R = L.rows k (omega arith) in
-      (omega (arith, ef, et, R.pre_below), omega (arith, et, R.eff_below, R.end_Below))
+      (omega (arith, ef, et, R.pre_below), omega (arith, et, R.eff_below, R.end_below))
 
   task_pre : facts_in task from to ≡ (act t i).pre
   task_pre = rw (ef, et, ek) (pre_facts task L i b)

@@ -69,7 +69,7 @@ module _ (task : List ℕ) (i : ℕ) (L : Listed task i) (end k : ℕ) (ns₀ ns
   renewing_turn h f v x ef ev ex = record {
     long₀ = q.long₀;
     long = length-set ns v x ∙ q.long;
-    so_far = q.so_far ∙ rw (facts_in_cons task k (end_at task i) (omega (arith, w.at_end)) L.end_Below, ex, ev, ef) refl;
+    so_far = q.so_far ∙ rw (facts_in_cons task k (end_at task i) (omega (arith, w.at_end)) L.end_below, ex, ev, ef) refl;
   }
 
   pub renewing_placed : k < end → (f : ℕ) (r : List ℕ) → f ≡ get_or task k 0 → r ≡ set ns (f / 64) (f % 64) → Renewing task i ns₀ r (k + 1)

@@ -115,8 +115,8 @@ effects_headed task D i L =
     let sorted = subst (λ (a : Action). Sorted (variables t) (count t) 0 a.eff) (sym L.states) (D.formed.eff_sorted i) in
     record {
       rises = L.eff_below;
-      within = L.end_Below;
-      small = λ k p q. omega (arith, between_inside (variables t) (count t) task (end_at task i) L.end_Below (eff_at task i) k p q sorted);
+      within = L.end_below;
+      small = λ k p q. omega (arith, between_inside (variables t) (count t) task (end_at task i) L.end_below (eff_at task i) k p q sorted);
     }
 
 -- what the first unmet precondition of action i says
@@ -136,7 +136,7 @@ module _ (s : State) (task : List ℕ) (i k : ℕ) (D : Loaded task) (L : Listed
       let t = task_in task in
       let x = get_or task k 0 in
       let needs : T (has (act t i).pre (x / 64) (x % 64)) = rw (← pre_is (x / 64) (x % 64))
-      (has_at task (pre_at task i) (eff_at task i) L.pre_below (omega (arith, L.eff_below, L.end_Below)) k P.from h) in
+      (has_at task (pre_at task i) (eff_at task i) L.pre_below (omega (arith, L.eff_below, L.end_below)) k P.from h) in
       let inside = sorted_has (variables t) (count t) 0 (act t i).pre (D.formed.pre_sorted i) (x / 64) (x % 64) needs in
       rw e (record { small = omega (arith, inside.var_below); needs = needs; open' = u })
 
@@ -144,4 +144,4 @@ module _ (s : State) (task : List ℕ) (i k : ℕ) (D : Loaded task) (L : Listed
   unfolding action_in
   unmet_goes h =
       subst (λ (a : Action). T (holds s a.pre)) L.states
-      (each_holds task (pre_at task i) (eff_at task i) L.pre_below (omega (arith, L.eff_below, L.end_Below)) s (λ x p q. P.passed x p (omega arith)))
+      (each_holds task (pre_at task i) (eff_at task i) L.pre_below (omega (arith, L.eff_below, L.end_below)) s (λ x p q. P.passed x p (omega arith)))

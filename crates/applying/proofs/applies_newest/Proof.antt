@@ -21,7 +21,7 @@ all-newest-requires c κs =
     let L = loaded_listed _ c.before.before.before.requires.0 _ c.before.before.before.requires.1 in
     let from = c.before.pre-start.ensures in
     let to = c.eff-start.ensures in
-    (omega (arith, L.pre_below, from, to), omega (arith, L.eff_below, L.end_Below, to), λ k a b. L.small k (omega (arith, from)) (omega (arith, L.eff_below, to)))
+    (omega (arith, L.pre_below, from, to), omega (arith, L.eff_below, L.end_below, to), λ k a b. L.small k (omega (arith, from)) (omega (arith, L.eff_below, to)))
 
 returns : tie.Need-returns
 unfolding action_in

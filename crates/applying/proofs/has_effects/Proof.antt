@@ -21,7 +21,7 @@ all-hold-requires c κs =
     let L = loaded_listed _ p.0 _ p.1 in
     let from = c.before.eff-start.ensures in
     let to = c.eff-end.ensures in
-    (omega (arith, L.eff_below, from, to), omega (arith, L.end_Below, to), λ k a b. L.small k (omega (arith, L.pre_below, from)) (omega (arith, to)))
+    (omega (arith, L.eff_below, from, to), omega (arith, L.end_below, to), λ k a b. L.small k (omega (arith, L.pre_below, from)) (omega (arith, to)))
 
 returns : tie.Need-returns
 unfolding action_in

@@ -43,14 +43,14 @@ mul_wide : tie.Need-overflow-mul-wide invariant-loop decreases-loop
 mul_wide c =
     let s = start_of c.before in
     let R = s.pre.0.rows _ s.pre.1 in
-    omega (arith, R.eff_below, R.end_Below, c.before.loop.invariant.2, s.good)
+    omega (arith, R.eff_below, R.end_below, c.before.loop.invariant.2, s.good)
 
 shared-slice-read-wide : tie.Need-shared-slice-read-wide invariant-loop decreases-loop
 shared-slice-read-wide c =
     let h = c.before.before in
     let s = start_of h in
     let R = s.pre.0.rows _ s.pre.1 in
-    omega (arith, R.eff_below, R.end_Below, h.loop.invariant.2)
+    omega (arith, R.eff_below, R.end_below, h.loop.invariant.2)
 
 wide-requires : tie.Need-wide-requires invariant-loop decreases-loop
 wide-requires c κs = search rules
@@ -67,7 +67,7 @@ within : (h : tie.At-loop invariant-loop decreases-loop) → let s = start_of h 
 within h =
     let s = start_of h in
     let R = s.pre.0.rows _ s.pre.1 in
-    omega (arith, R.eff_below, R.end_Below)
+    omega (arith, R.eff_below, R.end_below)
 
 returns : tie.Need-returns invariant-loop decreases-loop
 returns c =

@@ -20,7 +20,7 @@ want-requires c κs =
     let L = loaded_listed _ p.0 _ p.1 in (
       record {
         rises = omega (arith, L.pre_below, from, to);
-        within = omega (arith, L.eff_below, L.end_Below, to);
+        within = omega (arith, L.eff_below, L.end_below, to);
         small = λ k a b. L.small k (omega (arith, L.pre_below, from, to)) (omega (arith, L.eff_below, to));
       },
       p.2,

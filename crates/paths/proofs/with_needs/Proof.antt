@@ -46,14 +46,14 @@ mul_wide : tie.Need-overflow-mul-wide invariant-loop decreases-loop
 mul_wide c =
     let s = start_of c.before in
     let R = s.pre.0.rows _ s.pre.1 in
-    omega (arith, R.eff_below, R.end_Below, c.before.loop.invariant.2, s.good)
+    omega (arith, R.eff_below, R.end_below, c.before.loop.invariant.2, s.good)
 
 shared-slice-read-wide : tie.Need-shared-slice-read-wide invariant-loop decreases-loop
 shared-slice-read-wide c =
     let h = c.before.before in
     let s = start_of h in
     let R = s.pre.0.rows _ s.pre.1 in
-    omega (arith, R.eff_below, R.end_Below, h.loop.invariant.2)
+    omega (arith, R.eff_below, R.end_below, h.loop.invariant.2)
 
 wide-requires : tie.Need-wide-requires invariant-loop decreases-loop
 wide-requires c κs = search rules
@@ -80,7 +80,7 @@ loop-again c =
       omega (arith, i.0),
       omega arith,
       i.2,
-      λ v. i.3 v ∙ joined _ _ _ (omega arith) (omega (arith, i.2, R.eff_below, R.end_Below)) _ c.before.wide.ensures _ _ v c.single.ensures,
+      λ v. i.3 v ∙ joined _ _ _ (omega arith) (omega (arith, i.2, R.eff_below, R.end_below)) _ c.before.wide.ensures _ _ v c.single.ensures,
     )
 
 returns : tie.Need-returns invariant-loop decreases-loop

@@ -5,20 +5,20 @@ use borrow.Author.Rules.{rules}
 use Rattle.record.proofs.check.Statement.{statement}
 use Rattle.record.proofs.check.Tie as tie
 
-check-record-requires : tie.Need-check-record-requires
-check-record-requires c κs = tt
+check_record-r-requires : tie.Need-check_record-r-requires
+check_record-r-requires c κs = tt
 
-enum-known-r : tie.Need-enum-known-r
-enum-known-r c = search rules
+enum_known-r : tie.Need-enum_known-r
+enum_known-r c = search rules
 
-enum_told : tie.Need-enum-told
-enum_told c = search rules
+enum_told-1 : tie.Need-enum_told-1
+enum_told-1 c = search rules
+
+returns-in_default : tie.Need-returns-in_default
+returns-in_default c = sym (passed _ _ _ _ c.in_default.is c.check_record-r.ensures).0
 
 returns : tie.Need-returns
-returns c = sym (passed _ _ _ _ c.enum_told.given.1 c.before.before.check-record.ensures).0
+returns c = sym (handed_on _ _ _ _ _ c.in-Refused.is (sym (ap refusal_of c.in-Refused.is)) c.check_record-r.ensures)
 
-returns-2 : tie.Need-returns-2
-returns-2 c = sym (handed_on _ _ _ _ _ c.before.r.given.1 (sym (ap refusal_of c.before.r.given.1)) c.before.before.before.check-record.ensures)
-
-pub check-spec : {M : Type 1} → statement M
-check-spec = tie.close (tie.spec check-record-requires enum-known-r enum_told returns returns-2)
+pub check_spec : {M : Type 1} → statement M
+check_spec = tie.close (tie.spec check_record-r-requires enum_known-r enum_told-1 returns-in_default returns)

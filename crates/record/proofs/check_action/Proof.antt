@@ -6,22 +6,20 @@ use borrow.Author.Rules.{rules}
 use Rattle.record.proofs.check_action.Statement.{statement}
 use Rattle.record.proofs.check_action.Tie as tie
 
-sound-action-requires : tie.Need-sound-action-requires
-sound-action-requires c κs = (search rules, counts_as _ _ _ _ c.before.requires.1 c.before.requires.3)
+sound_action-end-requires : tie.Need-sound_action-end-requires
+sound_action-end-requires c κs = (search rules, counts_as _ _ _ _ c.requires.1 c.requires.3)
 
-check-action-fields-requires : tie.Need-check-action-fields-requires
-check-action-fields-requires c κs = search rules
+check_action_fields-requires : tie.Need-check_action_fields-requires
+check_action_fields-requires c κs = search rules
+
+returns-then-end-eq0 : tie.Need-returns-then-end-eq0
+returns-then-end-eq0 c = search rules
+
+overflow_cast-result : tie.Need-overflow_cast-result
+overflow_cast-result c = record { fits = omega (arith, (c.sound_action-end.ensures (omega arith)).1, action_end_le c.args.bytes.now c.args.at) }
 
 returns : tie.Need-returns
-returns c = search rules
+returns c = action_done _ _ _ (c.sound_action-end.ensures (omega arith))
 
-cast-t8 : tie.Need-overflow-cast-t8
-cast-t8 c = record { fits = omega (arith, (c.before.sound-action.ensures (omega arith)).1, action_end_le c.before.before.before.args.bytes.now c.before.before.before.args.at) }
-
-returns-2 : tie.Need-returns-2
-returns-2 c = action_done _ _ _ (c.before.sound-action.ensures (omega arith))
-
-pub check-action-spec : {M : Type 1} → statement M
-check-action-spec =
-    tie.close
-    (tie.spec sound-action-requires check-action-fields-requires returns cast-t8 returns-2)
+pub check_action_spec : {M : Type 1} → statement M
+check_action_spec = tie.close (tie.spec sound_action-end-requires check_action_fields-requires returns-then-end-eq0 overflow_cast-result returns)

@@ -9,72 +9,67 @@ use Rattle.laws.proofs.Fields.{bits_at_below}
 use Rattle.record.proofs.check_action_fields.Statement.{statement}
 use Rattle.record.proofs.check_action_fields.Tie as tie
 
-abbrev take3-to-take2 : tie.After-take3 → tie.After-take2
-take3-to-take2 c = c.before.before.before.before
+abbrev take3_to_take2 : tie.After-take-e → tie.After-take-p
+take3_to_take2 c = c.before.before
 
-take-requires : tie.Need-take-requires
-take-requires c κs = omega arith
+take-c-requires : tie.Need-take-c-requires
+take-c-requires c κs = omega arith
 
-enum_told : tie.Need-enum-told
-enum_told c = omega arith
+enum_told-1 : tie.Need-enum_told-1
+enum_told-1 c = omega arith
 
-enum-told-2 : tie.Need-enum-told-2
-enum-told-2 c = omega arith
+enum_told-in_default : tie.Need-enum_told-in_default
+enum_told-in_default c = omega arith
 
-returns : tie.Need-returns
+returns-in_default : tie.Need-returns-in_default
 unfolding action_checks
-returns c = stops _ _ _ _ _ _ c.enum-told2.given.1 c.before.before.take.ensures
+returns-in_default c = stops _ _ _ _ _ _ c.in_default.is c.take-c.ensures
 
-add-take : tie.Need-overflow-add-take
-add-take c = omega arith
+overflow_add-at : tie.Need-overflow_add-at
+overflow_add-at c = omega arith
 
-take-requires-2 : tie.Need-take-requires-2
-take-requires-2 c κs = omega arith
+take-p-requires : tie.Need-take-p-requires
+take-p-requires c κs = omega arith
 
-enum-known-p : tie.Need-enum-known-p
-enum-known-p c = omega arith
+enum_known-p : tie.Need-enum_known-p
+enum_known-p c = omega arith
 
-enum-told-3 : tie.Need-enum-told-3
-enum-told-3 c = omega arith
+enum_told-in_default-p : tie.Need-enum_told-in_default-p
+enum_told-in_default-p c = omega arith
 
-returns-2 : tie.Need-returns-2
+returns-in_default-p : tie.Need-returns-in_default-p
 unfolding action_checks
-returns-2 c =
-    let at-enum-told = c.before.before.before in
-    skip _ _ _ _ (passed _ _ _ _ at-enum-told.enum_told.given.1 at-enum-told.before.before.take.ensures).0
-    (stops _ _ _ _ _ _ c.enum-told3.given.1 c.before.before.take2.ensures)
+returns-in_default-p c =
+    skip _ _ _ _ (passed _ _ _ _ c.in-Value.is c.take-c.ensures).0
+    (stops _ _ _ _ _ _ c.in_default-p.is c.take-p.ensures)
 
-add-take-2 : tie.Need-overflow-add-take-2
-add-take-2 c = omega arith
+overflow_add-at-2 : tie.Need-overflow_add-at-2
+overflow_add-at-2 c = omega arith
 
-take-requires-3 : tie.Need-take-requires-3
-take-requires-3 c κs = omega arith
+take-e-requires : tie.Need-take-e-requires
+take-e-requires c κs = omega arith
 
-enum-known-e : tie.Need-enum-known-e
-enum-known-e c = omega arith
+enum_known-e : tie.Need-enum_known-e
+enum_known-e c = omega arith
 
-enum-told-4 : tie.Need-enum-told-4
-enum-told-4 c = omega arith
+enum_told-in_default-e : tie.Need-enum_told-in_default-e
+enum_told-in_default-e c = omega arith
 
-returns-3 : tie.Need-returns-3
+returns-in_default-e : tie.Need-returns-in_default-e
 unfolding action_checks
-returns-3 c =
-    let at_p = c.before.before.before.before in
-    let at-enum-told = at_p.before.before.before in
-    skip _ _ _ _ (passed _ _ _ _ at-enum-told.enum_told.given.1 at-enum-told.before.before.take.ensures).0
-    (skip _ _ _ _ (passed _ _ _ _ at_p.p.given.1 at_p.before.before.take2.ensures).0 (stops _ _ _ _ _ _ c.enum-told4.given.1 c.before.before.take3.ensures))
+returns-in_default-e c =
+    skip _ _ _ _ (passed _ _ _ _ c.in-Value.is c.take-c.ensures).0
+    (skip _ _ _ _ (passed _ _ _ _ c.in-Value-p.is c.take-p.ensures).0 (stops _ _ _ _ _ _ c.in_default-e.is c.take-e.ensures))
 
-check-action-facts-requires : tie.Need-check-action-facts-requires
+check_action_facts-requires : tie.Need-check_action_facts-requires
 unfolding preconditions_in effects_in
-check-action-facts-requires c κs =
-    let at-take3 = c.before.before.before in
-    let at-take2 = take3-to-take2 at-take3 in
-    let at-start = at-take2.before.before.before.before.before in (
+check_action_facts-requires c κs =
+    (
       search rules,
-      sym (passed _ _ _ _ at-take3.before.before.p.given.1 at-take2.take2.ensures).1,
-      sym (passed _ _ _ _ c.before.e.given.1 at-take3.take3.ensures).1,
-      omega (arith, (passed _ _ _ _ at-take3.before.before.p.given.1 at-take2.take2.ensures).1, bits_at_below at-start.args.bytes.now (at-start.args.at + 16) 4),
-      omega (arith, (passed _ _ _ _ c.before.e.given.1 at-take3.take3.ensures).1, bits_at_below at-start.args.bytes.now (at-start.args.at + 20) 4),
+      sym (passed _ _ _ _ c.in-Value-p.is c.take-p.ensures).1,
+      sym (passed _ _ _ _ c.in-Value-e.is c.take-e.ensures).1,
+      omega (arith, (passed _ _ _ _ c.in-Value-p.is c.take-p.ensures).1, bits_at_below c.args.bytes.now (c.args.at + 16) 4),
+      omega (arith, (passed _ _ _ _ c.in-Value-e.is c.take-e.ensures).1, bits_at_below c.args.bytes.now (c.args.at + 20) 4),
       (
         search rules,
         search rules,
@@ -82,33 +77,12 @@ check-action-facts-requires c κs =
       ),
     )
 
-returns-4 : tie.Need-returns-4
+returns : tie.Need-returns
 unfolding action_checks action_facts_checks
-returns-4 c =
-    let at-take3 = c.before.before.before.before in
-    let at-take2 = take3-to-take2 at-take3 in
-    let at_take = at-take2.before.before.before in
-    skip _ _ _ _ (passed _ _ _ _ at-take2.before.enum_told.given.1 at_take.take.ensures).0
-    (skip _ _ _ _ (passed _ _ _ _ at-take3.before.before.p.given.1 at-take2.take2.ensures).0
-    (skip _ _ _ _ (passed _ _ _ _ c.before.before.e.given.1 at-take3.take3.ensures).0 c.check-action-facts.ensures))
+returns c =
+    skip _ _ _ _ (passed _ _ _ _ c.in-Value.is c.take-c.ensures).0
+    (skip _ _ _ _ (passed _ _ _ _ c.in-Value-p.is c.take-p.ensures).0
+    (skip _ _ _ _ (passed _ _ _ _ c.in-Value-e.is c.take-e.ensures).0 c.check_action_facts.ensures))
 
-pub check-action-fields-spec : {M : Type 1} → statement M
-check-action-fields-spec =
-    tie.close
-    (tie.spec
-    take-requires
-    enum_told
-    enum-told-2
-    returns
-    add-take
-    take-requires-2
-    enum-known-p
-    enum-told-3
-    returns-2
-    add-take-2
-    take-requires-3
-    enum-known-e
-    enum-told-4
-    returns-3
-    check-action-facts-requires
-    returns-4)
+pub check_action_fields_spec : {M : Type 1} → statement M
+check_action_fields_spec = tie.close (tie.spec take-c-requires enum_told-1 enum_told-in_default returns-in_default overflow_add-at take-p-requires enum_known-p enum_told-in_default-p returns-in_default-p overflow_add-at-2 take-e-requires enum_known-e enum_told-in_default-e returns-in_default-e check_action_facts-requires returns)

@@ -8,60 +8,45 @@ use native.Mathlib.Omega.{arith}
 use Rattle.record.proofs.check_actions.Statement.{statement}
 use Rattle.record.proofs.check_actions.Tie as tie
 
-abbrev invariant-loop : tie.invariant-loop
-invariant-loop bytes count variables counts at₀ i₀ at i = Behind bytes (variable_bit variables) count at i
+abbrev invariant-loop-i : tie.invariant-loop-i
+invariant-loop-i bytes count variables counts at₀ i₀ at i = Behind bytes (variable_bit variables) count at i
 
-abbrev decreases-loop : tie.decreases-loop
-decreases-loop bytes count variables counts at₀ i₀ at i = count - i
+abbrev decreases-loop-i : tie.decreases-loop-i
+decreases-loop-i bytes count variables counts at₀ i₀ at i = count - i
 
-mul_at : tie.Need-overflow-mul-at invariant-loop decreases-loop
-mul_at c = omega arith
+overflow_mul-at : tie.Need-overflow_mul-at invariant-loop-i decreases-loop-i
+overflow_mul-at c = omega arith
 
-add_at : tie.Need-overflow-add-at invariant-loop decreases-loop
-add_at c = omega arith
+overflow_add-at : tie.Need-overflow_add-at invariant-loop-i decreases-loop-i
+overflow_add-at c = omega arith
 
-loop-holds : tie.Need-loop-init invariant-loop decreases-loop
-loop-holds c = actions_start _ _ _ (omega arith)
+loop-i-init : tie.Need-loop-i-init invariant-loop-i decreases-loop-i
+loop-i-init c = actions_start _ _ _ (omega arith)
 
-check-action-requires : tie.Need-check-action-requires invariant-loop decreases-loop
-check-action-requires c κs = (omega (arith, c.before.loop.invariant.below), search rules, search rules, search rules)
+check_action-a-requires : tie.Need-check_action-a-requires invariant-loop-i decreases-loop-i
+check_action-a-requires c κs = (omega (arith, c.loop-i.invariant.below), search rules, search rules, search rules)
 
-enum-known-a : tie.Need-enum-known-a invariant-loop decreases-loop
-enum-known-a c = omega arith
+enum_known-a : tie.Need-enum_known-a invariant-loop-i decreases-loop-i
+enum_known-a c = omega arith
 
-enum_told : tie.Need-enum-told invariant-loop decreases-loop
-enum_told c = omega arith
+enum_told-1 : tie.Need-enum_told-1 invariant-loop-i decreases-loop-i
+enum_told-1 c = omega arith
 
-returns : tie.Need-returns invariant-loop decreases-loop
-returns c = action_stops _ _ _ _ _ c.before.before.before.before.loop.invariant _ _ _ (omega arith) c.enum_told.given.1 c.before.before.check-action.ensures
+returns-in_default : tie.Need-returns-in_default invariant-loop-i decreases-loop-i
+returns-in_default c = action_stops _ _ _ _ _ c.loop-i.invariant _ _ _ (omega arith) c.in_default.is c.check_action-a.ensures
 
-add-i : tie.Need-overflow-add-i invariant-loop decreases-loop
-add-i c = omega arith
+overflow_add-i : tie.Need-overflow_add-i invariant-loop-i decreases-loop-i
+overflow_add-i c = omega arith
 
-loop-less : tie.Need-loop-smaller invariant-loop decreases-loop
-loop-less c = omega arith
+loop-i-smaller : tie.Need-loop-i-smaller invariant-loop-i decreases-loop-i
+loop-i-smaller c = omega arith
 
-loop-again : tie.Need-loop-preserved invariant-loop decreases-loop
-loop-again c =
-    actions_turn _ _ _ _ _ c.before.before.before.before.before.loop.invariant _ (omega arith) (passed _ _ _ _ c.before.a.given.1 c.before.before.before.check-action.ensures)
+loop-i-preserved : tie.Need-loop-i-preserved invariant-loop-i decreases-loop-i
+loop-i-preserved c =
+    actions_turn _ _ _ _ _ c.loop-i.invariant _ (omega arith) (passed _ _ _ _ c.in-Value.is c.check_action-a.ensures)
 
-returns-2 : tie.Need-returns-2 invariant-loop decreases-loop
-returns-2 c = actions_done _ _ _ _ _ c.before.loop.invariant (omega arith)
+returns : tie.Need-returns invariant-loop-i decreases-loop-i
+returns c = actions_done _ _ _ _ _ c.loop-i.invariant (omega arith)
 
-pub check-actions-spec : {M : Type 1} → statement M
-check-actions-spec =
-    tie.close
-    (tie.spec
-    invariant-loop
-    decreases-loop
-    mul_at
-    add_at
-    loop-holds
-    check-action-requires
-    enum-known-a
-    enum_told
-    returns
-    add-i
-    loop-less
-    loop-again
-    returns-2)
+pub check_actions_spec : {M : Type 1} → statement M
+check_actions_spec = tie.close (tie.spec invariant-loop-i decreases-loop-i overflow_mul-at overflow_add-at loop-i-init check_action-a-requires enum_known-a enum_told-1 returns-in_default overflow_add-i loop-i-smaller loop-i-preserved returns)

@@ -11,86 +11,64 @@ use Rattle.laws.proofs.Fields.{bits_at_below}
 use Rattle.record.proofs.check_facts.Statement.{statement}
 use Rattle.record.proofs.check_facts.Tie as tie
 
-abbrev invariant-loop : tie.invariant-loop
-invariant-loop bytes from count variables counts i₀ low₀ i low = (i ≤ count) × (in_order (facts_checks bytes from 0 count) ≡ in_order (facts_checks bytes (from + 12 * i) low (count - i)))
+abbrev invariant-loop-i : tie.invariant-loop-i
+invariant-loop-i bytes from count variables counts i₀ low₀ i low = (i ≤ count) × (in_order (facts_checks bytes from 0 count) ≡ in_order (facts_checks bytes (from + 12 * i) low (count - i)))
 
-abbrev decreases-loop : tie.decreases-loop
-decreases-loop bytes from count variables counts i₀ low₀ i low = count - i
+abbrev decreases-loop-i : tie.decreases-loop-i
+decreases-loop-i bytes from count variables counts i₀ low₀ i low = count - i
 
-loop-holds : tie.Need-loop-init invariant-loop decreases-loop
-loop-holds c = (omega arith, facts_start _ _ _)
+loop-i-init : tie.Need-loop-i-init invariant-loop-i decreases-loop-i
+loop-i-init c = (omega arith, facts_start _ _ _)
 
-mul-check-fact : tie.Need-overflow-mul-check-fact invariant-loop decreases-loop
-mul-check-fact c = omega arith
+overflow_mul-i : tie.Need-overflow_mul-i invariant-loop-i decreases-loop-i
+overflow_mul-i c = omega arith
 
-add-check-fact : tie.Need-overflow-add-check-fact invariant-loop decreases-loop
-add-check-fact c = omega arith
+overflow_add-from : tie.Need-overflow_add-from invariant-loop-i decreases-loop-i
+overflow_add-from c = omega arith
 
-check-fact-requires : tie.Need-check-fact-requires invariant-loop decreases-loop
-check-fact-requires c κs = search rules
+check_fact-f-requires : tie.Need-check_fact-f-requires invariant-loop-i decreases-loop-i
+check_fact-f-requires c κs = search rules
 
-enum-known-f : tie.Need-enum-known-f invariant-loop decreases-loop
-enum-known-f c = omega arith
+enum_known-f : tie.Need-enum_known-f invariant-loop-i decreases-loop-i
+enum_known-f c = omega arith
 
-enum_told : tie.Need-enum-told invariant-loop decreases-loop
-enum_told c = omega arith
+enum_told-1 : tie.Need-enum_told-1 invariant-loop-i decreases-loop-i
+enum_told-1 c = omega arith
 
-returns : tie.Need-returns invariant-loop decreases-loop
-returns c =
-    let at_head = c.before.before.before.before in
-    rw (at_head.loop.invariant.1 ∙ facts_step _ _ _ _ _ (omega arith)) (stops_stage _ _ _ _ _ _ c.enum_told.given.1 c.before.before.check-fact.ensures)
+returns-in_default : tie.Need-returns-in_default invariant-loop-i decreases-loop-i
+returns-in_default c =
+    rw (c.loop-i.invariant.1 ∙ facts_step _ _ _ _ _ (omega arith)) (stops_stage _ _ _ _ _ _ c.in_default.is c.check_fact-f.ensures)
 
-add_low : tie.Need-overflow-add-low invariant-loop decreases-loop
-add_low c =
-    let at-check-fact = c.before.before.before in
-    let at-start = at-check-fact.before.before.before.before in
+overflow_add-low : tie.Need-overflow_add-low invariant-loop-i decreases-loop-i
+overflow_add-low c =
     record {
       fits = omega (
         arith,
-        (passed _ _ _ _ c.before.f.given.1 at-check-fact.check-fact.ensures).1,
-        bits_at_below at-start.args.bytes.now
-            (at-start.args.from + 12 * at-check-fact.before.before.loop.i) 6,
+        (passed _ _ _ _ c.in-Value.is c.check_fact-f.ensures).1,
+        bits_at_below c.args.bytes.now
+            (c.args.from + 12 * c.loop-i.i) 6,
       );
     }
 
-add-i : tie.Need-overflow-add-i invariant-loop decreases-loop
-add-i c = omega arith
+overflow_add-i : tie.Need-overflow_add-i invariant-loop-i decreases-loop-i
+overflow_add-i c = omega arith
 
-loop-less : tie.Need-loop-smaller invariant-loop decreases-loop
-loop-less c = omega arith
+loop-i-smaller : tie.Need-loop-i-smaller invariant-loop-i decreases-loop-i
+loop-i-smaller c = omega arith
 
-loop-again : tie.Need-loop-preserved invariant-loop decreases-loop
-loop-again c =
-    let at-check-fact = c.before.before.before in
-    (omega arith, at-check-fact.before.before.loop.invariant.1 ∙ facts_turn _ _ _ _ _ (omega arith) _ (passed _ _ _ _ c.before.f.given.1 at-check-fact.check-fact.ensures))
+loop-i-preserved : tie.Need-loop-i-preserved invariant-loop-i decreases-loop-i
+loop-i-preserved c =
+    (omega arith, c.loop-i.invariant.1 ∙ facts_turn _ _ _ _ _ (omega arith) _ (passed _ _ _ _ c.in-Value.is c.check_fact-f.ensures))
 
-mul-t13 : tie.Need-overflow-mul-t13 invariant-loop decreases-loop
-mul-t13 c = omega arith
+overflow_mul-result : tie.Need-overflow_mul-result invariant-loop-i decreases-loop-i
+overflow_mul-result c = omega arith
 
-add-t14 : tie.Need-overflow-add-t14 invariant-loop decreases-loop
-add-t14 c = omega arith
+overflow_add-result : tie.Need-overflow_add-result invariant-loop-i decreases-loop-i
+overflow_add-result c = omega arith
 
-returns-2 : tie.Need-returns-2 invariant-loop decreases-loop
+returns : tie.Need-returns invariant-loop-i decreases-loop-i
 unfolding answer
-returns-2 c = rw (c.before.loop.invariant.1 ∙ facts_none _ _ _ _ _ (omega arith)) refl
+returns c = rw (c.loop-i.invariant.1 ∙ facts_none _ _ _ _ _ (omega arith)) refl
 
-pub check-facts-spec : {M : Type 1} → statement M
-check-facts-spec =
-    tie.close
-    (tie.spec
-    invariant-loop
-    decreases-loop
-    loop-holds
-    mul-check-fact
-    add-check-fact
-    check-fact-requires
-    enum-known-f
-    enum_told
-    returns
-    add_low
-    add-i
-    loop-less
-    loop-again
-    mul-t13
-    add-t14
-    returns-2)
+pub check_facts_spec : {M : Type 1} → statement M
+check_facts_spec = tie.close (tie.spec invariant-loop-i decreases-loop-i loop-i-init overflow_mul-i overflow_add-from check_fact-f-requires enum_known-f enum_told-1 returns-in_default overflow_add-low overflow_add-i loop-i-smaller loop-i-preserved overflow_mul-result overflow_add-result returns)

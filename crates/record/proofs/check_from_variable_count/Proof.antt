@@ -7,56 +7,42 @@ use mathlib.Core.Path.{sym}
 use Rattle.record.proofs.check_from_variable_count.Statement.{statement}
 use Rattle.record.proofs.check_from_variable_count.Tie as tie
 
-take-requires : tie.Need-take-requires
-take-requires c κs = omega arith
+take-v-requires : tie.Need-take-v-requires
+take-v-requires c κs = omega arith
 
-enum-known-v : tie.Need-enum-known-v
-enum-known-v c = omega arith
+enum_known-v : tie.Need-enum_known-v
+enum_known-v c = omega arith
 
-enum_told : tie.Need-enum-told
-enum_told c = omega arith
+enum_told-1 : tie.Need-enum_told-1
+enum_told-1 c = omega arith
+
+returns-in_default : tie.Need-returns-in_default
+unfolding from_variable_count variables_in
+returns-in_default c = stops _ _ _ _ _ _ c.in_default.is c.take-v.ensures
+
+returns-then-variables-lt1 : tie.Need-returns-then-variables-lt1
+unfolding from_variable_count variables_in
+returns-then-variables-lt1 c =
+    skip _ _ _ _ (passed _ _ _ _ c.in-Value.is c.take-v.ensures).0
+    (hit _ _ _ _ _ (range_low _ _ _ _ (passed _ _ _ _ c.in-Value.is c.take-v.ensures).1 c.if-variables-lt1.true))
+
+returns-then-variables-gt64 : tie.Need-returns-then-variables-gt64
+unfolding from_variable_count variables_in
+returns-then-variables-gt64 c =
+    skip _ _ _ _ (passed _ _ _ _ c.in-Value.is c.take-v.ensures).0
+    (hit _ _ _ _ _ (range_high _ _ _ _ (passed _ _ _ _ c.in-Value.is c.take-v.ensures).1 c.if-variables-lt1.false c.if-variables-gt64.true))
+
+check_from_action_count-requires : tie.Need-check_from_action_count-requires
+unfolding variables_in
+check_from_action_count-requires c κs =
+    (sym (passed _ _ _ _ c.in-Value.is c.take-v.ensures).1, c.if-variables-gt64.false)
 
 returns : tie.Need-returns
 unfolding from_variable_count variables_in
-returns c = stops _ _ _ _ _ _ c.enum_told.given.1 c.before.before.take.ensures
+returns c =
+    skip _ _ _ _ (passed _ _ _ _ c.in-Value.is c.take-v.ensures).0
+    (skip _ _ _ _ (range_right _ _ _ _ (passed _ _ _ _ c.in-Value.is c.take-v.ensures).1 c.if-variables-lt1.false
+    c.if-variables-gt64.false) c.check_from_action_count.ensures)
 
-returns-2 : tie.Need-returns-2
-unfolding from_variable_count variables_in
-returns-2 c =
-    let at_take = c.before.before.before.before in
-    skip _ _ _ _ (passed _ _ _ _ c.before.before.v.given.1 at_take.take.ensures).0
-    (hit _ _ _ _ _ (range_low _ _ _ _ (passed _ _ _ _ c.before.before.v.given.1 at_take.take.ensures).1 c.if1.true))
-
-returns-3 : tie.Need-returns-3
-unfolding from_variable_count variables_in
-returns-3 c =
-    let at_v = c.before.before.before in
-    skip _ _ _ _ (passed _ _ _ _ at_v.v.given.1 at_v.before.before.take.ensures).0
-    (hit _ _ _ _ _ (range_high _ _ _ _ (passed _ _ _ _ at_v.v.given.1 at_v.before.before.take.ensures).1 c.before.if1.false c.if2.true))
-
-check-from-action-count-requires : tie.Need-check-from-action-count-requires
-unfolding variables_in
-check-from-action-count-requires c κs =
-    let at_v = c.before.before.before in
-    (sym (passed _ _ _ _ at_v.v.given.1 at_v.before.before.take.ensures).1, c.if2.false)
-
-returns-4 : tie.Need-returns-4
-unfolding from_variable_count variables_in
-returns-4 c =
-    let at_v = c.before.before.before.before in
-    skip _ _ _ _ (passed _ _ _ _ at_v.v.given.1 at_v.before.before.take.ensures).0
-    (skip _ _ _ _ (range_right _ _ _ _ (passed _ _ _ _ at_v.v.given.1 at_v.before.before.take.ensures).1 c.before.before.if1.false
-    c.before.if2.false) c.check-from-action-count.ensures)
-
-pub check-from-variable-count-spec : {M : Type 1} → statement M
-check-from-variable-count-spec =
-    tie.close
-    (tie.spec
-    take-requires
-    enum-known-v
-    enum_told
-    returns
-    returns-2
-    returns-3
-    check-from-action-count-requires
-    returns-4)
+pub check_from_variable_count_spec : {M : Type 1} → statement M
+check_from_variable_count_spec = tie.close (tie.spec take-v-requires enum_known-v enum_told-1 returns-in_default returns-then-variables-lt1 returns-then-variables-gt64 check_from_action_count-requires returns)

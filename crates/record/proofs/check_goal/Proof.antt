@@ -8,93 +8,70 @@ use Rattle.laws.proofs.Fields.{bits_at_below}
 use Rattle.record.proofs.check_goal.Statement.{statement}
 use Rattle.record.proofs.check_goal.Tie as tie
 
-abbrev take2-to-take : tie.After-take2 → tie.After-take
-take2-to-take c = c.before.before.before.before
+abbrev take2_to_take : tie.After-take-g → tie.After-take-p
+take2_to_take c = c.before.before
 
-add-take : tie.Need-overflow-add-take
-add-take c = omega arith
+overflow_add-at : tie.Need-overflow_add-at
+overflow_add-at c = omega arith
 
-take-requires : tie.Need-take-requires
-take-requires c κs = omega arith
+take-p-requires : tie.Need-take-p-requires
+take-p-requires c κs = omega arith
 
-enum-known-p : tie.Need-enum-known-p
-enum-known-p c = omega arith
+enum_known-p : tie.Need-enum_known-p
+enum_known-p c = omega arith
 
-enum_told : tie.Need-enum-told
-enum_told c = omega arith
+enum_told-1 : tie.Need-enum_told-1
+enum_told-1 c = omega arith
 
-returns : tie.Need-returns
+returns-in_default : tie.Need-returns-in_default
 unfolding goal_checks
-returns c = stops _ _ _ _ _ _ c.enum_told.given.1 c.before.before.take.ensures
+returns-in_default c = stops _ _ _ _ _ _ c.in_default.is c.take-p.ensures
 
-add-take-2 : tie.Need-overflow-add-take-2
-add-take-2 c = omega arith
+overflow_add-at-2 : tie.Need-overflow_add-at-2
+overflow_add-at-2 c = omega arith
 
-take-requires-2 : tie.Need-take-requires-2
-take-requires-2 c κs = omega arith
+take-g-requires : tie.Need-take-g-requires
+take-g-requires c κs = omega arith
 
-enum-known-g : tie.Need-enum-known-g
-enum-known-g c = omega arith
+enum_known-g : tie.Need-enum_known-g
+enum_known-g c = omega arith
 
-enum-told-2 : tie.Need-enum-told-2
-enum-told-2 c = omega arith
+enum_told-in_default-g : tie.Need-enum_told-in_default-g
+enum_told-in_default-g c = omega arith
 
-returns-2 : tie.Need-returns-2
+returns-in_default-g : tie.Need-returns-in_default-g
 unfolding goal_checks
-returns-2 c =
-    let at_p = c.before.before.before.before in
-    skip _ _ _ _ (passed _ _ _ _ at_p.p.given.1 at_p.before.before.take.ensures).0 (stops _ _ _ _ _ _ c.enum-told2.given.1 c.before.before.take2.ensures)
+returns-in_default-g c =
+    skip _ _ _ _ (passed _ _ _ _ c.in-Value.is c.take-p.ensures).0 (stops _ _ _ _ _ _ c.in_default-g.is c.take-g.ensures)
 
-mul-if1 : tie.Need-overflow-mul-if1
-mul-if1 c =
-    let at_p = c.before.before.before.before.before in
-    let at-start = at_p.before.before.before.before in
+overflow_mul-last : tie.Need-overflow_mul-last
+overflow_mul-last c =
     record {
       fits = omega (
         arith,
-        bit_times at-start.args.last at_p.p.given.0.0
-            (omega (arith, (passed _ _ _ _ at_p.p.given.1 at_p.before.before.take.ensures).1, bits_at_below at-start.args.bytes.now (at-start.args.at + 13) 1)),
+        bit_times c.args.last c.in-Value.present
+            (omega (arith, (passed _ _ _ _ c.in-Value.is c.take-p.ensures).1, bits_at_below c.args.bytes.now (c.args.at + 13) 1)),
       );
     }
 
-add-t10 : tie.Need-overflow-add-t10
-add-t10 c = omega arith
+overflow_add-result : tie.Need-overflow_add-result
+overflow_add-result c = omega arith
 
-returns-3 : tie.Need-returns-3
+returns-then-last-present : tie.Need-returns-then-last-present
 unfolding goal_checks
-returns-3 c =
-    let at-take2 = c.before.before.before.before in
-    let at_take = take2-to-take at-take2 in
-    skip _ _ _ _ (passed _ _ _ _ at-take2.before.before.p.given.1 at_take.take.ensures).0
-    (skip _ _ _ _ (passed _ _ _ _ c.before.before.g.given.1 at-take2.take2.ensures).0
-    (hit _ _ _ _ _ (goal_above _ _ _ _ _ (passed _ _ _ _ at-take2.before.before.p.given.1 at_take.take.ensures).1
-    (passed _ _ _ _ c.before.before.g.given.1 at-take2.take2.ensures).1 c.if1.true)))
+returns-then-last-present c =
+    skip _ _ _ _ (passed _ _ _ _ c.in-Value.is c.take-p.ensures).0
+    (skip _ _ _ _ (passed _ _ _ _ c.in-Value-g.is c.take-g.ensures).0
+    (hit _ _ _ _ _ (goal_above _ _ _ _ _ (passed _ _ _ _ c.in-Value.is c.take-p.ensures).1
+    (passed _ _ _ _ c.in-Value-g.is c.take-g.ensures).1 c.if-last-present.true)))
 
-returns-4 : tie.Need-returns-4
+returns : tie.Need-returns
 unfolding goal_checks
-returns-4 c =
-    let at-take2 = c.before.before.before.before in
-    let at_take = take2-to-take at-take2 in
-    skip _ _ _ _ (passed _ _ _ _ at-take2.before.before.p.given.1 at_take.take.ensures).0
-    (skip _ _ _ _ (passed _ _ _ _ c.before.before.g.given.1 at-take2.take2.ensures).0
-    (skip _ _ _ _ (goal_right _ _ _ _ _ (passed _ _ _ _ at-take2.before.before.p.given.1 at_take.take.ensures).1
-    (passed _ _ _ _ c.before.before.g.given.1 at-take2.take2.ensures).1 c.if1.false) (pass_end _)))
+returns c =
+    skip _ _ _ _ (passed _ _ _ _ c.in-Value.is c.take-p.ensures).0
+    (skip _ _ _ _ (passed _ _ _ _ c.in-Value-g.is c.take-g.ensures).0
+    (skip _ _ _ _ (goal_right _ _ _ _ _ (passed _ _ _ _ c.in-Value.is c.take-p.ensures).1
+    (passed _ _ _ _ c.in-Value-g.is c.take-g.ensures).1 c.if-last-present.false) (pass_end _)))
 
-pub check-goal-spec : {M : Type 1} → statement M
-check-goal-spec =
-    tie.close
-    (tie.spec
-    add-take
-    take-requires
-    enum-known-p
-    enum_told
-    returns
-    add-take-2
-    take-requires-2
-    enum-known-g
-    enum-told-2
-    returns-2
-    mul-if1
-    add-t10
-    returns-3
-    returns-4)
+pub check_goal_spec : {M : Type 1} → statement M
+check_goal_spec = tie.close (tie.spec overflow_add-at take-p-requires enum_known-p enum_told-1 returns-in_default overflow_add-at-2 take-g-requires enum_known-g enum_told-in_default-g returns-in_default-g overflow_mul-last overflow_add-result returns-then-last-present returns)

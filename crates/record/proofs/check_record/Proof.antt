@@ -4,41 +4,30 @@ use native.Mathlib.Omega.{arith}
 use Rattle.record.proofs.check_record.Statement.{statement}
 use Rattle.record.proofs.check_record.Tie as tie
 
-take-requires : tie.Need-take-requires
-take-requires c κs = omega arith
+take-e-requires : tie.Need-take-e-requires
+take-e-requires c κs = omega arith
 
-enum-known-e : tie.Need-enum-known-e
-enum-known-e c = omega arith
+enum_known-e : tie.Need-enum_known-e
+enum_known-e c = omega arith
 
-enum_told : tie.Need-enum-told
-enum_told c = omega arith
+enum_told-1 : tie.Need-enum_told-1
+enum_told-1 c = omega arith
+
+returns-in_default : tie.Need-returns-in_default
+returns-in_default c = rw record_check_is (stops _ _ _ _ _ _ c.in_default.is c.take-e.ensures)
+
+returns-then-edition-ne1 : tie.Need-returns-then-edition-ne1
+returns-then-edition-ne1 c =
+    rw record_check_is (skip _ _ _ _ (passed _ _ _ _ c.in-Value.is c.take-e.ensures).0
+    (hit _ _ _ _ _ (edition_wrong _ _ _ _ (passed _ _ _ _ c.in-Value.is c.take-e.ensures).1 c.if-edition-ne1.true)))
+
+check_from_variable_count-requires : tie.Need-check_from_variable_count-requires
+check_from_variable_count-requires c κs = tt
 
 returns : tie.Need-returns
-returns c = rw record_check_is (stops _ _ _ _ _ _ c.enum_told.given.1 c.before.before.take.ensures)
+returns c =
+    rw record_check_is (skip _ _ _ _ (passed _ _ _ _ c.in-Value.is c.take-e.ensures).0
+    (skip _ _ _ _ (edition_right _ _ _ _ (passed _ _ _ _ c.in-Value.is c.take-e.ensures).1 c.if-edition-ne1.false) c.check_from_variable_count.ensures))
 
-returns-2 : tie.Need-returns-2
-returns-2 c =
-    let at_take = c.before.before.before.before in
-    rw record_check_is (skip _ _ _ _ (passed _ _ _ _ c.before.before.e.given.1 at_take.take.ensures).0
-    (hit _ _ _ _ _ (edition_wrong _ _ _ _ (passed _ _ _ _ c.before.before.e.given.1 at_take.take.ensures).1 c.if1.true)))
-
-check-from-variable-count-requires : tie.Need-check-from-variable-count-requires
-check-from-variable-count-requires c κs = tt
-
-returns-3 : tie.Need-returns-3
-returns-3 c =
-    let at-e = c.before.before.before in
-    rw record_check_is (skip _ _ _ _ (passed _ _ _ _ at-e.e.given.1 at-e.before.before.take.ensures).0
-    (skip _ _ _ _ (edition_right _ _ _ _ (passed _ _ _ _ at-e.e.given.1 at-e.before.before.take.ensures).1 c.before.if1.false) c.check-from-variable-count.ensures))
-
-pub check-record-spec : {M : Type 1} → statement M
-check-record-spec =
-    tie.close
-    (tie.spec
-    take-requires
-    enum-known-e
-    enum_told
-    returns
-    returns-2
-    check-from-variable-count-requires
-    returns-3)
+pub check_record_spec : {M : Type 1} → statement M
+check_record_spec = tie.close (tie.spec take-e-requires enum_known-e enum_told-1 returns-in_default returns-then-edition-ne1 check_from_variable_count-requires returns)

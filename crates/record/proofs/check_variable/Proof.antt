@@ -6,51 +6,38 @@ use borrow.Author.Rules.{rules}
 use Rattle.record.proofs.check_variable.Statement.{statement}
 use Rattle.record.proofs.check_variable.Tie as tie
 
-check-variable-fields-requires : tie.Need-check-variable-fields-requires
-check-variable-fields-requires c κs = omega arith
+check_variable_fields-requires : tie.Need-check_variable_fields-requires
+check_variable_fields-requires c κs = omega arith
+
+returns-then-bytes-lt8 : tie.Need-returns-then-bytes-lt8
+returns-then-bytes-lt8 c = search rules
+
+overflow_add-at : tie.Need-overflow_add-at
+overflow_add-at c = omega arith
+
+check_variable_fields-requires-then-bytes-at : tie.Need-check_variable_fields-requires-then-bytes-at
+check_variable_fields-requires-then-bytes-at c κs = omega arith
+
+returns-then-bytes-at : tie.Need-returns-then-bytes-at
+returns-then-bytes-at c = search rules
+
+window_at-w-requires : tie.Need-window_at-w-requires
+window_at-w-requires c κs = omega arith
+
+is_sound_variable-requires : tie.Need-is_sound_variable-requires
+is_sound_variable-requires c κs = omega arith
+
+check_variable_fields-requires-then-not-is_sound_variable : tie.Need-check_variable_fields-requires-then-not-is_sound_variable
+check_variable_fields-requires-then-not-is_sound_variable c κs = omega arith
+
+returns-then-not-is_sound_variable : tie.Need-returns-then-not-is_sound_variable
+returns-then-not-is_sound_variable c = search rules
+
+overflow_cast-result : tie.Need-overflow_cast-result
+overflow_cast-result c = omega arith
 
 returns : tie.Need-returns
-returns c = search rules
+returns c = variable_sound _ _ _ (c.window_at-w.ensures 20 (omega arith) (omega arith)) (omega arith) (c.is_sound_variable.ensures.0 c.if-not-is_sound_variable.false)
 
-add-if2 : tie.Need-overflow-add-if2
-add-if2 c = omega arith
-
-check-variable-fields-requires-2 : tie.Need-check-variable-fields-requires-2
-check-variable-fields-requires-2 c κs = omega arith
-
-returns-2 : tie.Need-returns-2
-returns-2 c = search rules
-
-window-at-requires : tie.Need-window-at-requires
-window-at-requires c κs = omega arith
-
-is-sound-variable-requires : tie.Need-is-sound-variable-requires
-is-sound-variable-requires c κs = omega arith
-
-check-variable-fields-requires-3 : tie.Need-check-variable-fields-requires-3
-check-variable-fields-requires-3 c κs = omega arith
-
-returns-3 : tie.Need-returns-3
-returns-3 c = search rules
-
-cast-t11 : tie.Need-overflow-cast-t11
-cast-t11 c = omega arith
-
-returns-4 : tie.Need-returns-4
-returns-4 c = variable_sound _ _ _ (c.before.before.window-at.ensures 20 (omega arith) (omega arith)) (omega arith) (c.before.is-sound-variable.ensures.0 (not-false _ c.if3.false))
-
-pub check-variable-spec : {M : Type 1} → statement M
-check-variable-spec =
-    tie.close
-    (tie.spec
-    check-variable-fields-requires
-    returns
-    add-if2
-    check-variable-fields-requires-2
-    returns-2
-    window-at-requires
-    is-sound-variable-requires
-    check-variable-fields-requires-3
-    returns-3
-    cast-t11
-    returns-4)
+pub check_variable_spec : {M : Type 1} → statement M
+check_variable_spec = tie.close (tie.spec check_variable_fields-requires returns-then-bytes-lt8 overflow_add-at check_variable_fields-requires-then-bytes-at returns-then-bytes-at window_at-w-requires is_sound_variable-requires check_variable_fields-requires-then-not-is_sound_variable returns-then-not-is_sound_variable overflow_cast-result returns)

@@ -7,63 +7,45 @@ use Rattle.laws.proofs.Fields.{bits_at_below}
 use Rattle.record.proofs.check_variable_fields.Statement.{statement}
 use Rattle.record.proofs.check_variable_fields.Tie as tie
 
-take-requires : tie.Need-take-requires
-take-requires c κs = omega arith
+take-l-requires : tie.Need-take-l-requires
+take-l-requires c κs = omega arith
 
-enum-known-l : tie.Need-enum-known-l
-enum-known-l c = omega arith
+enum_known-l : tie.Need-enum_known-l
+enum_known-l c = omega arith
 
-enum_told : tie.Need-enum-told
-enum_told c = omega arith
+enum_told-1 : tie.Need-enum_told-1
+enum_told-1 c = omega arith
+
+returns-in_default : tie.Need-returns-in_default
+unfolding variable_checks
+returns-in_default c = stops _ _ _ _ _ _ c.in_default.is c.take-l.ensures
+
+overflow_add-at : tie.Need-overflow_add-at
+overflow_add-at c = omega arith
+
+take-b-requires : tie.Need-take-b-requires
+take-b-requires c κs = omega arith
+
+enum_told-in-Value-b : tie.Need-enum_told-in-Value-b
+enum_told-in-Value-b c = omega arith
+
+enum_told-in_default-b : tie.Need-enum_told-in_default-b
+enum_told-in_default-b c = omega arith
+
+returns-in_default-b : tie.Need-returns-in_default-b
+unfolding variable_checks
+returns-in_default-b c =
+    skip _ _ _ _ (passed _ _ _ _ c.in-Value.is c.take-l.ensures).0 (stops _ _ _ _ _ _ c.in_default-b.is c.take-b.ensures)
+
+check_initial-requires : tie.Need-check_initial-requires
+check_initial-requires c κs =
+    (search rules, omega (arith, (passed _ _ _ _ c.in-Value.is c.take-l.ensures).1, bits_at_below c.args.bytes.now c.args.at 6))
 
 returns : tie.Need-returns
-unfolding variable_checks
-returns c = stops _ _ _ _ _ _ c.enum_told.given.1 c.before.before.take.ensures
+returns c =
+    variable_rest _ _ _ _ (passed _ _ _ _ c.in-Value.is c.take-l.ensures).1
+    (passed _ _ _ _ c.in-Value.is c.take-l.ensures).0
+    (passed _ _ _ _ c.in-Value-b.is c.take-b.ensures).0 c.check_initial.ensures
 
-add-take : tie.Need-overflow-add-take
-add-take c = omega arith
-
-take-requires-2 : tie.Need-take-requires-2
-take-requires-2 c κs = omega arith
-
-enum-told-2 : tie.Need-enum-told-2
-enum-told-2 c = omega arith
-
-enum-told-3 : tie.Need-enum-told-3
-enum-told-3 c = omega arith
-
-returns-2 : tie.Need-returns-2
-unfolding variable_checks
-returns-2 c =
-    let at-l = c.before.before.before.before in
-    skip _ _ _ _ (passed _ _ _ _ at-l.l.given.1 at-l.before.before.take.ensures).0 (stops _ _ _ _ _ _ c.enum-told3.given.1 c.before.before.take2.ensures)
-
-check-initial-requires : tie.Need-check-initial-requires
-check-initial-requires c κs =
-    let at-l = c.before.before.before.before in
-    let at-start = at-l.before.before.before.before in
-    (search rules, omega (arith, (passed _ _ _ _ at-l.l.given.1 at-l.before.before.take.ensures).1, bits_at_below at-start.args.bytes.now at-start.args.at 6))
-
-returns-3 : tie.Need-returns-3
-returns-3 c =
-    let at-take2 = c.before.before.before in
-    let at_take = at-take2.before.before.before.before in
-    variable_rest _ _ _ _ (passed _ _ _ _ at-take2.before.before.l.given.1 at_take.take.ensures).1
-    (passed _ _ _ _ at-take2.before.before.l.given.1 at_take.take.ensures).0
-    (passed _ _ _ _ c.before.enum-told2.given.1 at-take2.take2.ensures).0 c.check-initial.ensures
-
-pub check-variable-fields-spec : {M : Type 1} → statement M
-check-variable-fields-spec =
-    tie.close
-    (tie.spec
-    take-requires
-    enum-known-l
-    enum_told
-    returns
-    add-take
-    take-requires-2
-    enum-told-2
-    enum-told-3
-    returns-2
-    check-initial-requires
-    returns-3)
+pub check_variable_fields_spec : {M : Type 1} → statement M
+check_variable_fields_spec = tie.close (tie.spec take-l-requires enum_known-l enum_told-1 returns-in_default overflow_add-at take-b-requires enum_told-in-Value-b enum_told-in_default-b returns-in_default-b check_initial-requires returns)

@@ -8,91 +8,72 @@ use Rattle.laws.proofs.Fields.{bits_at_below}
 use Rattle.record.proofs.check_variables.Statement.{statement}
 use Rattle.record.proofs.check_variables.Tie as tie
 
-abbrev invariant-loop : tie.invariant-loop
-invariant-loop bytes count counts₀ i₀ counts i = Seen bytes count counts i
+abbrev invariant-loop-i : tie.invariant-loop-i
+invariant-loop-i bytes count counts₀ i₀ counts i = Seen bytes count counts i
 
-abbrev decreases-loop : tie.decreases-loop
-decreases-loop bytes count counts₀ i₀ counts i = count - i
+abbrev decreases-loop-i : tie.decreases-loop-i
+decreases-loop-i bytes count counts₀ i₀ counts i = count - i
 
-loop-holds : tie.Need-loop-init invariant-loop decreases-loop
-loop-holds c = variables_start _ _ _ c.before.requires.1 c.before.requires.2
+loop-i-init : tie.Need-loop-i-init invariant-loop-i decreases-loop-i
+loop-i-init c = variables_start _ _ _ c.requires.1 c.requires.2
 
-mul-check-variable : tie.Need-overflow-mul-check-variable invariant-loop decreases-loop
-mul-check-variable c = omega arith
+overflow_mul-i : tie.Need-overflow_mul-i invariant-loop-i decreases-loop-i
+overflow_mul-i c = omega arith
 
-add-check-variable : tie.Need-overflow-add-check-variable invariant-loop decreases-loop
-add-check-variable c = omega arith
+overflow_add-i : tie.Need-overflow_add-i invariant-loop-i decreases-loop-i
+overflow_add-i c = omega arith
 
-check-variable-requires : tie.Need-check-variable-requires invariant-loop decreases-loop
-check-variable-requires c κs = omega arith
+check_variable-v-requires : tie.Need-check_variable-v-requires invariant-loop-i decreases-loop-i
+check_variable-v-requires c κs = omega arith
 
-enum-known-v : tie.Need-enum-known-v invariant-loop decreases-loop
-enum-known-v c = omega arith
+enum_known-v : tie.Need-enum_known-v invariant-loop-i decreases-loop-i
+enum_known-v c = omega arith
 
-enum_told : tie.Need-enum-told invariant-loop decreases-loop
-enum_told c = omega arith
+enum_told-1 : tie.Need-enum_told-1 invariant-loop-i decreases-loop-i
+enum_told-1 c = omega arith
 
-returns : tie.Need-returns invariant-loop decreases-loop
-returns c = (
-  variable_stops _ _ _ _ c.before.before.before.before.loop.invariant _ _ _ _ (omega arith) c.enum_told.given.1
-      c.before.before.check-variable.ensures,
-  λ z. absurd (not_done _ _ _ c.enum_told.given.1 z),
+returns-in_default : tie.Need-returns-in_default invariant-loop-i decreases-loop-i
+returns-in_default c = (
+  variable_stops _ _ _ _ c.loop-i.invariant _ _ _ _ (omega arith) c.in_default.is
+      c.check_variable-v.ensures,
+  λ z. absurd (not_done _ _ _ c.in_default.is z),
 )
 
-add-counts : tie.Need-overflow-add-counts invariant-loop decreases-loop
-add-counts c =
+overflow_add-counts : tie.Need-overflow_add-counts invariant-loop-i decreases-loop-i
+overflow_add-counts c =
     record {
       fits = omega (
         arith,
-        (passed _ _ _ _ c.before.v.given.1 c.before.before.before.check-variable.ensures).1,
+        (passed _ _ _ _ c.in-Value.is c.check_variable-v.ensures).1,
         bits_at_below
-            c.before.before.before.before.before.before.before.args.bytes.now (variable_bit c.before.before.before.before.before.loop.i) 6,
+            c.args.bytes.now (variable_bit c.loop-i.i) 6,
       );
     }
 
-cast-counts : tie.Need-overflow-cast-counts invariant-loop decreases-loop
-cast-counts c = omega arith
+overflow_cast-counts : tie.Need-overflow_cast-counts invariant-loop-i decreases-loop-i
+overflow_cast-counts c = omega arith
 
-cast-counts-2 : tie.Need-overflow-cast-counts-2 invariant-loop decreases-loop
-cast-counts-2 c = omega arith
+overflow_cast-counts-in-loop-i : tie.Need-overflow_cast-counts-in-loop-i invariant-loop-i decreases-loop-i
+overflow_cast-counts-in-loop-i c = omega arith
 
-element-write-counts : tie.Need-element-write-counts invariant-loop decreases-loop
-element-write-counts c = omega arith
+bounds-counts-i : tie.Need-bounds-counts-i invariant-loop-i decreases-loop-i
+bounds-counts-i c = omega arith
 
-add-i : tie.Need-overflow-add-i invariant-loop decreases-loop
-add-i c = omega arith
+overflow_add-i-in-loop-i : tie.Need-overflow_add-i-in-loop-i invariant-loop-i decreases-loop-i
+overflow_add-i-in-loop-i c = omega arith
 
-loop-less : tie.Need-loop-smaller invariant-loop decreases-loop
-loop-less c = omega arith
+loop-i-smaller : tie.Need-loop-i-smaller invariant-loop-i decreases-loop-i
+loop-i-smaller c = omega arith
 
-loop-again : tie.Need-loop-preserved invariant-loop decreases-loop
-loop-again c =
-    let b = c.before.before.before.before.before.before.before.args.bytes.now in
-    let i = c.before.before.before.before.before.loop.i in
-    let q = passed _ _ _ _ c.before.v.given.1 c.before.before.before.check-variable.ensures in
-    variables_turn _ _ _ _ c.before.before.before.before.before.loop.invariant _ (omega arith) (omega arith) q.0 (omega (arith, count_is b i _ q.1, count_below b i))
+loop-i-preserved : tie.Need-loop-i-preserved invariant-loop-i decreases-loop-i
+loop-i-preserved c =
+    let b = c.args.bytes.now in
+    let i = c.loop-i.i in
+    let q = passed _ _ _ _ c.in-Value.is c.check_variable-v.ensures in
+    variables_turn _ _ _ _ c.loop-i.invariant _ (omega arith) (omega arith) q.0 (omega (arith, count_is b i _ q.1, count_below b i))
 
-returns-2 : tie.Need-returns-2 invariant-loop decreases-loop
-returns-2 c = ((variables_done _ _ _ _ c.before.loop.invariant (omega arith)).0, λ _. (variables_done _ _ _ _ c.before.loop.invariant (omega arith)).1)
+returns : tie.Need-returns invariant-loop-i decreases-loop-i
+returns c = ((variables_done _ _ _ _ c.loop-i.invariant (omega arith)).0, λ _. (variables_done _ _ _ _ c.loop-i.invariant (omega arith)).1)
 
-pub check-variables-spec : {M : Type 1} → statement M
-check-variables-spec =
-    tie.close
-    (tie.spec
-    invariant-loop
-    decreases-loop
-    loop-holds
-    mul-check-variable
-    add-check-variable
-    check-variable-requires
-    enum-known-v
-    enum_told
-    returns
-    add-counts
-    cast-counts
-    cast-counts-2
-    element-write-counts
-    add-i
-    loop-less
-    loop-again
-    returns-2)
+pub check_variables_spec : {M : Type 1} → statement M
+check_variables_spec = tie.close (tie.spec invariant-loop-i decreases-loop-i loop-i-init overflow_mul-i overflow_add-i check_variable-v-requires enum_known-v enum_told-1 returns-in_default overflow_add-counts overflow_cast-counts overflow_cast-counts-in-loop-i bounds-counts-i overflow_add-i-in-loop-i loop-i-smaller loop-i-preserved returns)

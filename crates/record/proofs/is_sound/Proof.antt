@@ -6,17 +6,17 @@ use borrow.Author.Rules.{rules}
 use Rattle.record.proofs.is_sound.Statement.{statement}
 use Rattle.record.proofs.is_sound.Tie as tie
 
+returns-then-v-low : tie.Need-returns-then-v-low
+returns-then-v-low c = (λ e. absurd (false_not e), λ _ S. omega (arith, S.rises))
+
+overflow_cast-result : tie.Need-overflow_cast-result
+overflow_cast-result c = search rules
+
+bounds-counts-v : tie.Need-bounds-counts-v
+bounds-counts-v c = search rules
+
 returns : tie.Need-returns
-returns c = (λ e. absurd (false_not e), λ _ S. omega (arith, S.rises))
+returns c = (search rules, λ e S. omega (arith, ltb-false, S.value))
 
-cast-result : tie.Need-overflow-cast-result
-cast-result c = search rules
-
-element-copy-out-result : tie.Need-element-copy-out-result
-element-copy-out-result c = search rules
-
-returns-2 : tie.Need-returns-2
-returns-2 c = (search rules, λ e S. omega (arith, ltb-false, S.value))
-
-pub is-sound-spec : {M : Type 1} → statement M
-is-sound-spec = tie.close (tie.spec returns cast-result element-copy-out-result returns-2)
+pub is_sound_spec : {M : Type 1} → statement M
+is_sound_spec = tie.close (tie.spec returns-then-v-low overflow_cast-result bounds-counts-v returns)

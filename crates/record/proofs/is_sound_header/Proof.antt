@@ -6,17 +6,17 @@ use borrow.Author.Rules.{rules}
 use Rattle.record.proofs.is_sound_header.Statement.{statement}
 use Rattle.record.proofs.is_sound_header.Tie as tie
 
+returns-then-fields-ne1 : tie.Need-returns-then-fields-ne1
+returns-then-fields-ne1 c = (λ e. absurd (false_not e), λ _ S. omega (arith, S.edition))
+
+returns-then-variables-lt1 : tie.Need-returns-then-variables-lt1
+returns-then-variables-lt1 c = (λ e. absurd (false_not e), λ _ S. omega (arith, S.variables_min))
+
+returns-then-variables-gt64 : tie.Need-returns-then-variables-gt64
+returns-then-variables-gt64 c = (λ e. absurd (false_not e), λ _ S. omega (arith, S.variables_max))
+
 returns : tie.Need-returns
-returns c = (λ e. absurd (false_not e), λ _ S. omega (arith, S.edition))
+returns c = (search rules, λ e S. omega (arith, leb-false, S.actions_max))
 
-returns-2 : tie.Need-returns-2
-returns-2 c = (λ e. absurd (false_not e), λ _ S. omega (arith, S.variables_min))
-
-returns-3 : tie.Need-returns-3
-returns-3 c = (λ e. absurd (false_not e), λ _ S. omega (arith, S.variables_max))
-
-returns-4 : tie.Need-returns-4
-returns-4 c = (search rules, λ e S. omega (arith, leb-false, S.actions_max))
-
-pub is-sound-header-spec : {M : Type 1} → statement M
-is-sound-header-spec = tie.close (tie.spec returns returns-2 returns-3 returns-4)
+pub is_sound_header_spec : {M : Type 1} → statement M
+is_sound_header_spec = tie.close (tie.spec returns-then-fields-ne1 returns-then-variables-lt1 returns-then-variables-gt64 returns)

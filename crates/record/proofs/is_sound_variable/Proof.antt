@@ -7,14 +7,14 @@ use borrow.Author.Rules.{rules}
 use Rattle.record.proofs.is_sound_variable.Statement.{statement}
 use Rattle.record.proofs.is_sound_variable.Tie as tie
 
+returns-then-last-fields : tie.Need-returns-then-last-fields
+returns-then-last-fields c = (λ e. absurd (false_not e), λ _ S. omega (arith, S.initial))
+
+overflow_mul-result : tie.Need-overflow_mul-result
+overflow_mul-result c = record { fits = omega (arith, bit_times (c.args.fields / 16384) (c.args.fields / 64 % 2) (omega arith)) }
+
 returns : tie.Need-returns
-returns c = (λ e. absurd (false_not e), λ _ S. omega (arith, S.initial))
+returns c = (search rules, λ e S. omega (arith, leb-false, S.goal))
 
-mul-result : tie.Need-overflow-mul-result
-mul-result c = record { fits = omega (arith, bit_times (c.before.args.fields / 16384) (c.before.args.fields / 64 % 2) (omega arith)) }
-
-returns-2 : tie.Need-returns-2
-returns-2 c = (search rules, λ e S. omega (arith, leb-false, S.goal))
-
-pub is-sound-variable-spec : {M : Type 1} → statement M
-is-sound-variable-spec = tie.close (tie.spec returns mul-result returns-2)
+pub is_sound_variable_spec : {M : Type 1} → statement M
+is_sound_variable_spec = tie.close (tie.spec returns-then-last-fields overflow_mul-result returns)

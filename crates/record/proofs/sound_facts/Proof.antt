@@ -7,103 +7,78 @@ use native.Mathlib.Omega.{arith}
 use Rattle.record.proofs.sound_facts.Statement.{statement}
 use Rattle.record.proofs.sound_facts.Tie as tie
 
-abbrev invariant-loop : tie.invariant-loop
-invariant-loop bytes from count counts at₀ left₀ low₀ at left low = Run bytes from count at low left
+abbrev invariant-loop-left : tie.invariant-loop-left
+invariant-loop-left bytes from count counts at₀ left₀ low₀ at left low = Run bytes from count at low left
 
-abbrev decreases-loop : tie.decreases-loop
-decreases-loop bytes from count counts at₀ left₀ low₀ at left low = left
+abbrev decreases-loop-left : tie.decreases-loop-left
+decreases-loop-left bytes from count counts at₀ left₀ low₀ at left low = left
 
-mul-if1 : tie.Need-overflow-mul-if1 invariant-loop decreases-loop
-mul-if1 c = omega arith
+overflow_mul-count : tie.Need-overflow_mul-count invariant-loop-left decreases-loop-left
+overflow_mul-count c = omega arith
 
-add-if1 : tie.Need-overflow-add-if1 invariant-loop decreases-loop
-add-if1 c = omega arith
+overflow_add-from : tie.Need-overflow_add-from invariant-loop-left decreases-loop-left
+overflow_add-from c = omega arith
 
-add-if1-2 : tie.Need-overflow-add-if1-2 invariant-loop decreases-loop
-add-if1-2 c = omega arith
+overflow_add-from-2 : tie.Need-overflow_add-from-2 invariant-loop-left decreases-loop-left
+overflow_add-from-2 c = omega arith
 
-sound-inner-requires : tie.Need-sound-inner-requires invariant-loop decreases-loop
-sound-inner-requires c κs = search rules
+sound_inner-requires : tie.Need-sound_inner-requires invariant-loop-left decreases-loop-left
+sound_inner-requires c κs = search rules
 
-returns : tie.Need-returns invariant-loop decreases-loop
-returns c = c.sound-inner.ensures
+returns-then-from-count : tie.Need-returns-then-from-count invariant-loop-left decreases-loop-left
+returns-then-from-count c = c.sound_inner.ensures
 
-mul-if2 : tie.Need-overflow-mul-if2 invariant-loop decreases-loop
-mul-if2 c = omega arith
+overflow_mul-count-2 : tie.Need-overflow_mul-count-2 invariant-loop-left decreases-loop-left
+overflow_mul-count-2 c = omega arith
 
-add-if2 : tie.Need-overflow-add-if2 invariant-loop decreases-loop
-add-if2 c = omega arith
+overflow_add-from-3 : tie.Need-overflow_add-from-3 invariant-loop-left decreases-loop-left
+overflow_add-from-3 c = omega arith
 
-add-if2-2 : tie.Need-overflow-add-if2-2 invariant-loop decreases-loop
-add-if2-2 c = omega arith
+overflow_add-from-4 : tie.Need-overflow_add-from-4 invariant-loop-left decreases-loop-left
+overflow_add-from-4 c = omega arith
 
-returns-2 : tie.Need-returns-2 invariant-loop decreases-loop
-returns-2 c = λ e. absurd (false_not e)
+returns-then-bytes-from : tie.Need-returns-then-bytes-from invariant-loop-left decreases-loop-left
+returns-then-bytes-from c = λ e. absurd (false_not e)
 
-loop-holds : tie.Need-loop-init invariant-loop decreases-loop
-loop-holds c = run_start _ _ _
+loop-left-init : tie.Need-loop-left-init invariant-loop-left decreases-loop-left
+loop-left-init c = run_start _ _ _
 
-window-at-requires : tie.Need-window-at-requires invariant-loop decreases-loop
-window-at-requires c κs = omega arith
+window_at-requires : tie.Need-window_at-requires invariant-loop-left decreases-loop-left
+window_at-requires c κs = omega arith
 
-sound-few-requires : tie.Need-sound-few-requires invariant-loop decreases-loop
-sound-few-requires c κs = omega arith
+sound_few-low-requires : tie.Need-sound_few-low-requires invariant-loop-left decreases-loop-left
+sound_few-low-requires c κs = omega arith
 
-returns-3 : tie.Need-returns-3 invariant-loop decreases-loop
-returns-3 c = λ e. absurd (false_not e)
+returns-then-low-eq0 : tie.Need-returns-then-low-eq0 invariant-loop-left decreases-loop-left
+returns-then-low-eq0 c = λ e. absurd (false_not e)
 
-add_at : tie.Need-overflow-add-at invariant-loop decreases-loop
-add_at c = omega arith
+overflow_add-at : tie.Need-overflow_add-at invariant-loop-left decreases-loop-left
+overflow_add-at c = omega arith
 
-sub-left : tie.Need-overflow-sub-left invariant-loop decreases-loop
-sub-left c = omega arith
+overflow_sub-left : tie.Need-overflow_sub-left invariant-loop-left decreases-loop-left
+overflow_sub-left c = omega arith
 
-loop-less : tie.Need-loop-smaller invariant-loop decreases-loop
-loop-less c = omega arith
+loop-left-smaller : tie.Need-loop-left-smaller invariant-loop-left decreases-loop-left
+loop-left-smaller c = omega arith
 
-loop-again : tie.Need-loop-preserved invariant-loop decreases-loop
-loop-again c =
-    run_turn _ _ _ _ _ _ _ _ c.before.before.before.before.loop.invariant c.before.before.window-at.ensures (omega arith)
-    c.before.before.before.before.before.before.before.before.requires.3 _ (omega arith) (c.before.sound-few.ensures.0 (omega arith))
+loop-left-preserved : tie.Need-loop-left-preserved invariant-loop-left decreases-loop-left
+loop-left-preserved c =
+    run_turn _ _ _ _ _ _ _ _ c.loop-left.invariant c.window_at.ensures (omega arith)
+    c.requires.3 _ (omega arith) (c.sound_few-low.ensures.0 (omega arith))
 
-returns-4 : tie.Need-returns-4 invariant-loop decreases-loop
-returns-4 c = λ _. run_none _ _ _ _ _ _ c.before.before.loop.invariant c.if4.true
+returns-then-left-eq0 : tie.Need-returns-then-left-eq0 invariant-loop-left decreases-loop-left
+returns-then-left-eq0 c = λ _. run_none _ _ _ _ _ _ c.loop-left.invariant c.if-left-eq0.true
 
-window-at-requires-2 : tie.Need-window-at-requires-2 invariant-loop decreases-loop
-window-at-requires-2 c κs = omega arith
+window_at-requires-2 : tie.Need-window_at-requires-2 invariant-loop-left decreases-loop-left
+window_at-requires-2 c κs = omega arith
 
-sound-few-requires-2 : tie.Need-sound-few-requires-2 invariant-loop decreases-loop
-sound-few-requires-2 c κs = omega arith
+sound_few-requires : tie.Need-sound_few-requires invariant-loop-left decreases-loop-left
+sound_few-requires c κs = omega arith
 
-returns-5 : tie.Need-returns-5 invariant-loop decreases-loop
-returns-5 c =
-    λ e. run_last _ _ _ _ _ _ _ _ c.before.before.before.before.loop.invariant c.before.window-at2.ensures (omega arith)
-    c.before.before.before.before.before.before.before.before.requires.3 _ (c.sound-few2.ensures.0 (ltb-true _ _ e))
+returns : tie.Need-returns invariant-loop-left decreases-loop-left
+returns c =
+    λ e. run_last _ _ _ _ _ _ _ _ c.loop-left.invariant c.window_at-2.ensures (omega arith)
+    c.requires.3 _ (c.sound_few.ensures.0 (ltb-true _ _ e))
 
-pub sound-facts-spec : {M : Type 1} → statement M
-sound-facts-spec =
-    tie.close
-    (tie.spec
-    invariant-loop
-    decreases-loop
-    mul-if1
-    add-if1
-    add-if1-2
-    sound-inner-requires
-    returns
-    mul-if2
-    add-if2
-    add-if2-2
-    returns-2
-    loop-holds
-    window-at-requires
-    sound-few-requires
-    returns-3
-    add_at
-    sub-left
-    loop-less
-    loop-again
-    returns-4
-    window-at-requires-2
-    sound-few-requires-2
-    returns-5)
+pub sound_facts_spec : {M : Type 1} → statement M
+sound_facts_spec = tie.close (tie.spec invariant-loop-left decreases-loop-left overflow_mul-count overflow_add-from overflow_add-from-2 sound_inner-requires returns-then-from-count overflow_mul-count-2 overflow_add-from-3 overflow_add-from-4 returns-then-bytes-from loop-left-init window_at-requires sound_few-low-requires returns-then-low-eq0 overflow_add-at overflow_sub-left loop-left-smaller loop-left-preserved returns-then-left-eq0 window_at-requires-2 sound_few-requires returns)

@@ -5,23 +5,23 @@ use native.Mathlib.Omega.{arith}
 use Rattle.record.proofs.take.Statement.{statement}
 use Rattle.record.proofs.take.Tie as tie
 
-add-if1 : tie.Need-overflow-add-if1
-add-if1 c = omega arith
+overflow_add-at : tie.Need-overflow_add-at
+overflow_add-at c = omega arith
 
-add-if1-2 : tie.Need-overflow-add-if1-2
-add-if1-2 c = omega arith
+overflow_add-at-2 : tie.Need-overflow_add-at-2
+overflow_add-at-2 c = omega arith
+
+returns-then-bytes-at : tie.Need-returns-then-bytes-at
+returns-then-bytes-at c = take_short _ _ _ _ (omega arith)
+
+read_bits-requires : tie.Need-read_bits-requires
+read_bits-requires c κs = omega arith
+
+overflow_cast-result : tie.Need-overflow_cast-result
+overflow_cast-result c = record { fits = bits_at_u32 _ _ _ _ c.read_bits.ensures (omega arith) }
 
 returns : tie.Need-returns
-returns c = take_short _ _ _ _ (omega arith)
-
-read-bits-requires : tie.Need-read-bits-requires
-read-bits-requires c κs = omega arith
-
-cast-t12 : tie.Need-overflow-cast-t12
-cast-t12 c = record { fits = bits_at_u32 _ _ _ _ c.read-bits.ensures (omega arith) }
-
-returns-2 : tie.Need-returns-2
-returns-2 c = ap done c.read-bits.ensures ∙ take_there _ _ _ (omega arith)
+returns c = ap done c.read_bits.ensures ∙ take_there _ _ _ (omega arith)
 
 pub take_spec : {M : Type 1} → statement M
-take_spec = tie.close (tie.spec add-if1 add-if1-2 returns read-bits-requires cast-t12 returns-2)
+take_spec = tie.close (tie.spec overflow_add-at overflow_add-at-2 returns-then-bytes-at read_bits-requires overflow_cast-result returns)

@@ -61,7 +61,7 @@ loop-holds c =
 
 -- the places of the preconditions are within the list, and the fact at each is small
 end : (c : tie.At-loop invariant-loop decreases-loop) → eff_at (start c).args.task.now (start c).args.i ≤ length (start c).args.task.now
-end c = let L = listed c in omega (arith, L.eff_below, L.end_Below)
+end c = let L = listed c in omega (arith, L.eff_below, L.end_below)
 
 mul_wide : tie.Need-overflow-mul-wide invariant-loop decreases-loop
 mul_wide c = record { fits = omega (arith, end c.before, c.before.loop.invariant.0) }

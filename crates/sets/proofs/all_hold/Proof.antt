@@ -11,68 +11,54 @@ use Rattle.sets.proofs.Effects.{holds_fails, holds_passes, holds_end}
 use Rattle.sets.proofs.all_hold.Statement.{statement}
 use Rattle.sets.proofs.all_hold.Tie as tie
 
-abbrev invariant-loop : tie.invariant-loop
-invariant-loop sets facts from to k₀ k = (from ≤ k) × (k ≤ to) × (holds (sets_of sets) (facts_in facts from to) ≡ holds (sets_of sets) (facts_in facts k to))
+abbrev invariant-loop-k : tie.invariant-loop-k
+invariant-loop-k sets facts from to k₀ k = (from ≤ k) × (k ≤ to) × (holds (sets_of sets) (facts_in facts from to) ≡ holds (sets_of sets) (facts_in facts k to))
 
-abbrev decreases-loop : tie.decreases-loop
-decreases-loop sets facts from to k₀ k = to - k
+abbrev decreases-loop-k : tie.decreases-loop-k
+decreases-loop-k sets facts from to k₀ k = to - k
 
-loop-holds : tie.Need-loop-init invariant-loop decreases-loop
-loop-holds c = (search rules, search rules, refl)
+loop-k-init : tie.Need-loop-k-init invariant-loop-k decreases-loop-k
+loop-k-init c = (search rules, search rules, refl)
 
-mul_wide : tie.Need-overflow-mul-wide invariant-loop decreases-loop
-mul_wide c = search rules
+offset_bounds-facts-k : tie.Need-offset_bounds-facts-k invariant-loop-k decreases-loop-k
+offset_bounds-facts-k c = search rules
 
-shared-slice-read-wide : tie.Need-shared-slice-read-wide invariant-loop decreases-loop
-shared-slice-read-wide c = search rules
+bounds-facts-k : tie.Need-bounds-facts-k invariant-loop-k decreases-loop-k
+bounds-facts-k c = search rules
 
-wide-requires : tie.Need-wide-requires invariant-loop decreases-loop
+wide-requires : tie.Need-wide-requires invariant-loop-k decreases-loop-k
 wide-requires c κs = search rules
 
-small : (c : tie.After-wide invariant-loop decreases-loop) → c.wide.result < 4096
-small c = omega (arith, c.wide.ensures, c.before.before.before.before.before.requires.2 c.before.before.before.loop.k (omega arith) (omega arith))
+small : (c : tie.After-wide invariant-loop-k decreases-loop-k) → c.wide.result < 4096
+small c = omega (arith, c.wide.ensures, c.requires.2 c.loop-k.k (omega arith) (omega arith))
 
-holds-requires : tie.Need-holds-requires invariant-loop decreases-loop
+holds-requires : tie.Need-holds-requires invariant-loop-k decreases-loop-k
 holds-requires c κs = small c
 
-returns : tie.Need-returns invariant-loop decreases-loop
-returns c =
-    let a = c.before.before.before.before.before.before.before.args in sym
-    (c.before.before.before.before.before.loop.invariant.2 ∙ holds_fails a.facts.now c.before.before.before.before.before.loop.k a.to
-    (omega arith) (omega arith) (sets_of a.sets.now) _ c.before.before.wide.ensures (sym c.before.holds.ensures ∙ not-true _ c.if1.true))
+returns-then-not-holds : tie.Need-returns-then-not-holds invariant-loop-k decreases-loop-k
+returns-then-not-holds c =
+    let a = c.args in sym
+    (c.loop-k.invariant.2 ∙ holds_fails a.facts.now c.loop-k.k a.to
+    (omega arith) (omega arith) (sets_of a.sets.now) _ c.wide.ensures (sym c.holds.ensures ∙ c.if-not-holds.true))
 
-add-k : tie.Need-overflow-add-k invariant-loop decreases-loop
-add-k c = search rules
+overflow_add-k : tie.Need-overflow_add-k invariant-loop-k decreases-loop-k
+overflow_add-k c = search rules
 
-loop-less : tie.Need-loop-smaller invariant-loop decreases-loop
-loop-less c = search rules
+loop-k-smaller : tie.Need-loop-k-smaller invariant-loop-k decreases-loop-k
+loop-k-smaller c = search rules
 
-loop-again : tie.Need-loop-preserved invariant-loop decreases-loop
-loop-again c =
-    let a = c.before.before.before.before.before.before.before.args in (
+loop-k-preserved : tie.Need-loop-k-preserved invariant-loop-k decreases-loop-k
+loop-k-preserved c =
+    let a = c.args in (
       search rules,
       search rules,
-      c.before.before.before.before.before.loop.invariant.2 ∙ holds_passes a.facts.now
-          c.before.before.before.before.before.loop.k a.to (omega arith) (omega arith) (sets_of a.sets.now) _ c.before.before.wide.ensures
-          (sym c.before.holds.ensures ∙ not-false _ c.if1.false),
+      c.loop-k.invariant.2 ∙ holds_passes a.facts.now
+          c.loop-k.k a.to (omega arith) (omega arith) (sets_of a.sets.now) _ c.wide.ensures
+          (sym c.holds.ensures ∙ c.if-not-holds.false),
     )
 
-returns-2 : tie.Need-returns-2 invariant-loop decreases-loop
-returns-2 c = let a = c.before.before.before.args in sym (c.before.loop.invariant.2 ∙ holds_end (sets_of a.sets.now) a.facts.now c.before.loop.k a.to (omega arith))
+returns : tie.Need-returns invariant-loop-k decreases-loop-k
+returns c = let a = c.args in sym (c.loop-k.invariant.2 ∙ holds_end (sets_of a.sets.now) a.facts.now c.loop-k.k a.to (omega arith))
 
-pub all-hold-spec : {M : Type 1} → statement M
-all-hold-spec =
-    tie.close
-    (tie.spec
-    invariant-loop
-    decreases-loop
-    loop-holds
-    mul_wide
-    shared-slice-read-wide
-    wide-requires
-    holds-requires
-    returns
-    add-k
-    loop-less
-    loop-again
-    returns-2)
+pub all_hold_spec : {M : Type 1} → statement M
+all_hold_spec = tie.close (tie.spec invariant-loop-k decreases-loop-k loop-k-init offset_bounds-facts-k bounds-facts-k wide-requires holds-requires returns-then-not-holds overflow_add-k loop-k-smaller loop-k-preserved returns)

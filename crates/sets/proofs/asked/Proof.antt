@@ -9,51 +9,38 @@ use Rattle.sets.proofs.asked.Statement.{statement}
 use Rattle.sets.proofs.asked.Tie as tie
 
 -- What is asked by all facts is what is asked by those still to come: the facts passed are of other variables.
-abbrev invariant-loop : tie.invariant-loop
-invariant-loop facts from to v k₀ k = (from ≤ k) × (k ≤ to) × (look (facts_in facts from to) v ≡ look (facts_in facts k to) v)
+abbrev invariant-loop-k : tie.invariant-loop-k
+invariant-loop-k facts from to v k₀ k = (from ≤ k) × (k ≤ to) × (look (facts_in facts from to) v ≡ look (facts_in facts k to) v)
 
-abbrev decreases-loop : tie.decreases-loop
-decreases-loop facts from to v k₀ k = to - k
+abbrev decreases-loop-k : tie.decreases-loop-k
+decreases-loop-k facts from to v k₀ k = to - k
 
-loop-holds : tie.Need-loop-init invariant-loop decreases-loop
-loop-holds c = (search rules, search rules, refl)
+loop-k-init : tie.Need-loop-k-init invariant-loop-k decreases-loop-k
+loop-k-init c = (search rules, search rules, refl)
 
-mul_wide : tie.Need-overflow-mul-wide invariant-loop decreases-loop
-mul_wide c = omega arith
+offset_bounds-facts-k : tie.Need-offset_bounds-facts-k invariant-loop-k decreases-loop-k
+offset_bounds-facts-k c = omega arith
 
-shared-slice-read-wide : tie.Need-shared-slice-read-wide invariant-loop decreases-loop
-shared-slice-read-wide c = omega arith
+bounds-facts-k : tie.Need-bounds-facts-k invariant-loop-k decreases-loop-k
+bounds-facts-k c = omega arith
 
-wide-requires : tie.Need-wide-requires invariant-loop decreases-loop
-wide-requires c κs = tt
+wide-f-requires : tie.Need-wide-f-requires invariant-loop-k decreases-loop-k
+wide-f-requires c κs = tt
 
-returns : tie.Need-returns invariant-loop decreases-loop
-returns c = rw c.before.before.before.before.loop.invariant.2 (look_here _ _ _ (omega arith) (omega arith) _ _ c.before.wide.ensures c.if1.true)
+returns-then-f-v : tie.Need-returns-then-f-v invariant-loop-k decreases-loop-k
+returns-then-f-v c = rw c.loop-k.invariant.2 (look_here _ _ _ (omega arith) (omega arith) _ _ c.wide-f.ensures c.if-f-v.true)
 
-add-k : tie.Need-overflow-add-k invariant-loop decreases-loop
-add-k c = omega arith
+overflow_add-k : tie.Need-overflow_add-k invariant-loop-k decreases-loop-k
+overflow_add-k c = omega arith
 
-loop-less : tie.Need-loop-smaller invariant-loop decreases-loop
-loop-less c = omega arith
+loop-k-smaller : tie.Need-loop-k-smaller invariant-loop-k decreases-loop-k
+loop-k-smaller c = omega arith
 
-loop-again : tie.Need-loop-preserved invariant-loop decreases-loop
-loop-again c = (search rules, search rules, c.before.before.before.before.loop.invariant.2 ∙ look_later _ _ _ (omega arith) (omega arith) _ _ c.before.wide.ensures c.if1.false)
+loop-k-preserved : tie.Need-loop-k-preserved invariant-loop-k decreases-loop-k
+loop-k-preserved c = (search rules, search rules, c.loop-k.invariant.2 ∙ look_later _ _ _ (omega arith) (omega arith) _ _ c.wide-f.ensures c.if-f-v.false)
 
-returns-2 : tie.Need-returns-2 invariant-loop decreases-loop
-returns-2 c = rw c.before.loop.invariant.2 (look_end _ _ _ _ (omega arith))
+returns : tie.Need-returns invariant-loop-k decreases-loop-k
+returns c = rw c.loop-k.invariant.2 (look_end _ _ _ _ (omega arith))
 
-pub asked-spec : {M : Type 1} → statement M
-asked-spec =
-    tie.close
-    (tie.spec
-    invariant-loop
-    decreases-loop
-    loop-holds
-    mul_wide
-    shared-slice-read-wide
-    wide-requires
-    returns
-    add-k
-    loop-less
-    loop-again
-    returns-2)
+pub asked_spec : {M : Type 1} → statement M
+asked_spec = tie.close (tie.spec invariant-loop-k decreases-loop-k loop-k-init offset_bounds-facts-k bounds-facts-k wide-f-requires returns-then-f-v overflow_add-k loop-k-smaller loop-k-preserved returns)

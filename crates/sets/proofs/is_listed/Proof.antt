@@ -3,11 +3,11 @@ use Rattle.sets.specs.Sets.{listed}
 use Rattle.sets.proofs.is_listed.Statement.{statement}
 use Rattle.sets.proofs.is_listed.Tie as tie
 
-mul-member : tie.Need-overflow-mul-member
-mul-member c = search rules
+offset_bounds-set-i : tie.Need-offset_bounds-set-i
+offset_bounds-set-i c = search rules
 
-element-copy-out-member : tie.Need-element-copy-out-member
-element-copy-out-member c = search rules
+bounds-set-i : tie.Need-bounds-set-i
+bounds-set-i c = search rules
 
 member-requires : tie.Need-member-requires
 member-requires c κs = search rules
@@ -16,5 +16,5 @@ returns : tie.Need-returns
 unfolding listed
 returns c = c.member.ensures
 
-pub is-listed-spec : {M : Type 1} → statement M
-is-listed-spec = tie.close (tie.spec mul-member element-copy-out-member member-requires returns)
+pub is_listed_spec : {M : Type 1} → statement M
+is_listed_spec = tie.close (tie.spec offset_bounds-set-i bounds-set-i member-requires returns)

@@ -4,12 +4,12 @@ use borrow.Author.Rules.{rules}
 use Rattle.sets.proofs.member.Statement.{statement}
 use Rattle.sets.proofs.member.Tie as tie
 
-shr-result : tie.Need-overflow-shr-result
-shr-result c = search rules
+overflow_shr-result : tie.Need-overflow_shr-result
+overflow_shr-result c = search rules
 
 returns : tie.Need-returns
 unfolding in_set
 returns c = refl
 
-pub member-spec : {M : Type 1} → statement M
-member-spec = tie.close (tie.spec shr-result returns)
+pub member_spec : {M : Type 1} → statement M
+member_spec = tie.close (tie.spec overflow_shr-result returns)

@@ -9,7 +9,7 @@ need-requires : tie.Need-need-requires
 need-requires c κs = search rules
 
 returns : tie.Need-returns
-returns c = let s = c.before.before in asked_has _ (pre_func _ s.requires.0.formed s.args.i) _ _ _ (omega arith) c.need.ensures
+returns c = asked_has _ (pre_func _ c.requires.0.formed c.args.i) _ _ _ (omega arith) c.need.ensures
 
-pub needs-fact-spec : {M : Type 1} → statement M
-needs-fact-spec = tie.close (tie.spec need-requires returns)
+pub needs_fact_spec : {M : Type 1} → statement M
+needs_fact_spec = tie.close (tie.spec need-requires returns)

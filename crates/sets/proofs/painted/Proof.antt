@@ -8,54 +8,43 @@ use mathlib.Core.Logic.{⊎_elim}
 use Rattle.sets.proofs.Loading.{Painting, painting_start, painting_black, painting_red, painting_end}
 use Rattle.sets.proofs.painted.Statement.{statement}
 use Rattle.sets.proofs.painted.Tie as tie
+use Rattle.sets.proofs.painted.Lts.{then-is_black, else-is_black}
 
-abbrev invariant-loop : tie.invariant-loop
-invariant-loop task n set₀ v₀ set v = Painting (task_in task) n set v
+abbrev invariant-loop-v : tie.invariant-loop-v
+invariant-loop-v task n set₀ v₀ set v = Painting (task_in task) n set v
 
-abbrev decreases-loop : tie.decreases-loop
-decreases-loop task n set₀ v₀ set v = n - v
+abbrev decreases-loop-v : tie.decreases-loop-v
+decreases-loop-v task n set₀ v₀ set v = n - v
 
-variables-requires : tie.Need-variables-requires invariant-loop decreases-loop
-variables-requires c κs = search rules
+variables-n-requires : tie.Need-variables-n-requires invariant-loop-v decreases-loop-v
+variables-n-requires c κs = search rules
 
-loop-holds : tie.Need-loop-init invariant-loop decreases-loop
-loop-holds c = painting_start _ _ c.before.before.requires.formed c.variables.ensures
+loop-v-init : tie.Need-loop-v-init invariant-loop-v decreases-loop-v
+loop-v-init c = painting_start _ _ c.requires.formed c.variables-n.ensures
 
-single-requires : tie.Need-single-requires invariant-loop decreases-loop
-single-requires c κs = omega (arith, c.before.loop.invariant.over.most)
+single-own-requires : tie.Need-single-own-requires invariant-loop-v decreases-loop-v
+single-own-requires c κs = omega (arith, c.loop-v.invariant.over.most)
 
-is-black-requires : tie.Need-is-black-requires invariant-loop decreases-loop
-is-black-requires c κs = (c.before.before.before.before.before.requires, omega (arith, c.before.before.loop.invariant.over.all))
+is_black-requires : tie.Need-is_black-requires invariant-loop-v decreases-loop-v
+is_black-requires c κs = (c.requires, omega (arith, c.loop-v.invariant.over.all))
 
-add-v : tie.Need-overflow-add-v invariant-loop decreases-loop
-add-v c = search rules
+overflow_step-v : tie.Need-overflow_step-v invariant-loop-v decreases-loop-v
+overflow_step-v c = search rules
 
-loop-less : tie.Need-loop-smaller invariant-loop decreases-loop
-loop-less c = search rules
+loop-v-smaller : tie.Need-loop-v-smaller invariant-loop-v decreases-loop-v
+loop-v-smaller c = search rules
 
-loop-again : tie.Need-loop-preserved invariant-loop decreases-loop
-loop-again c =
-    let p = c.before.before.before.before.loop.invariant in
-    let h : c.before.before.before.before.loop.v < c.before.before.before.before.before.variables.result = omega arith in
-    ⊎_elim
-    (λ w. rw w.1 (painting_black _ _ _ _ p h _ _ c.before.is-black.ensures w.0.taken c.before.before.single.ensures))
-    (λ w. rw w.1 (painting_red _ _ _ _ p h _ c.before.is-black.ensures w.0.left))
-    c.if1.branch
+loop-v-preserved : tie.Need-loop-v-preserved invariant-loop-v decreases-loop-v
+loop-v-preserved c =
+    let p = c.loop-v.invariant in
+    let h : c.loop-v.v < c.variables-n.result = omega arith in
+    elim c.if-is_black.branch [
+      | then-is_black w ↦ rw w.set-is (painting_black _ _ _ _ p h _ _ c.is_black.ensures w.if-is_black.true c.single-own.ensures)
+      | else-is_black w ↦ rw w.set-is (painting_red _ _ _ _ p h _ c.is_black.ensures w.if-is_black.false)
+    ]
 
-returns : tie.Need-returns invariant-loop decreases-loop
-returns c = painting_end _ _ _ _ c.before.loop.invariant (omega arith)
+returns : tie.Need-returns invariant-loop-v decreases-loop-v
+returns c = painting_end _ _ _ _ c.loop-v.invariant (omega arith)
 
-pub painted-spec : {M : Type 1} → statement M
-painted-spec =
-    tie.close
-    (tie.spec
-    invariant-loop
-    decreases-loop
-    variables-requires
-    loop-holds
-    single-requires
-    is-black-requires
-    add-v
-    loop-less
-    loop-again
-    returns)
+pub painted_spec : {M : Type 1} → statement M
+painted_spec = tie.close (tie.spec invariant-loop-v decreases-loop-v variables-n-requires loop-v-init single-own-requires is_black-requires overflow_step-v loop-v-smaller loop-v-preserved returns)

@@ -77,7 +77,7 @@ unmet-requires c κs =
     let P = (start₂ (wide3-to-wide2 c)).requires.1.1 in
     record {
       rises = omega (arith, P.to, from_is c, to_is c);
-      within = omega (arith, L.eff_below, L.end_Below, to_is c);
+      within = omega (arith, L.eff_below, L.end_below, to_is c);
       small = λ k a b. L.small k (omega (arith, P.from, from_is c)) (omega (arith, L.eff_below, to_is c));
     }
 
@@ -110,13 +110,13 @@ mul-wide-3 : tie.Need-overflow-mul-wide-3
 mul-wide-3 c =
     let at-unmet = c.before.before in
     let L = listed at-unmet in
-    record { fits = omega (arith, (looked at-unmet).to, L.eff_below, L.end_Below) }
+    record { fits = omega (arith, (looked at-unmet).to, L.eff_below, L.end_below) }
 
 shared-slice-read-wide : tie.Need-shared-slice-read-wide
 shared-slice-read-wide c =
     let at-unmet = c.before.before.before in
     let L = listed at-unmet in
-    omega (arith, to_is at-unmet.before, L.eff_below, L.end_Below)
+    omega (arith, to_is at-unmet.before, L.eff_below, L.end_below)
 
 wide-requires-4 : tie.Need-wide-requires-4
 wide-requires-4 c κs = tt
