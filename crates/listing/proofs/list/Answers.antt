@@ -1,7 +1,6 @@
 -- What was read, in room for one byte more than a record has, has the listing of the whole input.
-use Rattle.std.proofs.Common.{◌≡◌, ℕ, ◌<◌, ◌≤◌, List, ◌++◌, rules, arith, length, take, length-take-le, append-nil, length-append, sym, ap, ◌∙◌, subst, inl, inr}
+use Rattle.std.proofs.Common.{◌≡◌, ℕ, ◌<◌, ◌≤◌, List, ◌++◌, arith, length, take, length-take-le, append-nil, length-append, sym, ap, ◌∙◌, subst, inl, inr}
 use Rattle.std.proofs.lemmas.Bool.{cases_lt}
-use Rattle.std.proofs.lemmas.Result.{on_ok_weaker}
 use Rattle.std.proofs.Math.Seq.{take-append_seam}
 use Rattle.std.specs.Io.KnownBytes.{Appends, Consumes, IsAtEnd}
 use Rattle.std.specs.Prelude.{Option, None, Some, IfSome, ◌⊎◌}
@@ -29,6 +28,6 @@ told (Some xs) b c d bs taken whole few put = subst (Appends c d) (listed (Some 
 
 pub returns : goal.returns
 returns g c =
-    let read = c.in_ok-n.ensures in
-    let long : length (take c.in_ok-n.n c.read.new.bytes) ≡ c.in_ok-n.n = length-take-le _ _ read.front.0 in
-    on_ok_weaker c.print.result (told _ _ _ _ _ read.taken (λ h. read.whole (omega arith)) (omega arith)) c.print.ensures
+    let read = c.in-Ok.ensures in
+    let long : length (take c.in-Ok.n c.read.new.bytes) ≡ c.in-Ok.n = length-take-le _ _ read.front.0 in
+    told _ _ _ _ _ read.taken (λ h. read.whole (omega arith)) (omega arith) c.in-Ok-print.ensures

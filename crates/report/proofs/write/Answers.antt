@@ -10,7 +10,7 @@ returns-in_default c =
     let asked = told _ _ _ _ _ _ z z z c.plan-answer.ensures.result_value c.plan-answer.ensures.plan_after in
     written_refusal _ _ _ asked _ _ c.in_default.is c.refusal_of.ensures c.put_refusal.ensures
 
-pub put_runs-end-requires : goal.put_runs-end-requires-clause-room
+pub put_runs-end-requires : goal.put_runs-end-requires
 put_runs-end-requires c =
     let z = length-replicate {A = ℕ} 16384 0 in
     let asked = told _ _ _ _ _ _ z z z c.plan-answer.ensures.result_value c.plan-answer.ensures.plan_after in
