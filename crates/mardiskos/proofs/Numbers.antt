@@ -8,7 +8,7 @@ use native.Mathlib.Omega.{arith}
 use borrow.Author.Tests.{ne_eqb}
 use lib.Dec.{eqb}
 use Rattle.planning.specs.Basics.{Check, check, refuse, and_then, in_order, Answer, refused, done, refuse_at}
-use Rattle.planning.specs.Record.{field_check, header_checks, variable_checks, variables_checks, fact_checks, facts_checks, action_checks, actions_checks, record_checks, record_check, task_of}
+use Rattle.planning.specs.Record.{action_end, field_check, header_checks, variable_checks, variables_checks, fact_checks, facts_checks, action_checks, actions_checks, record_checks, record_check, task_of}
 use Rattle.planning.specs.Painting.{acyclic_check, return_check}
 use Rattle.planning.specs.Calls.{length_check, relaxed_check, room_check, goals_check, Planned, plan_call, repair_call}
 use Rattle.answers.proofs.Stages.{answer_refused}
@@ -97,7 +97,7 @@ front_action s p =
 front_actions : (s : List ℕ) (p n : ℕ) → Front (actions_checks s p n)
 unfolding actions_checks
 front_actions s p zero = front_nil
-front_actions s p (suc n) = front-++ (action_checks s p) _ (front_action s p) (front_actions s _ n)
+front_actions s p (suc n) = front-++ (action_checks s p) _ (front_action s p) (front_actions s (action_end s p) n)
 
 record_numbered : (s : List ℕ) → Numbered (record_check s)
 unfolding record_check record_checks
