@@ -8,6 +8,7 @@ use mathlib.Core.Logic.{⊎_elim}
 use Rattle.sets.proofs.Loading.{Painting, painting_start, painting_black, painting_red, painting_end}
 use Rattle.sets.proofs.painted.Statement.{statement}
 use Rattle.sets.proofs.painted.Tie as tie
+use Rattle.sets.proofs.painted.Lts.{then-is_black, else-is_black}
 
 abbrev invariant-loop-v : tie.invariant-loop-v
 invariant-loop-v task n set₀ v₀ set v = Painting (task_in task) n set v
@@ -37,10 +38,10 @@ loop-v-preserved : tie.Need-loop-v-preserved invariant-loop-v decreases-loop-v
 loop-v-preserved c =
     let p = c.loop-v.invariant in
     let h : c.loop-v.v < c.variables-n.result = omega arith in
-    ⊎_elim
-    (λ w. rw w.1 (painting_black _ _ _ _ p h _ _ c.is_black.ensures w.0.taken c.single-own.ensures))
-    (λ w. rw w.1 (painting_red _ _ _ _ p h _ c.is_black.ensures w.0.left))
-    c.if-is_black.branch
+    elim c.if-is_black.branch [
+      | then-is_black w ↦ rw w.set-is (painting_black _ _ _ _ p h _ _ c.is_black.ensures w.if-is_black.true c.single-own.ensures)
+      | else-is_black w ↦ rw w.set-is (painting_red _ _ _ _ p h _ c.is_black.ensures w.if-is_black.false)
+    ]
 
 returns : tie.Need-returns invariant-loop-v decreases-loop-v
 returns c = painting_end _ _ _ _ c.loop-v.invariant (omega arith)
