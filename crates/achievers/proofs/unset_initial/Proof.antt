@@ -10,80 +10,62 @@ use Rattle.achievers.proofs.Achievers.{Unsetting, unsetting_start, unsetting_tur
 use Rattle.achievers.proofs.unset_initial.Statement.{statement}
 use Rattle.achievers.proofs.unset_initial.Tie as tie
 
-abbrev invariant-loop : tie.invariant-loop
-invariant-loop task first₀ n v₀ first v = (n ≡ variables (task_in task)) × Unsetting (task_in task) first₀ first v
+abbrev invariant-loop-v : tie.invariant-loop-v
+invariant-loop-v task first₀ n v₀ first v = (n ≡ variables (task_in task)) × Unsetting (task_in task) first₀ first v
 
-abbrev decreases-loop : tie.decreases-loop
-decreases-loop task first₀ n v₀ first v = n - v
+abbrev decreases-loop-v : tie.decreases-loop-v
+decreases-loop-v task first₀ n v₀ first v = n - v
 
-abbrev start : tie.At-loop invariant-loop decreases-loop → tie.Start invariant-loop decreases-loop
+abbrev start : tie.At-loop-v invariant-loop-v decreases-loop-v → tie.Start invariant-loop-v decreases-loop-v
 start c = c.before.before.before
 
-formed : (c : tie.At-loop invariant-loop decreases-loop) → Formed (task_in (start c).args.task.now)
-formed c = (start c).requires.0.formed
+formed : (c : tie.At-loop-v invariant-loop-v decreases-loop-v) → Formed (task_in c.args.task.now)
+formed c = c.requires.0.formed
 
-variables-requires : tie.Need-variables-requires invariant-loop decreases-loop
-variables-requires c κs = search rules
+variables-n-requires : tie.Need-variables-n-requires invariant-loop-v decreases-loop-v
+variables-n-requires c κs = search rules
 
-loop-holds : tie.Need-loop-init invariant-loop decreases-loop
-loop-holds c = (c.variables.ensures, unsetting_start _ _ c.before.before.requires.1)
+loop-v-init : tie.Need-loop-v-init invariant-loop-v decreases-loop-v
+loop-v-init c = (c.variables-n.ensures, unsetting_start _ _ c.requires.1)
 
-within : (c : tie.In-loop invariant-loop decreases-loop) → c.before.loop.v < variables (task_in (start c.before).args.task.now)
-within c = omega (arith, c.before.loop.invariant.0)
+within : (c : tie.In-loop-v invariant-loop-v decreases-loop-v) → c.loop-v.v < variables (task_in c.args.task.now)
+within c = omega (arith, c.loop-v.invariant.0)
 
-mul-first : tie.Need-overflow-mul-first invariant-loop decreases-loop
-mul-first c = record { fits = omega (arith, within c, (formed c.before).variables_max) }
+overflow_mul-first : tie.Need-overflow_mul-first invariant-loop-v decreases-loop-v
+overflow_mul-first c = record { fits = omega (arith, within c, (formed c.before).variables_max) }
 
-initial-requires : tie.Need-initial-requires invariant-loop decreases-loop
-initial-requires c κs = ((start c.before).pre.0, within c)
+initial-requires : tie.Need-initial-requires invariant-loop-v decreases-loop-v
+initial-requires c κs = (c.requires.0, within c)
 
 -- the place of the variable's initial fact
-place : (c : tie.After-initial invariant-loop decreases-loop) → let head = c.before.before in 64 * head.loop.v + c.initial.result < 4096
+place : (c : tie.After-initial invariant-loop-v decreases-loop-v) → 64 * c.loop-v.v + c.initial.result < 4096
 place c =
-    let head = c.before.before in
-    let F = formed head in
-    omega (arith, c.initial.ensures, within c.before, F.init_below head.loop.v, F.count_max head.loop.v, F.variables_max)
+    let F = formed c.before.before in
+    omega (arith, c.initial.ensures, within c.before, F.init_below c.loop-v.v, F.count_max c.loop-v.v, F.variables_max)
 
-add-first : tie.Need-overflow-add-first invariant-loop decreases-loop
-add-first c = record { fits = omega (arith, place c) }
+overflow_add-first : tie.Need-overflow_add-first invariant-loop-v decreases-loop-v
+overflow_add-first c = record { fits = omega (arith, place c) }
 
-mul-first-2 : tie.Need-overflow-mul-first-2 invariant-loop decreases-loop
-mul-first-2 c = record { fits = omega (arith, place c) }
+offset_bounds-first-v : tie.Need-offset_bounds-first-v invariant-loop-v decreases-loop-v
+offset_bounds-first-v c = record { fits = omega (arith, place c) }
 
-element-write-first : tie.Need-element-write-first invariant-loop decreases-loop
-element-write-first c = place c
+bounds-first-v : tie.Need-bounds-first-v invariant-loop-v decreases-loop-v
+bounds-first-v c = place c.before
 
-add-v : tie.Need-overflow-add-v invariant-loop decreases-loop
-add-v c = search rules
+overflow_add-v : tie.Need-overflow_add-v invariant-loop-v decreases-loop-v
+overflow_add-v c = search rules
 
-loop-less : tie.Need-loop-smaller invariant-loop decreases-loop
-loop-less c = search rules
+loop-v-smaller : tie.Need-loop-v-smaller invariant-loop-v decreases-loop-v
+loop-v-smaller c = search rules
 
-loop-again : tie.Need-loop-preserved invariant-loop decreases-loop
-loop-again c =
-    let head = c.before.before in
-    let v = head.loop.v in
-    (head.loop.invariant.0, unsetting_turn _ (formed head) _ _ v _ head.loop.invariant.1 (within c.before) (ap (λ x. 64 * v + x) c.initial.ensures))
+loop-v-preserved : tie.Need-loop-v-preserved invariant-loop-v decreases-loop-v
+loop-v-preserved c =
+    let v = c.loop-v.v in
+    (c.loop-v.invariant.0, unsetting_turn _ (formed c.before.before.before) _ _ v _ c.loop-v.invariant.1 (within c.before.before) (ap (λ x. 64 * v + x) c.initial.ensures))
 
-returns : tie.Need-returns invariant-loop decreases-loop
+returns : tie.Need-returns invariant-loop-v decreases-loop-v
 returns c =
-    let head = c.before in
-    unsetting_end _ (formed head) _ _ _ head.loop.invariant.1 (omega (arith, head.loop.invariant.0))
+    unsetting_end _ (formed c.before) _ _ _ c.loop-v.invariant.1 (omega (arith, c.loop-v.invariant.0))
 
-pub unset-initial-spec : {M : Type 1} → statement M
-unset-initial-spec =
-    tie.close
-    (tie.spec
-    invariant-loop
-    decreases-loop
-    variables-requires
-    loop-holds
-    mul-first
-    initial-requires
-    add-first
-    mul-first-2
-    element-write-first
-    add-v
-    loop-less
-    loop-again
-    returns)
+pub unset_initial_spec : {M : Type 1} → statement M
+unset_initial_spec = tie.close (tie.spec invariant-loop-v decreases-loop-v variables-n-requires loop-v-init overflow_mul-first initial-requires overflow_add-first offset_bounds-first-v bounds-first-v overflow_add-v loop-v-smaller loop-v-preserved returns)

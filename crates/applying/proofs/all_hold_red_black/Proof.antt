@@ -13,75 +13,61 @@ use Rattle.applying.proofs.all_hold_red_black.Statement.{statement}
 use Rattle.applying.proofs.all_hold_red_black.Tie as tie
 
 -- the red-black state
-abbrev state-of : ℕ → List ℕ → List ℕ → State
-state-of paint sets newest = red_black_of (mode_of paint) (sets_of sets) (values_of newest)
+abbrev state_of : ℕ → List ℕ → List ℕ → State
+state_of paint sets newest = red_black_of (mode_of paint) (sets_of sets) (values_of newest)
 
-abbrev invariant-loop : tie.invariant-loop
-invariant-loop paint sets newest facts from to k₀ k =
-    (from ≤ k) × (k ≤ to) × (holds (state-of paint sets newest) (facts_in facts from to) ≡ holds (state-of paint sets newest) (facts_in facts k to))
+abbrev invariant-loop-k : tie.invariant-loop-k
+invariant-loop-k paint sets newest facts from to k₀ k =
+    (from ≤ k) × (k ≤ to) × (holds (state_of paint sets newest) (facts_in facts from to) ≡ holds (state_of paint sets newest) (facts_in facts k to))
 
-abbrev decreases-loop : tie.decreases-loop
-decreases-loop paint sets newest facts from to k₀ k = to - k
+abbrev decreases-loop-k : tie.decreases-loop-k
+decreases-loop-k paint sets newest facts from to k₀ k = to - k
 
-loop-holds : tie.Need-loop-init invariant-loop decreases-loop
-loop-holds c = (search rules, search rules, refl)
+loop-k-init : tie.Need-loop-k-init invariant-loop-k decreases-loop-k
+loop-k-init c = (search rules, search rules, refl)
 
-mul_wide : tie.Need-overflow-mul-wide invariant-loop decreases-loop
-mul_wide c = search rules
+offset_bounds-facts-k : tie.Need-offset_bounds-facts-k invariant-loop-k decreases-loop-k
+offset_bounds-facts-k c = search rules
 
-shared-slice-read-wide : tie.Need-shared-slice-read-wide invariant-loop decreases-loop
-shared-slice-read-wide c = search rules
+bounds-facts-k : tie.Need-bounds-facts-k invariant-loop-k decreases-loop-k
+bounds-facts-k c = search rules
 
-wide-requires : tie.Need-wide-requires invariant-loop decreases-loop
+wide-requires : tie.Need-wide-requires invariant-loop-k decreases-loop-k
 wide-requires c κs = search rules
 
-small : (c : tie.After-wide invariant-loop decreases-loop) → c.wide.result < 4096
-small c = omega (arith, c.wide.ensures, c.before.before.before.before.before.requires.2 c.before.before.before.loop.k (omega arith) (omega arith))
+small : (c : tie.After-wide invariant-loop-k decreases-loop-k) → c.wide.result < 4096
+small c = omega (arith, c.wide.ensures, c.requires.2 c.loop-k.k (omega arith) (omega arith))
 
-holds-red-black-requires : tie.Need-holds-red-black-requires invariant-loop decreases-loop
-holds-red-black-requires c κs = small c
+holds_red_black-requires : tie.Need-holds_red_black-requires invariant-loop-k decreases-loop-k
+holds_red_black-requires c κs = small c
 
-returns : tie.Need-returns invariant-loop decreases-loop
-returns c =
-    let a = c.before.before.before.before.before.before.before.args in sym
-    (c.before.before.before.before.before.loop.invariant.2 ∙ holds_fails a.facts.now c.before.before.before.before.before.loop.k a.to
-    (omega arith) (omega arith) (state-of a.paint a.sets.now a.newest.now) _ c.before.before.wide.ensures (sym c.before.holds-red-black.ensures ∙ not-true _ c.if1.true))
+returns-then-not-holds_red_black : tie.Need-returns-then-not-holds_red_black invariant-loop-k decreases-loop-k
+returns-then-not-holds_red_black c =
+    let a = c.args in sym
+    (c.loop-k.invariant.2 ∙ holds_fails a.facts.now c.loop-k.k a.to
+    (omega arith) (omega arith) (state_of a.paint a.sets.now a.newest.now) _ c.wide.ensures (sym c.holds_red_black.ensures ∙ c.if-not-holds_red_black.true))
 
-add-k : tie.Need-overflow-add-k invariant-loop decreases-loop
-add-k c = search rules
+overflow_add-k : tie.Need-overflow_add-k invariant-loop-k decreases-loop-k
+overflow_add-k c = search rules
 
-loop-less : tie.Need-loop-smaller invariant-loop decreases-loop
-loop-less c = search rules
+loop-k-smaller : tie.Need-loop-k-smaller invariant-loop-k decreases-loop-k
+loop-k-smaller c = search rules
 
-loop-again : tie.Need-loop-preserved invariant-loop decreases-loop
-loop-again c =
-    let a = c.before.before.before.before.before.before.before.args in (
+loop-k-preserved : tie.Need-loop-k-preserved invariant-loop-k decreases-loop-k
+loop-k-preserved c =
+    let a = c.args in (
       search rules,
       search rules,
-      c.before.before.before.before.before.loop.invariant.2 ∙ holds_passes a.facts.now
-          c.before.before.before.before.before.loop.k a.to (omega arith) (omega arith) (state-of a.paint a.sets.now a.newest.now) _ c.before.before.wide.ensures
-          (sym c.before.holds-red-black.ensures ∙ not-false _ c.if1.false),
+      c.loop-k.invariant.2 ∙ holds_passes a.facts.now
+          c.loop-k.k a.to (omega arith) (omega arith) (state_of a.paint a.sets.now a.newest.now) _ c.wide.ensures
+          (sym c.holds_red_black.ensures ∙ c.if-not-holds_red_black.false),
     )
 
-returns-2 : tie.Need-returns-2 invariant-loop decreases-loop
-returns-2 c =
-    let l = c.before.loop in
-    let a = c.before.before.before.args in
-    sym (l.invariant.2 ∙ holds_end (state-of a.paint a.sets.now a.newest.now) a.facts.now l.k a.to (omega arith))
+returns : tie.Need-returns invariant-loop-k decreases-loop-k
+returns c =
+    let l = c.loop-k in
+    let a = c.args in
+    sym (l.invariant.2 ∙ holds_end (state_of a.paint a.sets.now a.newest.now) a.facts.now l.k a.to (omega arith))
 
-pub all-hold-red-black-spec : {M : Type 1} → statement M
-all-hold-red-black-spec =
-    tie.close
-    (tie.spec
-    invariant-loop
-    decreases-loop
-    loop-holds
-    mul_wide
-    shared-slice-read-wide
-    wide-requires
-    holds-red-black-requires
-    returns
-    add-k
-    loop-less
-    loop-again
-    returns-2)
+pub all_hold_red_black_spec : {M : Type 1} → statement M
+all_hold_red_black_spec = tie.close (tie.spec invariant-loop-k decreases-loop-k loop-k-init offset_bounds-facts-k bounds-facts-k wide-requires holds_red_black-requires returns-then-not-holds_red_black overflow_add-k loop-k-smaller loop-k-preserved returns)

@@ -12,72 +12,57 @@ use Rattle.applying.proofs.Running.{newest_is, newest_not}
 use Rattle.applying.proofs.all_newest.Statement.{statement}
 use Rattle.applying.proofs.all_newest.Tie as tie
 
-abbrev invariant-loop : tie.invariant-loop
-invariant-loop newest facts from to k₀ k = (from ≤ k) × (k ≤ to) × (holds (alone (values_of newest)) (facts_in facts from to) ≡ holds (alone (values_of newest)) (facts_in facts k to))
+abbrev invariant-loop-k : tie.invariant-loop-k
+invariant-loop-k newest facts from to k₀ k = (from ≤ k) × (k ≤ to) × (holds (alone (values_of newest)) (facts_in facts from to) ≡ holds (alone (values_of newest)) (facts_in facts k to))
 
-abbrev decreases-loop : tie.decreases-loop
-decreases-loop newest facts from to k₀ k = to - k
+abbrev decreases-loop-k : tie.decreases-loop-k
+decreases-loop-k newest facts from to k₀ k = to - k
 
-loop-holds : tie.Need-loop-init invariant-loop decreases-loop
-loop-holds c = (search rules, search rules, refl)
+loop-k-init : tie.Need-loop-k-init invariant-loop-k decreases-loop-k
+loop-k-init c = (search rules, search rules, refl)
 
-mul_wide : tie.Need-overflow-mul-wide invariant-loop decreases-loop
-mul_wide c = search rules
+offset_bounds-facts-k : tie.Need-offset_bounds-facts-k invariant-loop-k decreases-loop-k
+offset_bounds-facts-k c = search rules
 
-shared-slice-read-wide : tie.Need-shared-slice-read-wide invariant-loop decreases-loop
-shared-slice-read-wide c = search rules
+bounds-facts-k : tie.Need-bounds-facts-k invariant-loop-k decreases-loop-k
+bounds-facts-k c = search rules
 
-wide-requires : tie.Need-wide-requires invariant-loop decreases-loop
-wide-requires c κs = search rules
+wide-f-requires : tie.Need-wide-f-requires invariant-loop-k decreases-loop-k
+wide-f-requires c κs = search rules
 
-small : (c : tie.After-wide invariant-loop decreases-loop) → c.wide.result < 4096
-small c = omega (arith, c.wide.ensures, c.before.before.before.before.before.requires.2 c.before.before.before.loop.k (omega arith) (omega arith))
+small : (c : tie.After-wide-f invariant-loop-k decreases-loop-k) → c.wide-f.result < 4096
+small c = omega (arith, c.wide-f.ensures, c.requires.2 c.loop-k.k (omega arith) (omega arith))
 
-element-copy-out-if1 : tie.Need-element-copy-out-if1 invariant-loop decreases-loop
-element-copy-out-if1 c = omega (arith, small c)
+bounds-newest-f : tie.Need-bounds-newest-f invariant-loop-k decreases-loop-k
+bounds-newest-f c = omega (arith, small c.before)
 
-cast-if1 : tie.Need-overflow-cast-if1 invariant-loop decreases-loop
-cast-if1 c = search rules
+overflow_cast-f : tie.Need-overflow_cast-f invariant-loop-k decreases-loop-k
+overflow_cast-f c = search rules
 
-returns : tie.Need-returns invariant-loop decreases-loop
-returns c =
-    let a = c.before.before.before.before.before.before.before.args in sym
-    (c.before.before.before.before.before.loop.invariant.2 ∙ holds_fails a.facts.now c.before.before.before.before.before.loop.k a.to
-    (omega arith) (omega arith) (alone (values_of a.newest.now)) _ c.before.before.wide.ensures (newest_not _ _ (λ e. omega arith)))
+returns-then-newest-f : tie.Need-returns-then-newest-f invariant-loop-k decreases-loop-k
+returns-then-newest-f c =
+    let a = c.args in sym
+    (c.loop-k.invariant.2 ∙ holds_fails a.facts.now c.loop-k.k a.to
+    (omega arith) (omega arith) (alone (values_of a.newest.now)) _ c.wide-f.ensures (newest_not _ _ (λ e. omega arith)))
 
-add-k : tie.Need-overflow-add-k invariant-loop decreases-loop
-add-k c = search rules
+overflow_add-k : tie.Need-overflow_add-k invariant-loop-k decreases-loop-k
+overflow_add-k c = search rules
 
-loop-less : tie.Need-loop-smaller invariant-loop decreases-loop
-loop-less c = search rules
+loop-k-smaller : tie.Need-loop-k-smaller invariant-loop-k decreases-loop-k
+loop-k-smaller c = search rules
 
-loop-again : tie.Need-loop-preserved invariant-loop decreases-loop
-loop-again c =
-    let a = c.before.before.before.before.before.before.before.args in (
+loop-k-preserved : tie.Need-loop-k-preserved invariant-loop-k decreases-loop-k
+loop-k-preserved c =
+    let a = c.args in (
       search rules,
       search rules,
-      c.before.before.before.before.before.loop.invariant.2 ∙ holds_passes a.facts.now
-          c.before.before.before.before.before.loop.k a.to (omega arith) (omega arith) (alone (values_of a.newest.now)) _
-          c.before.before.wide.ensures (newest_is _ _ (omega arith)),
+      c.loop-k.invariant.2 ∙ holds_passes a.facts.now
+          c.loop-k.k a.to (omega arith) (omega arith) (alone (values_of a.newest.now)) _
+          c.wide-f.ensures (newest_is _ _ (omega arith)),
     )
 
-returns-2 : tie.Need-returns-2 invariant-loop decreases-loop
-returns-2 c = let a = c.before.before.before.args in sym (c.before.loop.invariant.2 ∙ holds_end (alone (values_of a.newest.now)) a.facts.now c.before.loop.k a.to (omega arith))
+returns : tie.Need-returns invariant-loop-k decreases-loop-k
+returns c = let a = c.args in sym (c.loop-k.invariant.2 ∙ holds_end (alone (values_of a.newest.now)) a.facts.now c.loop-k.k a.to (omega arith))
 
-pub all-newest-spec : {M : Type 1} → statement M
-all-newest-spec =
-    tie.close
-    (tie.spec
-    invariant-loop
-    decreases-loop
-    loop-holds
-    mul_wide
-    shared-slice-read-wide
-    wide-requires
-    element-copy-out-if1
-    cast-if1
-    returns
-    add-k
-    loop-less
-    loop-again
-    returns-2)
+pub all_newest_spec : {M : Type 1} → statement M
+all_newest_spec = tie.close (tie.spec invariant-loop-k decreases-loop-k loop-k-init offset_bounds-facts-k bounds-facts-k wide-f-requires bounds-newest-f overflow_cast-f returns-then-newest-f overflow_add-k loop-k-smaller loop-k-preserved returns)

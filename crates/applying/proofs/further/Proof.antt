@@ -6,17 +6,17 @@ use Rattle.applying.proofs.Running.{further_on, further_fails, further_stopped}
 use Rattle.applying.proofs.further.Statement.{statement}
 use Rattle.applying.proofs.further.Tie as tie
 
-applies-newest-requires : tie.Need-applies-newest-requires
-applies-newest-requires c κs = search rules
+applies_newest-requires : tie.Need-applies_newest-requires
+applies_newest-requires c κs = search rules
 
-add-result : tie.Need-overflow-add-result
-add-result c = search rules
+overflow_add-result : tie.Need-overflow_add-result
+overflow_add-result c = search rules
+
+returns-then-applies_newest : tie.Need-returns-then-applies_newest
+returns-then-applies_newest c = further_on _ _ _ (search rules) (sym c.applies_newest.ensures ∙ c.if-applies_newest.true)
 
 returns : tie.Need-returns
-returns c = further_on _ _ _ (search rules) (sym c.before.applies-newest.ensures ∙ c.if2.true)
+returns c = ⊎_elim (λ w. further_fails _ _ _ (sym w.1.ensures ∙ w.2.left)) (λ w. further_stopped _ _ _ w.left) c.else-runs-steps.branch
 
-returns-2 : tie.Need-returns-2
-returns-2 c = ⊎_elim (λ w. further_fails _ _ _ (sym w.1.ensures ∙ w.2.left)) (λ w. further_stopped _ _ _ w.left) c.if1.branch
-
-pub further-spec : {M : Type 1} → statement M
-further-spec = tie.close (tie.spec applies-newest-requires add-result returns returns-2)
+pub further_spec : {M : Type 1} → statement M
+further_spec = tie.close (tie.spec applies_newest-requires overflow_add-result returns-then-applies_newest returns)

@@ -9,24 +9,22 @@ use Rattle.applying.proofs.holds_red_black.Tie as tie
 member-requires : tie.Need-member-requires
 member-requires c κs = search rules
 
-element-copy-out-result : tie.Need-element-copy-out-result
-element-copy-out-result c = search rules
+bounds-newest-f : tie.Need-bounds-newest-f
+bounds-newest-f c = search rules
 
-cast-result : tie.Need-overflow-cast-result
-cast-result c = search rules
+overflow_cast-result : tie.Need-overflow_cast-result
+overflow_cast-result c = search rules
 
 holds-requires : tie.Need-holds-requires
 holds-requires c κs = search rules
 
-returns : tie.Need-returns
+returns-then-member : tie.Need-returns-then-member
 unfolding mode_of alone values_of
-returns c = sym (red_black_black _ _ _ _ _ (sym c.before.before.member.ensures ∙ c.before.if1.true))
+returns-then-member c = sym (red_black_black _ _ _ _ _ (sym c.member.ensures ∙ c.if-member.true))
 
-returns-2 : tie.Need-returns-2
+returns-else-member : tie.Need-returns-else-member
 unfolding mode_of
-returns-2 c = c.holds.ensures ∙ sym (red_black_red _ _ _ _ _ (sym c.before.before.member.ensures ∙ c.before.if1.false))
+returns-else-member c = c.holds.ensures ∙ sym (red_black_red _ _ _ _ _ (sym c.member.ensures ∙ c.if-member.false))
 
-pub holds-red-black-spec : {M : Type 1} → statement M
-holds-red-black-spec =
-    tie.close
-    (tie.spec member-requires cast-result element-copy-out-result holds-requires returns returns-2)
+pub holds_red_black_spec : {M : Type 1} → statement M
+holds_red_black_spec = tie.close (tie.spec member-requires overflow_cast-result bounds-newest-f holds-requires returns-then-member returns-else-member)

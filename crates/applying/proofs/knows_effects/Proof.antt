@@ -13,54 +13,40 @@ use Rattle.applying.proofs.knows_effects.Tie as tie
 near : (s : tie.Start) → s.args.i < 1024
 near s = (loaded_listed _ s.requires.0 _ s.requires.1).near
 
-is-listed-requires : tie.Need-is-listed-requires
-is-listed-requires c κs = near c.before.before
+is_listed-requires : tie.Need-is_listed-requires
+is_listed-requires c κs = near c.before
 
-returns : tie.Need-returns
-returns c =
-    let s = c.before.before.before.before in
-    let a = s.args in
-    let K = s.requires.2 in
-    let held = K.held a.i (near s) (true→T _ (sym c.before.is-listed.ensures ∙ c.if1.true)) in
+returns-then-is_listed : tie.Need-returns-then-is_listed
+returns-then-is_listed c =
+    let a = c.args in
+    let K = c.requires.2 in
+    let held = K.held a.i (near c.before.before.before) (true→T _ (sym c.is_listed.ensures ∙ c.if-is_listed.true)) in
     (sym (T→true _ held), (known_step _ _ K a.i, λ j b h. inr h))
 
-mul-known : tie.Need-overflow-mul-known
-mul-known c = search rules
+offset_bounds-known-i : tie.Need-offset_bounds-known-i
+offset_bounds-known-i c = search rules
 
-element-copy-out-known : tie.Need-element-copy-out-known
-element-copy-out-known c = search rules
+bounds-known-i : tie.Need-bounds-known-i
+bounds-known-i c = search rules
 
 single-requires : tie.Need-single-requires
 single-requires c κs = search rules
 
-mul-known-2 : tie.Need-overflow-mul-known-2
-mul-known-2 c = search rules
+offset_bounds-known-i-2 : tie.Need-offset_bounds-known-i-2
+offset_bounds-known-i-2 c = search rules
 
-element-write-known : tie.Need-element-write-known
-element-write-known c = search rules
+bounds-known-i-2 : tie.Need-bounds-known-i-2
+bounds-known-i-2 c = search rules
 
-has-effects-requires : tie.Need-has-effects-requires
-has-effects-requires c κs = search rules
+has_effects-requires : tie.Need-has_effects-requires
+has_effects-requires c κs = search rules
 
-returns-2 : tie.Need-returns-2
-returns-2 c =
-    let at-single = c.before in
-    let s = at-single.before.before.before.before.before.before in
-    let a = s.args in
-    let K = s.requires.2 in
-    let w = ap (bit_or (get_or a.known.now (a.i / 64) 0)) at-single.single.ensures in
-    (c.has-effects.ensures, (known_more _ _ K a.i _ (near s) w, listed_more _ K.long a.i _ (near s) w))
+returns : tie.Need-returns
+returns c =
+    let a = c.args in
+    let K = c.requires.2 in
+    let w = ap (bit_or (get_or a.known.now (a.i / 64) 0)) c.single.ensures in
+    (c.has_effects.ensures, (known_more _ _ K a.i _ (near c.before.before.before.before.before.before.before) w, listed_more _ K.long a.i _ (near c.before.before.before.before.before.before.before) w))
 
-pub knows-effects-spec : {M : Type 1} → statement M
-knows-effects-spec =
-    tie.close
-    (tie.spec
-    is-listed-requires
-    returns
-    mul-known
-    element-copy-out-known
-    single-requires
-    mul-known-2
-    element-write-known
-    has-effects-requires
-    returns-2)
+pub knows_effects_spec : {M : Type 1} → statement M
+knows_effects_spec = tie.close (tie.spec is_listed-requires returns-then-is_listed offset_bounds-known-i bounds-known-i single-requires offset_bounds-known-i-2 bounds-known-i-2 has_effects-requires returns)

@@ -3,11 +3,11 @@ use borrow.Author.Tests.{le-leb, lt-leb}
 use Rattle.asking.proofs.is_there.Statement.{statement}
 use Rattle.asking.proofs.is_there.Tie as tie
 
-returns : tie.Need-returns
-returns c = rw (le-leb 64 c.before.args.d c.if1.true) refl
+returns-then-d-ge64 : tie.Need-returns-then-d-ge64
+returns-then-d-ge64 c = rw (le-leb 64 c.args.d c.if-d-ge64.true) refl
 
-returns-2 : tie.Need-returns-2
-returns-2 c = rw (lt-leb 64 c.before.args.d c.if1.false) refl
+returns-else-d-ge64 : tie.Need-returns-else-d-ge64
+returns-else-d-ge64 c = rw (lt-leb 64 c.args.d c.if-d-ge64.false) refl
 
-pub is-there-spec : {M : Type 1} → statement M
-is-there-spec = tie.close (tie.spec returns returns-2)
+pub is_there_spec : {M : Type 1} → statement M
+is_there_spec = tie.close (tie.spec returns-then-d-ge64 returns-else-d-ge64)

@@ -4,17 +4,17 @@ use borrow.Author.Rules.{rules}
 use Rattle.asking.proofs.with_searches.Statement.{statement}
 use Rattle.asking.proofs.with_searches.Tie as tie
 
-enum-known-w : tie.Need-enum-known-w
-enum-known-w c = search rules
+enum_known-w : tie.Need-enum_known-w
+enum_known-w c = search rules
 
-enum_told : tie.Need-enum-told
-enum_told c = search rules
+enum_told-1 : tie.Need-enum_told-1
+enum_told-1 c = search rules
+
+returns-in_default : tie.Need-returns-in_default
+returns-in_default c = search rules
 
 returns : tie.Need-returns
-returns c = search rules
+returns c = ap (λ x. inserted_by x c.args.searches) (sym c.in-Upto.is)
 
-returns-2 : tie.Need-returns-2
-returns-2 c = ap (λ x. inserted_by x c.before.before.before.args.searches) (sym c.before.w.given.1)
-
-pub with-searches-spec : {M : Type 1} → statement M
-with-searches-spec = tie.close (tie.spec enum-known-w enum_told returns returns-2)
+pub with_searches_spec : {M : Type 1} → statement M
+with_searches_spec = tie.close (tie.spec enum_known-w enum_told-1 returns-in_default returns)

@@ -9,51 +9,38 @@ use Rattle.entries.proofs.Lists.{leading_turn, leading_stop, leading_end}
 use Rattle.entries.proofs.leading.Statement.{statement}
 use Rattle.entries.proofs.leading.Tie as tie
 
-abbrev invariant-loop : tie.invariant-loop
-invariant-loop list n k₀ k = (k ≤ length list) × (leading n list ≡ k + leading n (drop k list))
+abbrev invariant-loop-k : tie.invariant-loop-k
+invariant-loop-k list n k₀ k = (k ≤ length list) × (leading n list ≡ k + leading n (drop k list))
 
-abbrev decreases-loop : tie.decreases-loop
-decreases-loop list n k₀ k = length list - k
+abbrev decreases-loop-k : tie.decreases-loop-k
+decreases-loop-k list n k₀ k = length list - k
 
-loop-holds : tie.Need-loop-init invariant-loop decreases-loop
-loop-holds c = (omega arith, omega arith)
+loop-k-init : tie.Need-loop-k-init invariant-loop-k decreases-loop-k
+loop-k-init c = (omega arith, omega arith)
 
-mul-if1 : tie.Need-overflow-mul-if1 invariant-loop decreases-loop
-mul-if1 c = search rules
+offset_bounds-list-k : tie.Need-offset_bounds-list-k invariant-loop-k decreases-loop-k
+offset_bounds-list-k c = search rules
 
-shared-slice-read-if1 : tie.Need-shared-slice-read-if1 invariant-loop decreases-loop
-shared-slice-read-if1 c = search rules
+bounds-list-k : tie.Need-bounds-list-k invariant-loop-k decreases-loop-k
+bounds-list-k c = search rules
 
-cast-if1 : tie.Need-overflow-cast-if1 invariant-loop decreases-loop
-cast-if1 c = omega (arith, c.shared-slice-known.given c.before.before.loop.k)
+overflow_cast-list : tie.Need-overflow_cast-list invariant-loop-k decreases-loop-k
+overflow_cast-list c = omega (arith, c.shared_slice_known-1.given c.loop-k.k)
 
-returns : tie.Need-returns invariant-loop decreases-loop
-returns c = (leading_stop _ _ _ c.before.before.before.loop.invariant.1 (omega arith) (omega arith), omega arith)
+returns-then-n-list : tie.Need-returns-then-n-list invariant-loop-k decreases-loop-k
+returns-then-n-list c = (leading_stop _ _ _ c.loop-k.invariant.1 (omega arith) (omega arith), omega arith)
 
-add-k : tie.Need-overflow-add-k invariant-loop decreases-loop
-add-k c = search rules
+overflow_add-k : tie.Need-overflow_add-k invariant-loop-k decreases-loop-k
+overflow_add-k c = search rules
 
-loop-less : tie.Need-loop-smaller invariant-loop decreases-loop
-loop-less c = search rules
+loop-k-smaller : tie.Need-loop-k-smaller invariant-loop-k decreases-loop-k
+loop-k-smaller c = search rules
 
-loop-again : tie.Need-loop-preserved invariant-loop decreases-loop
-loop-again c = (omega arith, leading_turn _ _ _ c.before.before.before.loop.invariant.1 (omega arith) (omega arith))
+loop-k-preserved : tie.Need-loop-k-preserved invariant-loop-k decreases-loop-k
+loop-k-preserved c = (omega arith, leading_turn _ _ _ c.loop-k.invariant.1 (omega arith) (omega arith))
 
-returns-2 : tie.Need-returns-2 invariant-loop decreases-loop
-returns-2 c = (leading_end _ _ _ c.before.loop.invariant.1 (omega arith), omega arith)
+returns : tie.Need-returns invariant-loop-k decreases-loop-k
+returns c = (leading_end _ _ _ c.loop-k.invariant.1 (omega arith), omega arith)
 
-pub leading-spec : {M : Type 1} → statement M
-leading-spec =
-    tie.close
-    (tie.spec
-    invariant-loop
-    decreases-loop
-    loop-holds
-    mul-if1
-    shared-slice-read-if1
-    cast-if1
-    returns
-    add-k
-    loop-less
-    loop-again
-    returns-2)
+pub leading_spec : {M : Type 1} → statement M
+leading_spec = tie.close (tie.spec invariant-loop-k decreases-loop-k loop-k-init offset_bounds-list-k bounds-list-k overflow_cast-list returns-then-n-list overflow_add-k loop-k-smaller loop-k-preserved returns)

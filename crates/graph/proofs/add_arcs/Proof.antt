@@ -7,71 +7,52 @@ use native.Mathlib.Omega.{arith}
 use Rattle.graph.proofs.add_arcs.Statement.{statement}
 use Rattle.graph.proofs.add_arcs.Tie as tie
 
-abbrev invariant-loop : tie.invariant-loop
-invariant-loop rows₀ table from to targets paint k₀ rows k = Adding table from to targets paint rows₀ rows k
+abbrev invariant-loop-k : tie.invariant-loop-k
+invariant-loop-k rows₀ table from to targets paint k₀ rows k = Adding table from to targets paint rows₀ rows k
 
-abbrev decreases-loop : tie.decreases-loop
-decreases-loop rows₀ table from to targets paint k₀ rows k = to - k
+abbrev decreases-loop-k : tie.decreases-loop-k
+decreases-loop-k rows₀ table from to targets paint k₀ rows k = to - k
 
-loop-holds : tie.Need-loop-init invariant-loop decreases-loop
-loop-holds c = adding_start _ _ _ _ _ _ c.before.requires.0 c.before.requires.1
+loop-k-init : tie.Need-loop-k-init invariant-loop-k decreases-loop-k
+loop-k-init c = adding_start _ _ _ _ _ _ c.requires.0 c.requires.1
 
-mul_wide : tie.Need-overflow-mul-wide invariant-loop decreases-loop
-mul_wide c = search rules
+offset_bounds-task-k : tie.Need-offset_bounds-task-k invariant-loop-k decreases-loop-k
+offset_bounds-task-k c = search rules
 
-shared-slice-read-wide : tie.Need-shared-slice-read-wide invariant-loop decreases-loop
-shared-slice-read-wide c = search rules
+bounds-task-k : tie.Need-bounds-task-k invariant-loop-k decreases-loop-k
+bounds-task-k c = search rules
 
-wide-requires : tie.Need-wide-requires invariant-loop decreases-loop
-wide-requires c κs = search rules
+wide-u-requires : tie.Need-wide-u-requires invariant-loop-k decreases-loop-k
+wide-u-requires c κs = search rules
 
-mul-joined : tie.Need-overflow-mul-joined invariant-loop decreases-loop
-mul-joined c = search rules
+offset_bounds-rows-u : tie.Need-offset_bounds-rows-u invariant-loop-k decreases-loop-k
+offset_bounds-rows-u c = search rules
 
-element-copy-out-joined : tie.Need-element-copy-out-joined invariant-loop decreases-loop
-element-copy-out-joined c = let l = c.before.before.before in fact_variable _ _ _ l.before.before.requires.0 l.loop.k _ (omega arith) (omega arith) c.wide.ensures
+bounds-rows-u : tie.Need-bounds-rows-u invariant-loop-k decreases-loop-k
+bounds-rows-u c = fact_variable _ _ _ c.requires.0 c.loop-k.k _ (omega arith) (omega arith) c.wide-u.ensures
 
-joined-requires : tie.Need-joined-requires invariant-loop decreases-loop
-joined-requires c κs = let l = c.before.before.before.before in fact_variable _ _ _ l.before.before.requires.0 l.loop.k _ (omega arith) (omega arith) c.before.wide.ensures
+joined-requires : tie.Need-joined-requires invariant-loop-k decreases-loop-k
+joined-requires c κs = fact_variable _ _ _ c.requires.0 c.loop-k.k _ (omega arith) (omega arith) c.wide-u.ensures
 
-mul-rows : tie.Need-overflow-mul-rows invariant-loop decreases-loop
-mul-rows c = search rules
+offset_bounds-rows-u-in-loop-k : tie.Need-offset_bounds-rows-u-in-loop-k invariant-loop-k decreases-loop-k
+offset_bounds-rows-u-in-loop-k c = search rules
 
-element-write-rows : tie.Need-element-write-rows invariant-loop decreases-loop
-element-write-rows c =
-    let l = c.before.before.before.before.before in
-    fact_variable _ _ _ l.before.before.requires.0 l.loop.k _ (omega arith) (omega arith) c.before.before.wide.ensures
+bounds-rows-u-in-loop-k : tie.Need-bounds-rows-u-in-loop-k invariant-loop-k decreases-loop-k
+bounds-rows-u-in-loop-k c =
+    fact_variable _ _ _ c.requires.0 c.loop-k.k _ (omega arith) (omega arith) c.wide-u.ensures
 
-add-k : tie.Need-overflow-add-k invariant-loop decreases-loop
-add-k c = search rules
+overflow_add-k : tie.Need-overflow_add-k invariant-loop-k decreases-loop-k
+overflow_add-k c = search rules
 
-loop-less : tie.Need-loop-smaller invariant-loop decreases-loop
-loop-less c = search rules
+loop-k-smaller : tie.Need-loop-k-smaller invariant-loop-k decreases-loop-k
+loop-k-smaller c = search rules
 
-loop-again : tie.Need-loop-preserved invariant-loop decreases-loop
-loop-again c =
-    let l = c.before.before.before.before.before in
-    adding_turn _ _ _ _ _ _ l.before.before.requires.0 _ _ l.loop.invariant (omega arith) _ _ _ c.before.before.wide.ensures refl c.joined.ensures
+loop-k-preserved : tie.Need-loop-k-preserved invariant-loop-k decreases-loop-k
+loop-k-preserved c =
+    adding_turn _ _ _ _ _ _ c.requires.0 _ _ c.loop-k.invariant (omega arith) _ _ _ c.wide-u.ensures refl c.joined.ensures
 
-returns : tie.Need-returns invariant-loop decreases-loop
-returns c = record { long = c.before.loop.invariant.long; states = adding_end _ _ _ _ _ _ c.before.before.before.requires.0 _ _ c.before.loop.invariant (omega arith) }
+returns : tie.Need-returns invariant-loop-k decreases-loop-k
+returns c = record { long = c.loop-k.invariant.long; states = adding_end _ _ _ _ _ _ c.requires.0 _ _ c.loop-k.invariant (omega arith) }
 
-pub add-arcs-spec : {M : Type 1} → statement M
-add-arcs-spec =
-    tie.close
-    (tie.spec
-    invariant-loop
-    decreases-loop
-    loop-holds
-    mul_wide
-    shared-slice-read-wide
-    wide-requires
-    mul-joined
-    element-copy-out-joined
-    joined-requires
-    mul-rows
-    element-write-rows
-    add-k
-    loop-less
-    loop-again
-    returns)
+pub add_arcs_spec : {M : Type 1} → statement M
+add_arcs_spec = tie.close (tie.spec invariant-loop-k decreases-loop-k loop-k-init offset_bounds-task-k bounds-task-k wide-u-requires offset_bounds-rows-u bounds-rows-u joined-requires offset_bounds-rows-u-in-loop-k bounds-rows-u-in-loop-k overflow_add-k loop-k-smaller loop-k-preserved returns)

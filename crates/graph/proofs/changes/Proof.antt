@@ -6,14 +6,14 @@ use Rattle.graph.proofs.changes.Tie as tie
 member-requires : tie.Need-member-requires
 member-requires c κs = search rules
 
-needs-fact-requires : tie.Need-needs-fact-requires
-needs-fact-requires c κs = search rules
+needs_fact-requires : tie.Need-needs_fact-requires
+needs_fact-requires c κs = search rules
+
+returns-then-member : tie.Need-returns-then-member
+returns-then-member c = rw (c.needs_fact.ensures, ← c.member.ensures, c.if-member.true) refl
 
 returns : tie.Need-returns
-returns c = rw (c.needs-fact.ensures, ← c.before.before.member.ensures, c.before.if1.true) refl
+returns c = rw (← c.member.ensures, c.if-member.false) refl
 
-returns-2 : tie.Need-returns-2
-returns-2 c = rw (← c.before.member.ensures, c.if1.false) refl
-
-pub changes-spec : {M : Type 1} → statement M
-changes-spec = tie.close (tie.spec member-requires needs-fact-requires returns returns-2)
+pub changes_spec : {M : Type 1} → statement M
+changes_spec = tie.close (tie.spec member-requires needs_fact-requires returns-then-member returns)

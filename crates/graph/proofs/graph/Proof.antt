@@ -7,43 +7,32 @@ use borrow.Author.Rules.{rules}
 use Rattle.graph.proofs.graph.Statement.{statement}
 use Rattle.graph.proofs.graph.Tie as tie
 
-abbrev invariant-loop : tie.invariant-loop
-invariant-loop task paint n rows₀ i₀ rows i = Drawing (task_in task) n rows i
+abbrev invariant-loop-i : tie.invariant-loop-i
+invariant-loop-i task paint n rows₀ i₀ rows i = Drawing (task_in task) n rows i
 
-abbrev decreases-loop : tie.decreases-loop
-decreases-loop task paint n rows₀ i₀ rows i = n - i
+abbrev decreases-loop-i : tie.decreases-loop-i
+decreases-loop-i task paint n rows₀ i₀ rows i = n - i
 
-actions-requires : tie.Need-actions-requires invariant-loop decreases-loop
-actions-requires c κs = search rules
+actions-n-requires : tie.Need-actions-n-requires invariant-loop-i decreases-loop-i
+actions-n-requires c κs = search rules
 
-loop-holds : tie.Need-loop-init invariant-loop decreases-loop
-loop-holds c = drawing_start _ _
+loop-i-init : tie.Need-loop-i-init invariant-loop-i decreases-loop-i
+loop-i-init c = drawing_start _ _
 
-add-action-requires : tie.Need-add-action-requires invariant-loop decreases-loop
-add-action-requires c κs = let l = c.before.before in let a = l.before in (a.before.before.requires.0, omega (arith, a.actions.ensures), l.loop.invariant.long)
+add_action-requires : tie.Need-add_action-requires invariant-loop-i decreases-loop-i
+add_action-requires c κs = (c.requires.0, omega (arith, c.actions-n.ensures), c.loop-i.invariant.long)
 
-add-i : tie.Need-overflow-add-i invariant-loop decreases-loop
-add-i c = search rules
+overflow_add-i : tie.Need-overflow_add-i invariant-loop-i decreases-loop-i
+overflow_add-i c = search rules
 
-loop-less : tie.Need-loop-smaller invariant-loop decreases-loop
-loop-less c = search rules
+loop-i-smaller : tie.Need-loop-i-smaller invariant-loop-i decreases-loop-i
+loop-i-smaller c = search rules
 
-loop-again : tie.Need-loop-preserved invariant-loop decreases-loop
-loop-again c = let l = c.before.before.before in drawing_turn _ _ _ _ l.loop.invariant (omega arith) _ l.before.before.before.requires.1 _ c.add-action.ensures
+loop-i-preserved : tie.Need-loop-i-preserved invariant-loop-i decreases-loop-i
+loop-i-preserved c = drawing_turn _ _ _ _ c.loop-i.invariant (omega arith) _ c.requires.1 _ c.add_action.ensures
 
-returns : tie.Need-returns invariant-loop decreases-loop
-returns c = let l = c.before in drawing_end _ _ _ _ l.loop.invariant (omega arith) l.before.actions.ensures
+returns : tie.Need-returns invariant-loop-i decreases-loop-i
+returns c = drawing_end _ _ _ _ c.loop-i.invariant (omega arith) c.actions-n.ensures
 
-pub graph-spec : {M : Type 1} → statement M
-graph-spec =
-    tie.close
-    (tie.spec
-    invariant-loop
-    decreases-loop
-    actions-requires
-    loop-holds
-    add-action-requires
-    add-i
-    loop-less
-    loop-again
-    returns)
+pub graph_spec : {M : Type 1} → statement M
+graph_spec = tie.close (tie.spec invariant-loop-i decreases-loop-i actions-n-requires loop-i-init add_action-requires overflow_add-i loop-i-smaller loop-i-preserved returns)

@@ -7,14 +7,14 @@ use Rattle.graph.proofs.joined.Tie as tie
 member-requires : tie.Need-member-requires
 member-requires c κs = search rules
 
-single-requires : tie.Need-single-requires
-single-requires c κs = search rules
+single-own-requires : tie.Need-single-own-requires
+single-own-requires c κs = search rules
 
-returns : tie.Need-returns
-returns c = let m = c.before.before in let a = m.before.args in joined_row a.row a.targets a.u a.paint _ c.single.ensures (sym m.member.ensures ∙ c.before.if1.true)
+returns-then-member : tie.Need-returns-then-member
+returns-then-member c = let a = c.args in joined_row a.row a.targets a.u a.paint _ c.single-own.ensures (sym c.member.ensures ∙ c.if-member.true)
 
-returns-2 : tie.Need-returns-2
-returns-2 c = let a = c.before.before.args in kept_row a.row a.targets a.u a.paint (sym c.before.member.ensures ∙ c.if1.false)
+returns-else-member : tie.Need-returns-else-member
+returns-else-member c = let a = c.args in kept_row a.row a.targets a.u a.paint (sym c.member.ensures ∙ c.if-member.false)
 
-pub joined-spec : {M : Type 1} → statement M
-joined-spec = tie.close (tie.spec member-requires single-requires returns returns-2)
+pub joined_spec : {M : Type 1} → statement M
+joined_spec = tie.close (tie.spec member-requires single-own-requires returns-then-member returns-else-member)

@@ -6,63 +6,47 @@ use Rattle.labels.proofs.Marking.{Marking, marking_start, marking_turn, marking_
 use Rattle.labels.proofs.mark.Statement.{statement}
 use Rattle.labels.proofs.mark.Tie as tie
 
-abbrev invariant-loop : tie.invariant-loop
-invariant-loop labels₀ set l c₀ labels c = Marking labels₀ labels set l c
+abbrev invariant-loop-c : tie.invariant-loop-c
+invariant-loop-c labels₀ set l c₀ labels c = Marking labels₀ labels set l c
 
-abbrev decreases-loop : tie.decreases-loop
-decreases-loop labels₀ set l c₀ labels c = 64 - c
+abbrev decreases-loop-c : tie.decreases-loop-c
+decreases-loop-c labels₀ set l c₀ labels c = 64 - c
 
-next-member-requires : tie.Need-next-member-requires invariant-loop decreases-loop
-next-member-requires c κs = omega arith
+next_member-c-requires : tie.Need-next_member-c-requires invariant-loop-c decreases-loop-c
+next_member-c-requires c κs = omega arith
 
-loop-holds : tie.Need-loop-init invariant-loop decreases-loop
-loop-holds c = marking_start _ _ _ _ (search rules) c.next-member.ensures
+loop-c-init : tie.Need-loop-c-init invariant-loop-c decreases-loop-c
+loop-c-init c = marking_start _ _ _ _ (search rules) c.next_member-c.ensures
 
-mul-lesser : tie.Need-overflow-mul-lesser invariant-loop decreases-loop
-mul-lesser c = search rules
+offset_bounds-labels-c : tie.Need-offset_bounds-labels-c invariant-loop-c decreases-loop-c
+offset_bounds-labels-c c = search rules
 
-element-copy-out-lesser : tie.Need-element-copy-out-lesser invariant-loop decreases-loop
-element-copy-out-lesser c = search rules
+bounds-labels-c : tie.Need-bounds-labels-c invariant-loop-c decreases-loop-c
+bounds-labels-c c = search rules
 
-lesser-requires : tie.Need-lesser-requires invariant-loop decreases-loop
+lesser-requires : tie.Need-lesser-requires invariant-loop-c decreases-loop-c
 lesser-requires c κs = search rules
 
-mul-labels : tie.Need-overflow-mul-labels invariant-loop decreases-loop
-mul-labels c = search rules
+offset_bounds-labels-c-in-loop-c : tie.Need-offset_bounds-labels-c-in-loop-c invariant-loop-c decreases-loop-c
+offset_bounds-labels-c-in-loop-c c = search rules
 
-element-write-labels : tie.Need-element-write-labels invariant-loop decreases-loop
-element-write-labels c = search rules
+bounds-labels-c-in-loop-c : tie.Need-bounds-labels-c-in-loop-c invariant-loop-c decreases-loop-c
+bounds-labels-c-in-loop-c c = search rules
 
-add-next-member : tie.Need-overflow-add-next-member invariant-loop decreases-loop
-add-next-member c = search rules
+overflow_add-c : tie.Need-overflow_add-c invariant-loop-c decreases-loop-c
+overflow_add-c c = search rules
 
-next-member-requires-2 : tie.Need-next-member-requires-2 invariant-loop decreases-loop
-next-member-requires-2 c κs = omega arith
+next_member-c-requires-in-loop-c : tie.Need-next_member-c-requires-in-loop-c invariant-loop-c decreases-loop-c
+next_member-c-requires-in-loop-c c κs = omega arith
 
-loop-less : tie.Need-loop-smaller invariant-loop decreases-loop
-loop-less c = omega (arith, c.next-member2.ensures.from, c.next-member2.ensures.within)
+loop-c-smaller : tie.Need-loop-c-smaller invariant-loop-c decreases-loop-c
+loop-c-smaller c = omega (arith, c.next_member-c-in-loop-c.ensures.from, c.next_member-c-in-loop-c.ensures.within)
 
-loop-again : tie.Need-loop-preserved invariant-loop decreases-loop
-loop-again c = marking_turn _ _ _ _ _ c.before.before.before.before.loop.invariant (omega arith) _ _ c.before.lesser.ensures c.next-member2.ensures
+loop-c-preserved : tie.Need-loop-c-preserved invariant-loop-c decreases-loop-c
+loop-c-preserved c = marking_turn _ _ _ _ _ c.loop-c.invariant (omega arith) _ _ c.lesser.ensures c.next_member-c-in-loop-c.ensures
 
-returns : tie.Need-returns invariant-loop decreases-loop
-returns c = let g = c.before.loop.invariant in (g.long, marking_end _ _ _ _ _ g (omega arith))
+returns : tie.Need-returns invariant-loop-c decreases-loop-c
+returns c = let g = c.loop-c.invariant in (g.long, marking_end _ _ _ _ _ g (omega arith))
 
 pub mark_spec : {M : Type 1} → statement M
-mark_spec =
-    tie.close
-    (tie.spec
-    invariant-loop
-    decreases-loop
-    next-member-requires
-    loop-holds
-    mul-lesser
-    element-copy-out-lesser
-    lesser-requires
-    mul-labels
-    element-write-labels
-    add-next-member
-    next-member-requires-2
-    loop-less
-    loop-again
-    returns)
+mark_spec = tie.close (tie.spec invariant-loop-c decreases-loop-c next_member-c-requires loop-c-init offset_bounds-labels-c bounds-labels-c lesser-requires offset_bounds-labels-c-in-loop-c bounds-labels-c-in-loop-c overflow_add-c next_member-c-requires-in-loop-c loop-c-smaller loop-c-preserved returns)

@@ -5,23 +5,23 @@ use Rattle.labels.proofs.Sets.{member_end, member_found, member_none}
 use Rattle.labels.proofs.next_member.Statement.{statement}
 use Rattle.labels.proofs.next_member.Tie as tie
 
-returns : tie.Need-returns
-returns c = member_end _ _ c.if1.true
+returns-then-a-eq64 : tie.Need-returns-then-a-eq64
+returns-then-a-eq64 c = member_end _ _ c.if-a-eq64.true
 
-shr-wider : tie.Need-overflow-shr-wider
-shr-wider c = omega arith
+overflow_shr-set : tie.Need-overflow_shr-set
+overflow_shr-set c = omega arith
 
 wider-requires : tie.Need-wider-requires
 wider-requires c κs = tt
 
-add_r : tie.Need-overflow-add-r
-add_r c = omega (arith, c.wider.ensures, trailing_le 64 (c.before.before.args.set / 2 ^ c.before.before.args.a))
+overflow_add-r : tie.Need-overflow_add-r
+overflow_add-r c = omega (arith, c.wider.ensures, trailing_le 64 (c.args.set / 2 ^ c.args.a))
 
-returns-2 : tie.Need-returns-2
-returns-2 c = member_found _ _ _ c.before.wider.ensures (omega arith)
+returns-then-r-lt64 : tie.Need-returns-then-r-lt64
+returns-then-r-lt64 c = member_found _ _ _ c.wider.ensures (omega arith)
 
-returns-3 : tie.Need-returns-3
-returns-3 c = member_none _ _ _ c.before.wider.ensures (omega arith) (omega arith)
+returns-else-r-lt64 : tie.Need-returns-else-r-lt64
+returns-else-r-lt64 c = member_none _ _ _ c.wider.ensures (omega arith) (omega arith)
 
-pub next-member-spec : {M : Type 1} → statement M
-next-member-spec = tie.close (tie.spec returns shr-wider wider-requires add_r returns-2 returns-3)
+pub next_member_spec : {M : Type 1} → statement M
+next_member_spec = tie.close (tie.spec returns-then-a-eq64 overflow_shr-set wider-requires overflow_add-r returns-then-r-lt64 returns-else-r-lt64)

@@ -10,52 +10,38 @@ use Rattle.loader.proofs.read.Tie as tie
 load-requires : tie.Need-load-requires
 load-requires c κs = search rules
 
-same_length : tie.Need-same-length
-same_length c = search rules
+shape_of-task-then-load : tie.Need-shape_of-task-then-load
+shape_of-task-then-load c = search rules
 
-returns : tie.Need-returns
-returns c = let r = c.before.before.before.load.ensures in let t = c.if1.true in (sym (r.accepted t), λ _. r.loaded t)
+returns-then-load : tie.Need-returns-then-load
+returns-then-load c = let r = c.load.ensures in let t = c.if-load.true in (sym (r.accepted t), λ _. r.loaded t)
 
 -- behind a failed pass there is a refusal
-refuses : (c : tie.Else1) → record_check c.before.before.before.before.before.before.before.args.bytes.now ≡ none → ⊥
-refuses c = c.before.before.before.load.ensures.refused c.if1.false
+refuses : (c : tie.Else-load) → record_check c.args.bytes.now ≡ none → ⊥
+refuses c = c.load.ensures.refused c.if-load.false
 
-check-requires : tie.Need-check-requires
-check-requires c κs = search rules
+check-c-requires : tie.Need-check-c-requires
+check-c-requires c κs = search rules
 
-enum-known-c : tie.Need-enum-known-c
-enum-known-c c = search rules
+enum_known-c : tie.Need-enum_known-c
+enum_known-c c = search rules
 
-enum_told : tie.Need-enum-told
-enum_told c = search rules
+enum_told-1 : tie.Need-enum_told-1
+enum_told-1 c = search rules
 
-same-length-2 : tie.Need-same-length-2
-same-length-2 c = search rules
+shape_of-task-in_default : tie.Need-shape_of-task-in_default
+shape_of-task-in_default c = search rules
 
-returns-2 : tie.Need-returns-2
-returns-2 c =
-    let at-check = c.before.before in
-    (ap check_of (sym c.enum_told.given.1) ∙ at-check.check.ensures, λ e. absurd (refuses at-check.before e))
+returns-in_default : tie.Need-returns-in_default
+returns-in_default c =
+    (ap check_of (sym c.in_default.is) ∙ c.check-c.ensures, λ e. absurd (refuses c.before.before e))
 
-same-length-3 : tie.Need-same-length-3
-same-length-3 c = search rules
+shape_of-task : tie.Need-shape_of-task
+shape_of-task c = search rules
 
-returns-3 : tie.Need-returns-3
-returns-3 c =
-    let at-check = c.before.before.before in
-    (ap check_of (sym c.before.c.given.1) ∙ at-check.check.ensures, λ e. absurd (refuses at-check.before e))
+returns : tie.Need-returns
+returns c =
+    (ap check_of (sym c.in-Refused.is) ∙ c.check-c.ensures, λ e. absurd (refuses c.before.before e))
 
 pub read_spec : {M : Type 1} → statement M
-read_spec =
-    tie.close
-    (tie.spec
-    load-requires
-    same_length
-    returns
-    check-requires
-    enum-known-c
-    enum_told
-    same-length-2
-    returns-2
-    same-length-3
-    returns-3)
+read_spec = tie.close (tie.spec load-requires shape_of-task-then-load returns-then-load check-c-requires enum_known-c enum_told-1 shape_of-task-in_default returns-in_default shape_of-task returns)

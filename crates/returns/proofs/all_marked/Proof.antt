@@ -11,116 +11,88 @@ use borrow.Author.Tests.{eq-eqb, ne_eqb}
 use Rattle.returns.proofs.all_marked.Statement.{statement}
 use Rattle.returns.proofs.all_marked.Tie as tie
 
-abbrev start_of : tie.After-eff-start → tie.Start
-start_of e = e.before.before.before.before
+abbrev start_of : tie.After-eff_start-end → tie.Start
+start_of c = c.before.before.before.before
 
-front : (e : tie.After-eff-start) → Facts (start_of e).args.task.now e.before.pre-start.result e.eff-start.result
+front : (e : tie.After-eff_start-end) → Facts e.args.task.now e.pre_start-start.result e.eff_start-end.result
 front e =
-    let p = (start_of e).requires in
-    pre_within _ p.0 _ p.1 _ _ e.before.pre-start.ensures e.eff-start.ensures
+    let p = e.requires in
+    pre_within _ p.0 _ p.1 _ _ e.pre_start-start.ensures e.eff_start-end.ensures
 
-seen-inside : (c : tie.After-wide2) → c.wide2.result < length (start_of c.before.before.before.before.before).args.marks.now
-seen-inside c =
-    let e = c.before.before.before.before.before in
-    let s = e.before in
-    let z = start_of e in
-    let p = z.pre in
-    let k = s.pre-start.result + c.before.before.before.wide.result in
-    omega (arith, c.wide2.ensures, need_inside _ z.args.marks.now p.0 _ p.1 p.2 _ _ s.pre-start.ensures e.eff-start.ensures k (omega arith) (omega arith))
+seen_inside : (c : tie.After-wide-then-seen-end) → c.wide-then-seen-end.result < length c.args.marks.now
+seen_inside c =
+    let p = c.requires in
+    let k = c.pre_start-start.result + c.wide.result in
+    omega (arith, c.wide-then-seen-end.ensures, need_inside _ c.args.marks.now p.0 _ p.1 p.2 _ _ c.pre_start-start.ensures c.eff_start-end.ensures k (omega arith) (omega arith))
 
-pre-start-requires : tie.Need-pre-start-requires
-pre-start-requires c κs = search rules
+pre_start-start-requires : tie.Need-pre_start-start-requires
+pre_start-start-requires c κs = search rules
 
-eff-start-requires : tie.Need-eff-start-requires
-eff-start-requires c κs = search rules
+eff_start-end-requires : tie.Need-eff_start-end-requires
+eff_start-end-requires c κs = search rules
 
-sub_wide : tie.Need-overflow-sub-wide
-sub_wide c = search rules
+overflow_sub-wide : tie.Need-overflow_sub-wide
+overflow_sub-wide c = search rules
 
-mul_wide : tie.Need-overflow-mul-wide
-mul_wide c = search rules
+offset_bounds-last : tie.Need-offset_bounds-last
+offset_bounds-last c = search rules
 
-element-copy-out-wide : tie.Need-element-copy-out-wide
-element-copy-out-wide c = search rules
+bounds-last : tie.Need-bounds-last
+bounds-last c = search rules
 
 wide-requires : tie.Need-wide-requires
 wide-requires c κs = search rules
 
-add-seen : tie.Need-overflow-add-seen
-add-seen c = let F = front c.before.before in omega (arith, F.within, F.rises)
+overflow_add-seen : tie.Need-overflow_add-seen
+overflow_add-seen c = let F = front c.before.before.before in omega (arith, F.within, F.rises)
 
-mul-wide-2 : tie.Need-overflow-mul-wide-2
-mul-wide-2 c = let F = front c.before.before.before in omega (arith, F.within, F.rises)
+offset_bounds-task-seen : tie.Need-offset_bounds-task-seen
+offset_bounds-task-seen c = let F = front c.before.before.before.before in omega (arith, F.within, F.rises)
 
-shared-slice-read-wide : tie.Need-shared-slice-read-wide
-shared-slice-read-wide c = let F = front c.before.before.before.before in omega (arith, F.within, F.rises)
+bounds-task-seen : tie.Need-bounds-task-seen
+bounds-task-seen c = let F = front c.before.before.before.before.before in omega (arith, F.within, F.rises)
 
-wide-requires-2 : tie.Need-wide-requires-2
-wide-requires-2 c κs = search rules
+wide-requires-then-seen-end : tie.Need-wide-requires-then-seen-end
+wide-requires-then-seen-end c κs = search rules
 
-mul-if2 : tie.Need-overflow-mul-if2
-mul-if2 c = omega (arith, seen-inside c)
+offset_bounds-marks-wide : tie.Need-offset_bounds-marks-wide
+offset_bounds-marks-wide c = omega (arith, seen_inside c)
 
-shared-slice-read-if2 : tie.Need-shared-slice-read-if2
-shared-slice-read-if2 c = omega (arith, seen-inside c.before)
+bounds-marks-wide : tie.Need-bounds-marks-wide
+bounds-marks-wide c = omega (arith, seen_inside c.before)
+
+returns-then-marks-wide : tie.Need-returns-then-marks-wide
+returns-then-marks-wide c =
+    let p = c.requires in
+    let a = c.args in
+    let u = unmarked_at a.task.now a.marks.now a.i c.wide.result
+    c.pre_start-start.result c.eff_start-end.result _
+    (front c.before.before.before.before.before.before.before.before) refl (omega arith) (rw c.wide-then-seen-end.ensures at c.if-marks-wide.true) in
+    cc (u, pre_facts _ p.0 _ p.1, c.pre_start-start.ensures, c.eff_start-end.ensures)
+
+first_unmarked-k-requires : tie.Need-first_unmarked-k-requires
+first_unmarked-k-requires c κs = search rules
+
+returns-then-k-end : tie.Need-returns-then-k-end
+returns-then-k-end c = sym (c.first_unmarked-k.ensures.2 ∙ eq-eqb _ _ (c.if-k-end.true ∙ c.eff_start-end.ensures))
+
+overflow_sub-last : tie.Need-overflow_sub-last
+overflow_sub-last c = search rules
+
+overflow_cast-last : tie.Need-overflow_cast-last
+overflow_cast-last c = omega arith
+
+overflow_sub-last-2 : tie.Need-overflow_sub-last-2
+overflow_sub-last-2 c = search rules
+
+offset_bounds-last-2 : tie.Need-offset_bounds-last-2
+offset_bounds-last-2 c = search rules
+
+bounds-last-2 : tie.Need-bounds-last-2
+bounds-last-2 c = search rules
 
 returns : tie.Need-returns
-returns c =
-    let w = c.before.before in
-    let e = w.before.before.before.before.before in
-    let p = (start_of e).requires in
-    let a = (start_of e).args in
-    let u = unmarked_at a.task.now a.marks.now a.i w.before.before.before.wide.result
-    e.before.pre-start.result e.eff-start.result _
-    (front e) refl (omega arith) (rw w.wide2.ensures at c.if2.true) in
-    cc (u, pre_facts _ p.0 _ p.1, e.before.pre-start.ensures, e.eff-start.ensures)
+returns c = sym (c.first_unmarked-k.ensures.2 ∙ ne_eqb _ _ (λ q. c.if-k-end.false (q ∙ sym c.eff_start-end.ensures)))
 
-first-unmarked-requires : tie.Need-first-unmarked-requires
-first-unmarked-requires c κs = search rules
-
-returns-2 : tie.Need-returns-2
-returns-2 c = let m = c.before in sym (m.first-unmarked.ensures.2 ∙ eq-eqb _ _ (c.if3.true ∙ m.before.before.before.before.eff-start.ensures))
-
-sub-last : tie.Need-overflow-sub-last
-sub-last c = search rules
-
-cast-last : tie.Need-overflow-cast-last
-cast-last c = omega arith
-
-sub-last-2 : tie.Need-overflow-sub-last-2
-sub-last-2 c = search rules
-
-mul-last : tie.Need-overflow-mul-last
-mul-last c = search rules
-
-element-write-last : tie.Need-element-write-last
-element-write-last c = search rules
-
-returns-3 : tie.Need-returns-3
-returns-3 c = let m = c.before in sym (m.first-unmarked.ensures.2 ∙ ne_eqb _ _ (λ q. c.if3.false (q ∙ sym m.before.before.before.before.eff-start.ensures)))
-
-pub all-marked-spec : {M : Type 1} → statement M
-all-marked-spec =
-    tie.close
-    (tie.spec
-    pre-start-requires
-    eff-start-requires
-    sub_wide
-    mul_wide
-    element-copy-out-wide
-    wide-requires
-    add-seen
-    mul-wide-2
-    shared-slice-read-wide
-    wide-requires-2
-    mul-if2
-    shared-slice-read-if2
-    returns
-    first-unmarked-requires
-    returns-2
-    sub-last
-    cast-last
-    sub-last-2
-    mul-last
-    element-write-last
-    returns-3)
+pub all_marked_spec : {M : Type 1} → statement M
+all_marked_spec = tie.close (tie.spec pre_start-start-requires eff_start-end-requires overflow_sub-wide offset_bounds-last bounds-last wide-requires overflow_add-seen offset_bounds-task-seen bounds-task-seen wide-requires-then-seen-end offset_bounds-marks-wide bounds-marks-wide returns-then-marks-wide first_unmarked-k-requires returns-then-k-end overflow_sub-last overflow_cast-last overflow_sub-last-2 offset_bounds-last-2 bounds-last-2 returns)

@@ -8,67 +8,46 @@ use Rattle.returns.proofs.Returns.{Chasing, chasing_start, chasing_at, chasing_n
 use Rattle.returns.proofs.first_return.Statement.{statement}
 use Rattle.returns.proofs.first_return.Tie as tie
 
-abbrev invariant-loop : tie.invariant-loop
-invariant-loop task marks i f j last₀ k₀ last k = Chasing (task_in task) (marked i marks) (f / 64) (f % 64) j k
+abbrev invariant-loop-k : tie.invariant-loop-k
+invariant-loop-k task marks i f j last₀ k₀ last k = Chasing (task_in task) (marked i marks) (f / 64) (f % 64) j k
 
-abbrev decreases-loop : tie.decreases-loop
-decreases-loop task marks i f j last₀ k₀ last k = 65535 - k
+abbrev decreases-loop-k : tie.decreases-loop-k
+decreases-loop-k task marks i f j last₀ k₀ last k = 65535 - k
 
-loop-holds : tie.Need-loop-init invariant-loop decreases-loop
-loop-holds c = chasing_start _ _ _ _ _ c.before.before.requires.1
+loop-k-init : tie.Need-loop-k-init invariant-loop-k decreases-loop-k
+loop-k-init c = chasing_start _ _ _ _ _ c.requires.1
 
-all-marked-requires : tie.Need-all-marked-requires invariant-loop decreases-loop
-all-marked-requires c κs =
-    let l = c.before.before in
-    let p = l.before.before.before.requires in
-    (p.0.loaded, (chasing_at _ _ p.0 _ _ _ l.loop.invariant c.before.loop-test.true).1, p.2)
+all_marked-requires : tie.Need-all_marked-requires invariant-loop-k decreases-loop-k
+all_marked-requires c κs =
+    let p = c.requires in
+    (p.0.loaded, (chasing_at _ _ p.0 _ _ _ c.loop-k.invariant c.loop-k-test.true).1, p.2)
 
-returns : tie.Need-returns invariant-loop decreases-loop
-returns c =
-    let m = c.before in
-    let l = m.before.before.before in
-    let p = l.before.before.before.requires in
-    chasing_hit _ _ p.0 _ _ _ l.loop.invariant m.before.before.loop-test.true (sym m.all-marked.ensures ∙ c.if1.true)
+returns-then-all_marked : tie.Need-returns-then-all_marked invariant-loop-k decreases-loop-k
+returns-then-all_marked c =
+    let p = c.requires in
+    chasing_hit _ _ p.0 _ _ _ c.loop-k.invariant c.loop-k-test.true (sym c.all_marked.ensures ∙ c.if-all_marked.true)
 
-next-mover-requires : tie.Need-next-mover-requires invariant-loop decreases-loop
-next-mover-requires c κs =
-    let n = c.before.before.before in
-    let l = n.before in
-    let p = l.before.before.before.requires in
-    (p.0.loaded, chasing_near _ _ p.0 _ _ _ l.loop.invariant n.loop-test.true)
+next_mover-k-requires : tie.Need-next_mover-k-requires invariant-loop-k decreases-loop-k
+next_mover-k-requires c κs =
+    let p = c.requires in
+    (p.0.loaded, chasing_near _ _ p.0 _ _ _ c.loop-k.invariant c.loop-k-test.true)
 
-loop-less : tie.Need-loop-smaller invariant-loop decreases-loop
-loop-less c =
-    let m = c.before.before in
-    let l = m.before.before.before in
-    let p = l.before.before.before.requires in
-    let b = chasing_near _ _ p.0 _ _ _ l.loop.invariant m.before.before.loop-test.true in
-    let r = chasing_turn _ _ p.0 _ _ _ l.loop.invariant m.before.before.loop-test.true _ c.next-mover.ensures (sym m.all-marked.ensures ∙ c.before.if1.false) in
+loop-k-smaller : tie.Need-loop-k-smaller invariant-loop-k decreases-loop-k
+loop-k-smaller c =
+    let p = c.requires in
+    let b = chasing_near _ _ p.0 _ _ _ c.loop-k.invariant c.loop-k-test.true in
+    let r = chasing_turn _ _ p.0 _ _ _ c.loop-k.invariant c.loop-k-test.true _ c.next_mover-k.ensures (sym c.all_marked.ensures ∙ c.if-all_marked.false) in
     omega (arith, b, r.1)
 
-loop-again : tie.Need-loop-preserved invariant-loop decreases-loop
-loop-again c =
-    let m = c.before.before in
-    let l = m.before.before.before in
-    let p = l.before.before.before.requires in
-    (chasing_turn _ _ p.0 _ _ _ l.loop.invariant m.before.before.loop-test.true _ c.next-mover.ensures (sym m.all-marked.ensures ∙ c.before.if1.false)).0
+loop-k-preserved : tie.Need-loop-k-preserved invariant-loop-k decreases-loop-k
+loop-k-preserved c =
+    let p = c.requires in
+    (chasing_turn _ _ p.0 _ _ _ c.loop-k.invariant c.loop-k-test.true _ c.next_mover-k.ensures (sym c.all_marked.ensures ∙ c.if-all_marked.false)).0
 
-returns-2 : tie.Need-returns-2 invariant-loop decreases-loop
-returns-2 c =
-    let l = c.before in
-    let p = l.before.before.before.requires in
-    chasing_end _ _ p.0 _ _ _ l.loop.invariant c.loop-test.false
+returns : tie.Need-returns invariant-loop-k decreases-loop-k
+returns c =
+    let p = c.requires in
+    chasing_end _ _ p.0 _ _ _ c.loop-k.invariant c.loop-k-test.false
 
-pub first-return-spec : {M : Type 1} → statement M
-first-return-spec =
-    tie.close
-    (tie.spec
-    invariant-loop
-    decreases-loop
-    loop-holds
-    all-marked-requires
-    returns
-    next-mover-requires
-    loop-less
-    loop-again
-    returns-2)
+pub first_return_spec : {M : Type 1} → statement M
+first_return_spec = tie.close (tie.spec invariant-loop-k decreases-loop-k loop-k-init all_marked-requires returns-then-all_marked next_mover-k-requires loop-k-smaller loop-k-preserved returns)

@@ -13,101 +13,75 @@ use borrow.Author.Rules.{rules}
 use Rattle.returns.proofs.first_unmarked.Statement.{statement}
 use Rattle.returns.proofs.first_unmarked.Tie as tie
 
-abbrev invariant-loop : tie.invariant-loop
-invariant-loop task j marks i end k₀ k = (k₀ ≤ k) × Walking Bool (holds (marked i marks)) (act (task_in task) j).pre task end k
+abbrev invariant-loop-k : tie.invariant-loop-k
+invariant-loop-k task j marks i end k₀ k = (k₀ ≤ k) × Walking Bool (holds (marked i marks)) (act (task_in task) j).pre task end k
 
-abbrev decreases-loop : tie.decreases-loop
-decreases-loop task j marks i end k₀ k = end - k
+abbrev decreases-loop-k : tie.decreases-loop-k
+decreases-loop-k task j marks i end k₀ k = end - k
 
-abbrev start_of : tie.At-loop invariant-loop decreases-loop → tie.Start invariant-loop decreases-loop
+abbrev start_of : tie.At-loop-k invariant-loop-k decreases-loop-k → tie.Start invariant-loop-k decreases-loop-k
 start_of c = c.before.before.before.before.before
 
-eff-start-requires : tie.Need-eff-start-requires invariant-loop decreases-loop
-eff-start-requires c κs = search rules
+eff_start-end-requires : tie.Need-eff_start-end-requires invariant-loop-k decreases-loop-k
+eff_start-end-requires c κs = search rules
 
-pre-start-requires : tie.Need-pre-start-requires invariant-loop decreases-loop
-pre-start-requires c κs = search rules
+pre_start-k-requires : tie.Need-pre_start-k-requires invariant-loop-k decreases-loop-k
+pre_start-k-requires c κs = search rules
 
-loop-holds : tie.Need-loop-init invariant-loop decreases-loop
-loop-holds c =
-    let e = c.before in
-    let p = e.before.before.before.requires in
-    let a = c.pre-start.ensures in
-    let b = e.eff-start.ensures in
+loop-k-init : tie.Need-loop-k-init invariant-loop-k decreases-loop-k
+loop-k-init c =
+    let p = c.requires in
+    let a = c.pre_start-k.ensures in
+    let b = c.eff_start-end.ensures in
     (omega arith, walking_start _ _ _ _ _ _ (pre_within _ p.0 _ p.1 _ _ a b) (rw (a, b) (pre_facts _ p.0 _ p.1)))
 
-mul_wide : tie.Need-overflow-mul-wide invariant-loop decreases-loop
-mul_wide c = search rules
+offset_bounds-task-k : tie.Need-offset_bounds-task-k invariant-loop-k decreases-loop-k
+offset_bounds-task-k c = search rules
 
-shared-slice-read-wide : tie.Need-shared-slice-read-wide invariant-loop decreases-loop
-shared-slice-read-wide c = let l = c.before.before in omega (arith, l.loop.invariant.1.facts.within)
+bounds-task-k : tie.Need-bounds-task-k invariant-loop-k decreases-loop-k
+bounds-task-k c = omega (arith, c.loop-k.invariant.1.facts.within)
 
-wide-requires : tie.Need-wide-requires invariant-loop decreases-loop
+wide-requires : tie.Need-wide-requires invariant-loop-k decreases-loop-k
 wide-requires c κs = search rules
 
-inside : (c : tie.After-wide invariant-loop decreases-loop) → c.wide.result < length (start_of c.before.before.before).args.marks.now
+inside : (c : tie.After-wide invariant-loop-k decreases-loop-k) → c.wide.result < length c.args.marks.now
 inside c =
-    let l = c.before.before.before in
-    let s = l.before in
-    let z = start_of l in
-    let p = z.pre in
-    omega (arith, c.wide.ensures, need_inside _ z.args.marks.now p.0 _ p.1 p.2 _ _ s.pre-start.ensures s.before.eff-start.ensures l.loop.k (omega arith) (omega arith))
+    let p = c.requires in
+    omega (arith, c.wide.ensures, need_inside _ c.args.marks.now p.0 _ p.1 p.2 _ _ c.pre_start-k.ensures c.eff_start-end.ensures c.loop-k.k (omega arith) (omega arith))
 
-mul-if1 : tie.Need-overflow-mul-if1 invariant-loop decreases-loop
-mul-if1 c = omega (arith, inside c)
+offset_bounds-marks-wide : tie.Need-offset_bounds-marks-wide invariant-loop-k decreases-loop-k
+offset_bounds-marks-wide c = omega (arith, inside c)
 
-shared-slice-read-if1 : tie.Need-shared-slice-read-if1 invariant-loop decreases-loop
-shared-slice-read-if1 c = omega (arith, inside c.before)
+bounds-marks-wide : tie.Need-bounds-marks-wide invariant-loop-k decreases-loop-k
+bounds-marks-wide c = omega (arith, inside c.before)
 
-returns : tie.Need-returns invariant-loop decreases-loop
+returns-then-marks-wide : tie.Need-returns-then-marks-wide invariant-loop-k decreases-loop-k
+returns-then-marks-wide c =
+    let e = walking_hit _ _ _ _ _ _ c.loop-k.invariant.1 (omega arith) _ c.wide.ensures _ (marked_hit _ _ _ c.if-marks-wide.true) in
+    (
+      omega (arith, c.pre_start-k.ensures),
+      omega (arith, c.eff_start-end.ensures),
+      stops_before _ c.loop-k.k c.eff_start-end.result e (omega arith) ∙ rw c.eff_start-end.ensures refl,
+    )
+
+overflow_add-k : tie.Need-overflow_add-k invariant-loop-k decreases-loop-k
+overflow_add-k c = search rules
+
+loop-k-smaller : tie.Need-loop-k-smaller invariant-loop-k decreases-loop-k
+loop-k-smaller c = search rules
+
+loop-k-preserved : tie.Need-loop-k-preserved invariant-loop-k decreases-loop-k
+loop-k-preserved c =
+    (omega arith, walking_turn _ _ _ _ _ _ c.loop-k.invariant.1 (omega arith) _ c.wide.ensures (marked_skip _ _ _ c.if-marks-wide.false))
+
+returns : tie.Need-returns invariant-loop-k decreases-loop-k
 returns c =
-    let w = c.before.before in
-    let l = w.before.before.before in
-    let e = walking_hit _ _ _ _ _ _ l.loop.invariant.1 (omega arith) _ w.wide.ensures _ (marked_hit _ _ _ c.if1.true) in
-    let s = l.before in (
-      omega (arith, s.pre-start.ensures),
-      omega (arith, s.before.eff-start.ensures),
-      stops_before _ l.loop.k s.before.eff-start.result e (omega arith) ∙ rw s.before.eff-start.ensures refl,
+    let e = walking_end _ _ _ _ _ _ c.loop-k.invariant.1 (omega arith) _ (marked_none _ _) in
+    let r = c.loop-k.invariant.1.facts.rises in (
+      omega (arith, c.pre_start-k.ensures),
+      omega (arith, r, c.eff_start-end.ensures),
+      stops_at _ c.loop-k.k c.eff_start-end.result e (omega (arith, r)) ∙ rw c.eff_start-end.ensures refl,
     )
 
-add-k : tie.Need-overflow-add-k invariant-loop decreases-loop
-add-k c = search rules
-
-loop-less : tie.Need-loop-smaller invariant-loop decreases-loop
-loop-less c = search rules
-
-loop-again : tie.Need-loop-preserved invariant-loop decreases-loop
-loop-again c =
-    let w = c.before.before in
-    let l = w.before.before.before in
-    (omega arith, walking_turn _ _ _ _ _ _ l.loop.invariant.1 (omega arith) _ w.wide.ensures (marked_skip _ _ _ c.if1.false))
-
-returns-2 : tie.Need-returns-2 invariant-loop decreases-loop
-returns-2 c =
-    let e = walking_end _ _ _ _ _ _ c.before.loop.invariant.1 (omega arith) _ (marked_none _ _) in
-    let s = c.before.before in
-    let r = c.before.loop.invariant.1.facts.rises in (
-      omega (arith, s.pre-start.ensures),
-      omega (arith, r, s.before.eff-start.ensures),
-      stops_at _ c.before.loop.k s.before.eff-start.result e (omega (arith, r)) ∙ rw s.before.eff-start.ensures refl,
-    )
-
-pub first-unmarked-spec : {M : Type 1} → statement M
-first-unmarked-spec =
-    tie.close
-    (tie.spec
-    invariant-loop
-    decreases-loop
-    eff-start-requires
-    pre-start-requires
-    loop-holds
-    mul_wide
-    shared-slice-read-wide
-    wide-requires
-    mul-if1
-    shared-slice-read-if1
-    returns
-    add-k
-    loop-less
-    loop-again
-    returns-2)
+pub first_unmarked_spec : {M : Type 1} → statement M
+first_unmarked_spec = tie.close (tie.spec invariant-loop-k decreases-loop-k eff_start-end-requires pre_start-k-requires loop-k-init offset_bounds-task-k bounds-task-k wide-requires offset_bounds-marks-wide bounds-marks-wide returns-then-marks-wide overflow_add-k loop-k-smaller loop-k-preserved returns)

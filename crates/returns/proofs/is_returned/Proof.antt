@@ -6,64 +6,50 @@ use borrow.Author.Rules.{rules}
 use Rattle.returns.proofs.is_returned.Statement.{statement}
 use Rattle.returns.proofs.is_returned.Tie as tie
 
-abbrev start_of : tie.After-later-return → tie.Start
-start_of c = c.before.before.before.before.before.before
+abbrev start_of : tie.After-later_return-j → tie.Start
+start_of c = c.before.before.before.before.before.before.before
 
-mul_wide : tie.Need-overflow-mul-wide
-mul_wide c = search rules
+offset_bounds-last-f : tie.Need-offset_bounds-last-f
+offset_bounds-last-f c = search rules
 
-element-copy-out-wide : tie.Need-element-copy-out-wide
-element-copy-out-wide c = search rules
+bounds-last-f : tie.Need-bounds-last-f
+bounds-last-f c = search rules
 
-wide-requires : tie.Need-wide-requires
-wide-requires c κs = search rules
+wide-h-requires : tie.Need-wide-h-requires
+wide-h-requires c κs = search rules
 
-later-return-requires : tie.Need-later-return-requires
-later-return-requires c κs = search rules
+later_return-j-requires : tie.Need-later_return-j-requires
+later_return-j-requires c κs = search rules
 
-first-mover-requires : tie.Need-first-mover-requires
-first-mover-requires c κs = let p = (start_of c.before).requires.0 in (p.loaded, omega (arith, black_inside _ _ p.on))
+first_mover-requires : tie.Need-first_mover-requires
+first_mover-requires c κs = let p = c.requires.0 in (p.loaded, omega (arith, black_inside _ _ p.on))
 
-first-return-requires : tie.Need-first-return-requires
-first-return-requires c κs =
-    let p = (start_of c.before.before.before).requires in
-    (p.0, head_chain _ _ p.0 _ c.before.first-mover.ensures, p.1)
+first_return-j-requires : tie.Need-first_return-j-requires
+first_return-j-requires c κs =
+    let p = c.requires in
+    (p.0, head_chain _ _ p.0 _ c.first_mover.ensures, p.1)
 
-cast-last : tie.Need-overflow-cast-last
-cast-last c =
-    let l = c.before.before in
-    let p = (start_of l).requires in
+overflow_cast-last : tie.Need-overflow_cast-last
+overflow_cast-last c =
+    let p = c.requires in
     ⊎_elim
     (λ w. omega (arith, w.5, serves_near _ _ p.0 _ _ (next_serves _ _ _ _ _ _ w.3.ensures)))
-    (λ w. omega (arith, w.2, serves_near _ _ p.0 _ _ l.later-return.ensures))
-    c.before.if1.branch
+    (λ w. omega (arith, w.2, serves_near _ _ p.0 _ _ c.later_return-j.ensures))
+    c.if-j-eq65535.branch
 
-mul-last : tie.Need-overflow-mul-last
-mul-last c = search rules
+offset_bounds-last-f-2 : tie.Need-offset_bounds-last-f-2
+offset_bounds-last-f-2 c = search rules
 
-element-write-last : tie.Need-element-write-last
-element-write-last c = search rules
+bounds-last-f-2 : tie.Need-bounds-last-f-2
+bounds-last-f-2 c = search rules
 
 returns : tie.Need-returns
 returns c =
-    let l = c.before.before in
-    let p = (start_of l).requires in
+    let p = c.requires in
     ⊎_elim
     (λ w. rw w.5 (served_first _ _ p.0 _ _ _ w.1.ensures w.3.ensures))
-    (λ w. rw w.2 (served _ _ p.0 _ _ l.later-return.ensures w.0.left))
-    c.before.if1.branch
+    (λ w. rw w.2 (served _ _ p.0 _ _ c.later_return-j.ensures w.0.left))
+    c.if-j-eq65535.branch
 
-pub is-returned-spec : {M : Type 1} → statement M
-is-returned-spec =
-    tie.close
-    (tie.spec
-    mul_wide
-    element-copy-out-wide
-    wide-requires
-    later-return-requires
-    first-mover-requires
-    first-return-requires
-    cast-last
-    mul-last
-    element-write-last
-    returns)
+pub is_returned_spec : {M : Type 1} → statement M
+is_returned_spec = tie.close (tie.spec offset_bounds-last-f bounds-last-f wide-h-requires later_return-j-requires first_mover-requires first_return-j-requires overflow_cast-last offset_bounds-last-f-2 bounds-last-f-2 returns)

@@ -12,44 +12,31 @@ use Rattle.returns.proofs.later_return.Tie as tie
 actions-requires : tie.Need-actions-requires
 actions-requires c κs = search rules
 
-returns : tie.Need-returns
-returns c = inl refl
+returns-then-actions-h : tie.Need-returns-then-actions-h
+returns-then-actions-h c = inl refl
 
-below : (c : tie.Else1) → c.before.before.before.before.args.h < actions (task_in c.before.before.before.before.args.task.now)
-below c = omega (arith, c.before.actions.ensures)
+below : (c : tie.Else-actions-h) → c.args.h < actions (task_in c.args.task.now)
+below c = omega (arith, c.actions.ensures)
 
 target-requires : tie.Need-target-requires
-target-requires c κs = (c.before.before.before.before.requires.0.loaded, below c)
+target-requires c κs = (c.requires.0.loaded, below c)
 
-returns-2 : tie.Need-returns-2
-returns-2 c = inl refl
+returns-then-target-f : tie.Need-returns-then-target-f
+returns-then-target-f c = inl refl
 
-needs-fact-requires : tie.Need-needs-fact-requires
-needs-fact-requires c κs = let n = c.before.before in (n.before.before.before.before.requires.0.loaded, below n)
+needs_fact-requires : tie.Need-needs_fact-requires
+needs_fact-requires c κs = (c.requires.0.loaded, below c.before.before)
 
-returns-3 : tie.Need-returns-3
-returns-3 c = inl refl
+returns-then-needs_fact : tie.Need-returns-then-needs_fact
+returns-then-needs_fact c = inl refl
 
-first-return-requires : tie.Need-first-return-requires
-first-return-requires c κs =
-    let d = c.before.before in
-    let k = d.before.before in
-    let n = k.before in
-    let p = n.before.before.before.before.requires in
-    (p.0, asked_chain _ _ _ _ _ k.target.ensures (omega arith) d.before.if2.false (sym d.needs-fact.ensures ∙ c.before.if3.false) (below n), p.1)
+first_return-requires : tie.Need-first_return-requires
+first_return-requires c κs =
+    let p = c.requires in
+    (p.0, asked_chain _ _ _ _ _ c.target.ensures (omega arith) c.if-target-f.false (sym c.needs_fact.ensures ∙ c.if-needs_fact.false) (below c.before.before.before.before.before), p.1)
 
-returns-4 : tie.Need-returns-4
-returns-4 c = next_serves _ _ _ _ _ _ c.first-return.ensures
+returns : tie.Need-returns
+returns c = next_serves _ _ _ _ _ _ c.first_return.ensures
 
-pub later-return-spec : {M : Type 1} → statement M
-later-return-spec =
-    tie.close
-    (tie.spec
-    actions-requires
-    returns
-    target-requires
-    returns-2
-    needs-fact-requires
-    returns-3
-    first-return-requires
-    returns-4)
+pub later_return_spec : {M : Type 1} → statement M
+later_return_spec = tie.close (tie.spec actions-requires returns-then-actions-h target-requires returns-then-target-f needs_fact-requires returns-then-needs_fact first_return-requires returns)

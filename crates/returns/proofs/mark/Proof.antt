@@ -8,70 +8,50 @@ use borrow.Author.Rules.{rules}
 use Rattle.returns.proofs.mark.Statement.{statement}
 use Rattle.returns.proofs.mark.Tie as tie
 
-abbrev invariant-loop : tie.invariant-loop
-invariant-loop task from to f own marks₀ k₀ marks k = Marking (facts_in task from to) task to f own marks₀ marks k
+abbrev invariant-loop-k : tie.invariant-loop-k
+invariant-loop-k task from to f own marks₀ k₀ marks k = Marking (facts_in task from to) task to f own marks₀ marks k
 
-abbrev decreases-loop : tie.decreases-loop
-decreases-loop task from to f own marks₀ k₀ marks k = to - k
+abbrev decreases-loop-k : tie.decreases-loop-k
+decreases-loop-k task from to f own marks₀ k₀ marks k = to - k
 
-loop-holds : tie.Need-loop-init invariant-loop decreases-loop
-loop-holds c = marking_start _ _ _ _ _ _ _ c.before.before.requires refl
+loop-k-init : tie.Need-loop-k-init invariant-loop-k decreases-loop-k
+loop-k-init c = marking_start _ _ _ _ _ _ _ c.requires refl
 
-mul_wide : tie.Need-overflow-mul-wide invariant-loop decreases-loop
-mul_wide c = search rules
+offset_bounds-task-k : tie.Need-offset_bounds-task-k invariant-loop-k decreases-loop-k
+offset_bounds-task-k c = search rules
 
-shared-slice-read-wide : tie.Need-shared-slice-read-wide invariant-loop decreases-loop
-shared-slice-read-wide c = let l = c.before.before in omega (arith, l.loop.invariant.rest.facts.within)
+bounds-task-k : tie.Need-bounds-task-k invariant-loop-k decreases-loop-k
+bounds-task-k c = omega (arith, c.loop-k.invariant.rest.facts.within)
 
-wide-requires : tie.Need-wide-requires invariant-loop decreases-loop
+wide-requires : tie.Need-wide-requires invariant-loop-k decreases-loop-k
 wide-requires c κs = search rules
 
-place-of-requires : tie.Need-place-of-requires invariant-loop decreases-loop
-place-of-requires c κs = search rules
+place_of-requires : tie.Need-place_of-requires invariant-loop-k decreases-loop-k
+place_of-requires c κs = search rules
 
-mul-marks : tie.Need-overflow-mul-marks invariant-loop decreases-loop
-mul-marks c =
-    let w = c.before in
-    let l = w.before.before.before in
-    let q = marking_inside _ _ _ _ _ _ _ _ l.loop.invariant (omega arith) _ _ w.wide.ensures c.place_of.ensures in
-    omega (arith, q, l.loop.invariant.long)
+offset_bounds-marks-place_of : tie.Need-offset_bounds-marks-place_of invariant-loop-k decreases-loop-k
+offset_bounds-marks-place_of c =
+    let q = marking_inside _ _ _ _ _ _ _ _ c.loop-k.invariant (omega arith) _ _ c.wide.ensures c.place_of.ensures in
+    omega (arith, q, c.loop-k.invariant.long)
 
-slice-write-marks : tie.Need-slice-write-marks invariant-loop decreases-loop
-slice-write-marks c =
-    let w = c.before in
-    let l = w.before.before.before in
-    marking_inside _ _ _ _ _ _ _ _ l.loop.invariant (omega arith) _ _ w.wide.ensures c.place_of.ensures
+bounds-marks-place_of : tie.Need-bounds-marks-place_of invariant-loop-k decreases-loop-k
+bounds-marks-place_of c =
+    marking_inside _ _ _ _ _ _ _ _ c.loop-k.invariant (omega arith) _ _ c.wide.ensures c.place_of.ensures
 
-add-k : tie.Need-overflow-add-k invariant-loop decreases-loop
-add-k c = search rules
+overflow_add-k : tie.Need-overflow_add-k invariant-loop-k decreases-loop-k
+overflow_add-k c = search rules
 
-loop-less : tie.Need-loop-smaller invariant-loop decreases-loop
-loop-less c = search rules
+loop-k-smaller : tie.Need-loop-k-smaller invariant-loop-k decreases-loop-k
+loop-k-smaller c = search rules
 
-loop-again : tie.Need-loop-preserved invariant-loop decreases-loop
-loop-again c = let w = c.before in let l = w.before.before.before in marking_turn _ _ _ _ _ _ _ _ l.loop.invariant (omega arith) _ _ w.wide.ensures c.place_of.ensures
+loop-k-preserved : tie.Need-loop-k-preserved invariant-loop-k decreases-loop-k
+loop-k-preserved c = marking_turn _ _ _ _ _ _ _ _ c.loop-k.invariant (omega arith) _ _ c.wide.ensures c.place_of.ensures
 
-same_length : tie.Need-same-length invariant-loop decreases-loop
-same_length c = c.before.loop.invariant.long
+shape_of-marks : tie.Need-shape_of-marks invariant-loop-k decreases-loop-k
+shape_of-marks c = c.loop-k.invariant.long
 
-returns : tie.Need-returns invariant-loop decreases-loop
-returns c = marking_end _ _ _ _ _ _ _ _ c.before.loop.invariant (omega arith)
+returns : tie.Need-returns invariant-loop-k decreases-loop-k
+returns c = marking_end _ _ _ _ _ _ _ _ c.loop-k.invariant (omega arith)
 
 pub mark_spec : {M : Type 1} → statement M
-mark_spec =
-    tie.close
-    (tie.spec
-    invariant-loop
-    decreases-loop
-    loop-holds
-    mul_wide
-    shared-slice-read-wide
-    wide-requires
-    place-of-requires
-    mul-marks
-    slice-write-marks
-    add-k
-    loop-less
-    loop-again
-    same_length
-    returns)
+mark_spec = tie.close (tie.spec invariant-loop-k decreases-loop-k loop-k-init offset_bounds-task-k bounds-task-k wide-requires place_of-requires offset_bounds-marks-place_of bounds-marks-place_of overflow_add-k loop-k-smaller loop-k-preserved shape_of-marks returns)

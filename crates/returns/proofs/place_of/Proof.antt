@@ -3,11 +3,11 @@ use mathlib.Core.Path.{sym}
 use Rattle.returns.proofs.place_of.Statement.{statement}
 use Rattle.returns.proofs.place_of.Tie as tie
 
-returns : tie.Need-returns
-returns c = sym (place_own _ _ c.if1.true)
+returns-then-g-f : tie.Need-returns-then-g-f
+returns-then-g-f c = sym (place_own _ _ c.if-g-f.true)
 
-returns-2 : tie.Need-returns-2
-returns-2 c = sym (place_other _ _ c.if1.false)
+returns-else-g-f : tie.Need-returns-else-g-f
+returns-else-g-f c = sym (place_other _ _ c.if-g-f.false)
 
-pub place-of-spec : {M : Type 1} → statement M
-place-of-spec = tie.close (tie.spec returns returns-2)
+pub place_of_spec : {M : Type 1} → statement M
+place_of_spec = tie.close (tie.spec returns-then-g-f returns-else-g-f)

@@ -9,97 +9,75 @@ use Rattle.sets.proofs.Effects.{Walking, walking_start, walking_inside, walking_
 use Rattle.state.proofs.add_effects.Statement.{statement}
 use Rattle.state.proofs.add_effects.Tie as tie
 
-abbrev invariant-loop : tie.invariant-loop
-invariant-loop sets₀ task i end k₀ sets k = Walking task i end k × Putting task i sets₀ sets k
+abbrev invariant-loop-k : tie.invariant-loop-k
+invariant-loop-k sets₀ task i end k₀ sets k = Walking task i end k × Putting task i sets₀ sets k
 
-abbrev decreases-loop : tie.decreases-loop
-decreases-loop sets₀ task i end k₀ sets k = end - k
+abbrev decreases-loop-k : tie.decreases-loop-k
+decreases-loop-k sets₀ task i end k₀ sets k = end - k
 
-listed : (s : tie.Start invariant-loop decreases-loop) → Listed s.args.task.now s.args.i
+listed : (s : tie.Start invariant-loop-k decreases-loop-k) → Listed s.args.task.now s.args.i
 listed s = loaded_listed _ s.requires.0 _ s.requires.1
 
-abbrev start_of : tie.At-loop invariant-loop decreases-loop → tie.Start invariant-loop decreases-loop
-start_of h = h.before.before.before.before
+abbrev start_of : tie.At-loop-k invariant-loop-k decreases-loop-k → tie.Start invariant-loop-k decreases-loop-k
+start_of c = c.before.before.before.before
 
-eff-end-requires : tie.Need-eff-end-requires invariant-loop decreases-loop
-eff-end-requires c κs = search rules
+eff_end-end-requires : tie.Need-eff_end-end-requires invariant-loop-k decreases-loop-k
+eff_end-end-requires c κs = search rules
 
-eff-start-requires : tie.Need-eff-start-requires invariant-loop decreases-loop
-eff-start-requires c κs = search rules
+eff_start-k-requires : tie.Need-eff_start-k-requires invariant-loop-k decreases-loop-k
+eff_start-k-requires c κs = search rules
 
-loop-holds : tie.Need-loop-init invariant-loop decreases-loop
-loop-holds c = (
-  walking_start _ _ (listed c.before.before.before) _ _ c.before.eff-end.ensures c.eff-start.ensures,
-  putting_start _ _ _ _ c.eff-start.ensures (search rules),
+loop-k-init : tie.Need-loop-k-init invariant-loop-k decreases-loop-k
+loop-k-init c = (
+  walking_start _ _ (listed c.before.before.before) _ _ c.eff_end-end.ensures c.eff_start-k.ensures,
+  putting_start _ _ _ _ c.eff_start-k.ensures (search rules),
 )
 
-mul_wide : tie.Need-overflow-mul-wide invariant-loop decreases-loop
-mul_wide c = let h = c.before in omega (arith, walking_inside _ _ (listed (start_of h)) _ _ h.loop.invariant.0 (omega arith))
+offset_bounds-task-k : tie.Need-offset_bounds-task-k invariant-loop-k decreases-loop-k
+offset_bounds-task-k c = omega (arith, walking_inside _ _ (listed c.before.before.before.before.before) _ _ c.loop-k.invariant.0 (omega arith))
 
-shared-slice-read-wide : tie.Need-shared-slice-read-wide invariant-loop decreases-loop
-shared-slice-read-wide c = let h = c.before.before in walking_inside _ _ (listed (start_of h)) _ _ h.loop.invariant.0 (omega arith)
+bounds-task-k : tie.Need-bounds-task-k invariant-loop-k decreases-loop-k
+bounds-task-k c = walking_inside _ _ (listed c.before.before.before.before.before.before) _ _ c.loop-k.invariant.0 (omega arith)
 
-wide-requires : tie.Need-wide-requires invariant-loop decreases-loop
-wide-requires c κs = search rules
+wide-f-requires : tie.Need-wide-f-requires invariant-loop-k decreases-loop-k
+wide-f-requires c κs = search rules
 
-small : (c : tie.After-wide invariant-loop decreases-loop) → c.wide.result < 4096
+small : (c : tie.After-wide-f invariant-loop-k decreases-loop-k) → c.wide-f.result < 4096
 small c =
-    let h = c.before.before.before in
-    omega (arith, c.wide.ensures, walking_small _ _ (listed (start_of h)) _ _ h.loop.invariant.0 (omega arith))
+    omega (arith, c.wide-f.ensures, walking_small _ _ (listed c.before.before.before.before.before.before.before) _ _ c.loop-k.invariant.0 (omega arith))
 
-mul-sets : tie.Need-overflow-mul-sets invariant-loop decreases-loop
-mul-sets c = search rules
+offset_bounds-sets-v : tie.Need-offset_bounds-sets-v invariant-loop-k decreases-loop-k
+offset_bounds-sets-v c = search rules
 
-element-copy-out-sets : tie.Need-element-copy-out-sets invariant-loop decreases-loop
-element-copy-out-sets c = omega (arith, small c)
+bounds-sets-v : tie.Need-bounds-sets-v invariant-loop-k decreases-loop-k
+bounds-sets-v c = omega (arith, small c.before)
 
-single-requires : tie.Need-single-requires invariant-loop decreases-loop
+single-requires : tie.Need-single-requires invariant-loop-k decreases-loop-k
 single-requires c κs = search rules
 
-mul-sets-2 : tie.Need-overflow-mul-sets-2 invariant-loop decreases-loop
-mul-sets-2 c = search rules
+offset_bounds-sets-v-in-loop-k : tie.Need-offset_bounds-sets-v-in-loop-k invariant-loop-k decreases-loop-k
+offset_bounds-sets-v-in-loop-k c = search rules
 
-element-write-sets : tie.Need-element-write-sets invariant-loop decreases-loop
-element-write-sets c = omega (arith, small c.before.before)
+bounds-sets-v-in-loop-k : tie.Need-bounds-sets-v-in-loop-k invariant-loop-k decreases-loop-k
+bounds-sets-v-in-loop-k c = omega (arith, small c.before.before.before)
 
-add-k : tie.Need-overflow-add-k invariant-loop decreases-loop
-add-k c = search rules
+overflow_add-k : tie.Need-overflow_add-k invariant-loop-k decreases-loop-k
+overflow_add-k c = search rules
 
-loop-less : tie.Need-loop-smaller invariant-loop decreases-loop
-loop-less c = search rules
+loop-k-smaller : tie.Need-loop-k-smaller invariant-loop-k decreases-loop-k
+loop-k-smaller c = search rules
 
-loop-again : tie.Need-loop-preserved invariant-loop decreases-loop
-loop-again c =
-    let h = c.before.before.before.before.before in
-    let I = h.loop.invariant in
-    let L = listed (start_of h) in (
+loop-k-preserved : tie.Need-loop-k-preserved invariant-loop-k decreases-loop-k
+loop-k-preserved c =
+    let I = c.loop-k.invariant in
+    let L = listed c.before.before.before.before.before.before.before.before.before.before in (
       walking_turn _ _ L _ _ I.0 (omega arith),
-      putting_turn _ _ L _ _ _ _ I.0 I.1 (omega arith) _ _ _ _ c.before.before.wide.ensures refl refl c.single.ensures,
+      putting_turn _ _ L _ _ _ _ I.0 I.1 (omega arith) _ _ _ _ c.wide-f.ensures refl refl c.single.ensures,
     )
 
-returns : tie.Need-returns invariant-loop decreases-loop
+returns : tie.Need-returns invariant-loop-k decreases-loop-k
 returns c =
-    let h = c.before in
-    putting_end _ _ (listed (start_of h)) _ _ _ _ h.loop.invariant.0 h.loop.invariant.1 (omega arith)
+    putting_end _ _ (listed c.before.before.before.before.before) _ _ _ _ c.loop-k.invariant.0 c.loop-k.invariant.1 (omega arith)
 
-pub add-effects-spec : {M : Type 1} → statement M
-add-effects-spec =
-    tie.close
-    (tie.spec
-    invariant-loop
-    decreases-loop
-    eff-end-requires
-    eff-start-requires
-    loop-holds
-    mul_wide
-    shared-slice-read-wide
-    wide-requires
-    mul-sets
-    element-copy-out-sets
-    single-requires
-    mul-sets-2
-    element-write-sets
-    add-k
-    loop-less
-    loop-again
-    returns)
+pub add_effects_spec : {M : Type 1} → statement M
+add_effects_spec = tie.close (tie.spec invariant-loop-k decreases-loop-k eff_end-end-requires eff_start-k-requires loop-k-init offset_bounds-task-k bounds-task-k wide-f-requires offset_bounds-sets-v bounds-sets-v single-requires offset_bounds-sets-v-in-loop-k bounds-sets-v-in-loop-k overflow_add-k loop-k-smaller loop-k-preserved returns)

@@ -2,11 +2,11 @@ use Rattle.state.proofs.Choosing.{choose_yes, choose_no}
 use Rattle.state.proofs.choose.Statement.{statement}
 use Rattle.state.proofs.choose.Tie as tie
 
-returns : tie.Need-returns
-returns c = choose_yes _ _ _ c.if1.true
+returns-then-b : tie.Need-returns-then-b
+returns-then-b c = choose_yes _ _ _ c.if-b.true
 
-returns-2 : tie.Need-returns-2
-returns-2 c = choose_no _ _ _ c.if1.false
+returns-else-b : tie.Need-returns-else-b
+returns-else-b c = choose_no _ _ _ c.if-b.false
 
 pub choose_spec : {M : Type 1} → statement M
-choose_spec = tie.close (tie.spec returns returns-2)
+choose_spec = tie.close (tie.spec returns-then-b returns-else-b)

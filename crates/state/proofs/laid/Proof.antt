@@ -8,55 +8,41 @@ use Rattle.state.proofs.Choosing.{Filled, filled_start, filled_turn, over_at, ov
 use Rattle.state.proofs.laid.Statement.{statement}
 use Rattle.state.proofs.laid.Tie as tie
 
-abbrev invariant-loop : tie.invariant-loop
-invariant-loop old new r₀ k₀ r k = Filled (over (values_of old) (values_of new)) r k
+abbrev invariant-loop-k : tie.invariant-loop-k
+invariant-loop-k old new r₀ k₀ r k = Filled (over (values_of old) (values_of new)) r k
 
-abbrev decreases-loop : tie.decreases-loop
-decreases-loop old new r₀ k₀ r k = 64 - k
+abbrev decreases-loop-k : tie.decreases-loop-k
+decreases-loop-k old new r₀ k₀ r k = 64 - k
 
-loop-holds : tie.Need-loop-init invariant-loop decreases-loop
-loop-holds c = filled_start _ _ (search rules)
+loop-k-init : tie.Need-loop-k-init invariant-loop-k decreases-loop-k
+loop-k-init c = filled_start _ _ (search rules)
 
-array-read-choose : tie.Need-array-read-choose invariant-loop decreases-loop
-array-read-choose c = search rules
+bounds-new-k : tie.Need-bounds-new-k invariant-loop-k decreases-loop-k
+bounds-new-k c = search rules
 
-array-read-choose-2 : tie.Need-array-read-choose-2 invariant-loop decreases-loop
-array-read-choose-2 c = search rules
+bounds-old-k : tie.Need-bounds-old-k invariant-loop-k decreases-loop-k
+bounds-old-k c = search rules
 
-array-read-choose-3 : tie.Need-array-read-choose-3 invariant-loop decreases-loop
-array-read-choose-3 c = search rules
+bounds-new-k-in-loop-k : tie.Need-bounds-new-k-in-loop-k invariant-loop-k decreases-loop-k
+bounds-new-k-in-loop-k c = search rules
 
-choose-requires : tie.Need-choose-requires invariant-loop decreases-loop
+choose-requires : tie.Need-choose-requires invariant-loop-k decreases-loop-k
 choose-requires c κs = search rules
 
-array-write-r : tie.Need-array-write-r invariant-loop decreases-loop
-array-write-r c = search rules
+bounds-r-k : tie.Need-bounds-r-k invariant-loop-k decreases-loop-k
+bounds-r-k c = search rules
 
-add-k : tie.Need-overflow-add-k invariant-loop decreases-loop
-add-k c = search rules
+overflow_add-k : tie.Need-overflow_add-k invariant-loop-k decreases-loop-k
+overflow_add-k c = search rules
 
-loop-less : tie.Need-loop-smaller invariant-loop decreases-loop
-loop-less c = search rules
+loop-k-smaller : tie.Need-loop-k-smaller invariant-loop-k decreases-loop-k
+loop-k-smaller c = search rules
 
-loop-again : tie.Need-loop-preserved invariant-loop decreases-loop
-loop-again c = let h = c.before.before in filled_turn _ _ _ h.loop.invariant (omega arith) _ (c.choose.ensures ∙ over_at _ _ _)
+loop-k-preserved : tie.Need-loop-k-preserved invariant-loop-k decreases-loop-k
+loop-k-preserved c = filled_turn _ _ _ c.loop-k.invariant (omega arith) _ (c.choose.ensures ∙ over_at _ _ _)
 
-returns : tie.Need-returns invariant-loop decreases-loop
-returns c = let h = c.before in over_end _ _ _ _ (search rules) h.loop.invariant (omega arith)
+returns : tie.Need-returns invariant-loop-k decreases-loop-k
+returns c = over_end _ _ _ _ (search rules) c.loop-k.invariant (omega arith)
 
-pub laid-spec : {M : Type 1} → statement M
-laid-spec =
-    tie.close
-    (tie.spec
-    invariant-loop
-    decreases-loop
-    loop-holds
-    array-read-choose
-    array-read-choose-2
-    array-read-choose-3
-    choose-requires
-    array-write-r
-    add-k
-    loop-less
-    loop-again
-    returns)
+pub laid_spec : {M : Type 1} → statement M
+laid_spec = tie.close (tie.spec invariant-loop-k decreases-loop-k loop-k-init bounds-new-k bounds-old-k bounds-new-k-in-loop-k choose-requires bounds-r-k overflow_add-k loop-k-smaller loop-k-preserved returns)

@@ -9,68 +9,51 @@ use Rattle.state.proofs.Choosing.{Filled, filled_start, filled_turn, placed_at, 
 use Rattle.state.proofs.placed.Statement.{statement}
 use Rattle.state.proofs.placed.Tie as tie
 
-abbrev invariant-loop : tie.invariant-loop
-invariant-loop f values x n₀ r₀ k₀ n r k = (n ≡ 64 - f / 64 + k) × Filled (values_of (set values (f / 64) (f % 64))) r k
+abbrev invariant-loop-k : tie.invariant-loop-k
+invariant-loop-k f values x n₀ r₀ k₀ n r k = (n ≡ 64 - f / 64 + k) × Filled (values_of (set values (f / 64) (f % 64))) r k
 
-abbrev decreases-loop : tie.decreases-loop
-decreases-loop f values x n₀ r₀ k₀ n r k = 64 - k
+abbrev decreases-loop-k : tie.decreases-loop-k
+decreases-loop-k f values x n₀ r₀ k₀ n r k = 64 - k
 
-cast-x : tie.Need-overflow-cast-x invariant-loop decreases-loop
-cast-x c = search rules
+overflow_cast-x : tie.Need-overflow_cast-x invariant-loop-k decreases-loop-k
+overflow_cast-x c = search rules
 
-cast-n : tie.Need-overflow-cast-n invariant-loop decreases-loop
-cast-n c = search rules
+overflow_cast-n : tie.Need-overflow_cast-n invariant-loop-k decreases-loop-k
+overflow_cast-n c = search rules
 
-sub-n : tie.Need-overflow-sub-n invariant-loop decreases-loop
-sub-n c = search rules
+overflow_sub-n : tie.Need-overflow_sub-n invariant-loop-k decreases-loop-k
+overflow_sub-n c = search rules
 
-loop-holds : tie.Need-loop-init invariant-loop decreases-loop
-loop-holds c = (omega arith, filled_start _ _ (search rules))
+loop-k-init : tie.Need-loop-k-init invariant-loop-k decreases-loop-k
+loop-k-init c = (omega arith, filled_start _ _ (search rules))
 
-array-read-choose : tie.Need-array-read-choose invariant-loop decreases-loop
-array-read-choose c = search rules
+bounds-values-k : tie.Need-bounds-values-k invariant-loop-k decreases-loop-k
+bounds-values-k c = search rules
 
-choose-requires : tie.Need-choose-requires invariant-loop decreases-loop
+choose-requires : tie.Need-choose-requires invariant-loop-k decreases-loop-k
 choose-requires c κs = search rules
 
-array-write-r : tie.Need-array-write-r invariant-loop decreases-loop
-array-write-r c = search rules
+bounds-r-k : tie.Need-bounds-r-k invariant-loop-k decreases-loop-k
+bounds-r-k c = search rules
 
-add-n : tie.Need-overflow-add-n invariant-loop decreases-loop
-add-n c = omega (arith, c.before.before.loop.invariant.0)
+overflow_add-n : tie.Need-overflow_add-n invariant-loop-k decreases-loop-k
+overflow_add-n c = omega (arith, c.loop-k.invariant.0)
 
-add-k : tie.Need-overflow-add-k invariant-loop decreases-loop
-add-k c = search rules
+overflow_add-k : tie.Need-overflow_add-k invariant-loop-k decreases-loop-k
+overflow_add-k c = search rules
 
-loop-less : tie.Need-loop-smaller invariant-loop decreases-loop
-loop-less c = search rules
+loop-k-smaller : tie.Need-loop-k-smaller invariant-loop-k decreases-loop-k
+loop-k-smaller c = search rules
 
-loop-again : tie.Need-loop-preserved invariant-loop decreases-loop
-loop-again c =
-    let h = c.before.before in
-    let I = h.loop.invariant in (
+loop-k-preserved : tie.Need-loop-k-preserved invariant-loop-k decreases-loop-k
+loop-k-preserved c =
+    let I = c.loop-k.invariant in (
       omega (arith, I.0),
-      filled_turn _ _ _ I.1 (omega arith) _ (c.choose.ensures ∙ placed_at h.before.args.t1 _ _ _ _ (search rules) (omega (arith, h.before.requires)) I.0),
+      filled_turn _ _ _ I.1 (omega arith) _ (c.choose.ensures ∙ placed_at c.args.t1 _ _ _ _ (search rules) (omega (arith, c.requires)) I.0),
     )
 
-returns : tie.Need-returns invariant-loop decreases-loop
-returns c = let h = c.before in placed_end h.before.args.t1 _ _ _ _ (search rules) h.loop.invariant.1 (omega arith)
+returns : tie.Need-returns invariant-loop-k decreases-loop-k
+returns c = placed_end c.args.t1 _ _ _ _ (search rules) c.loop-k.invariant.1 (omega arith)
 
-pub placed-spec : {M : Type 1} → statement M
-placed-spec =
-    tie.close
-    (tie.spec
-    invariant-loop
-    decreases-loop
-    cast-x
-    cast-n
-    sub-n
-    loop-holds
-    array-read-choose
-    choose-requires
-    array-write-r
-    add-n
-    add-k
-    loop-less
-    loop-again
-    returns)
+pub placed_spec : {M : Type 1} → statement M
+placed_spec = tie.close (tie.spec invariant-loop-k decreases-loop-k overflow_cast-x overflow_cast-n overflow_sub-n loop-k-init bounds-values-k choose-requires bounds-r-k overflow_add-n overflow_add-k loop-k-smaller loop-k-preserved returns)

@@ -6,21 +6,21 @@ use borrow.Author.Rules.{rules}
 use Rattle.unpack.proofs.first_four.Statement.{statement}
 use Rattle.unpack.proofs.first_four.Tie as tie
 
-long-word-requires : tie.Need-long-word-requires
-long-word-requires c κs = search rules
+long_word-requires : tie.Need-long_word-requires
+long_word-requires c κs = search rules
+
+returns-then-mark-eq0 : tie.Need-returns-then-mark-eq0
+returns-then-mark-eq0 c =
+    let a = c.args in
+    (bits_front a.bytes.now (a.at * 8) 64 _ (5 + 4 * (a.mark + 10)) 19 c.long_word.ensures (omega arith), omega arith)
+
+long_word-requires-2 : tie.Need-long_word-requires-2
+long_word-requires-2 c κs = search rules
 
 returns : tie.Need-returns
 returns c =
-    let a = c.before.before.before.args in
-    (bits_front a.bytes.now (a.at * 8) 64 _ (5 + 4 * (a.mark + 10)) 19 c.long-word.ensures (omega arith), omega arith)
+    let a = c.args in
+    (bits_front a.bytes.now (a.at * 8) 64 _ (5 + 4 * (a.mark + 10)) 15 c.long_word-2.ensures (omega arith), omega arith)
 
-long-word-requires-2 : tie.Need-long-word-requires-2
-long-word-requires-2 c κs = search rules
-
-returns-2 : tie.Need-returns-2
-returns-2 c =
-    let a = c.before.before.before.args in
-    (bits_front a.bytes.now (a.at * 8) 64 _ (5 + 4 * (a.mark + 10)) 15 c.long-word2.ensures (omega arith), omega arith)
-
-pub first-four-spec : {M : Type 1} → statement M
-first-four-spec = tie.close (tie.spec long-word-requires returns long-word-requires-2 returns-2)
+pub first_four_spec : {M : Type 1} → statement M
+first_four_spec = tie.close (tie.spec long_word-requires returns-then-mark-eq0 long_word-requires-2 returns)

@@ -12,83 +12,65 @@ use Rattle.laws.proofs.Fields.{bits_at_below}
 use Rattle.unpack.proofs.read_each.Statement.{statement}
 use Rattle.unpack.proofs.read_each.Tie as tie
 
-abbrev invariant-loop : tie.invariant-loop
-invariant-loop bytes mark from steps list₀ i₀ list i =
+abbrev invariant-loop-i : tie.invariant-loop-i
+invariant-loop-i bytes mark from steps list₀ i₀ list i =
     Copying (step_at bytes mark) (mark + 10) steps (take from list₀ ++ row (step_at bytes mark) (mark + 10) (53 + (mark + 10) * from) (steps - from)) list₀ list i
 
-abbrev decreases-loop : tie.decreases-loop
-decreases-loop bytes mark from steps list₀ i₀ list i = steps - i
+abbrev decreases-loop-i : tie.decreases-loop-i
+decreases-loop-i bytes mark from steps list₀ i₀ list i = steps - i
 
-loop-holds : tie.Need-loop-init invariant-loop decreases-loop
-loop-holds c = copying_start _ _ _ _ _ (omega arith) (omega arith)
+loop-i-init : tie.Need-loop-i-init invariant-loop-i decreases-loop-i
+loop-i-init c = copying_start _ _ _ _ _ (omega arith) (omega arith)
 
-add-read-bits : tie.Need-overflow-add-read-bits invariant-loop decreases-loop
-add-read-bits c = search rules
+overflow_add-mark : tie.Need-overflow_add-mark invariant-loop-i decreases-loop-i
+overflow_add-mark c = search rules
 
-few : (c : tie.In-loop invariant-loop decreases-loop) → c.before.before.before.before.args.mark * c.before.loop.i ≤ 32768
+few : (c : tie.In-loop-i invariant-loop-i decreases-loop-i) → c.args.mark * c.loop-i.i ≤ 32768
 few c = marks_few _ _ (omega arith) (omega arith)
 
-mul-read-bits : tie.Need-overflow-mul-read-bits invariant-loop decreases-loop
-mul-read-bits c = omega (arith, few c)
+overflow_mul-mark : tie.Need-overflow_mul-mark invariant-loop-i decreases-loop-i
+overflow_mul-mark c = omega (arith, few c)
 
-add-read-bits-2 : tie.Need-overflow-add-read-bits-2 invariant-loop decreases-loop
-add-read-bits-2 c = omega (arith, few c)
+overflow_add-mark-in-loop-i : tie.Need-overflow_add-mark-in-loop-i invariant-loop-i decreases-loop-i
+overflow_add-mark-in-loop-i c = omega (arith, few c)
 
-add-read-bits-3 : tie.Need-overflow-add-read-bits-3 invariant-loop decreases-loop
-add-read-bits-3 c = omega (arith, few c)
+overflow_add-mark-in-loop-i-2 : tie.Need-overflow_add-mark-in-loop-i-2 invariant-loop-i decreases-loop-i
+overflow_add-mark-in-loop-i-2 c = omega (arith, few c)
 
-read-bits-requires : tie.Need-read-bits-requires invariant-loop decreases-loop
-read-bits-requires c κs =
-    let a = c.before.before.before.before.args in
-    let l : c.before.loop.i + 1 ≤ a.steps = omega arith in
+read_bits-requires : tie.Need-read_bits-requires invariant-loop-i decreases-loop-i
+read_bits-requires c κs =
+    let a = c.args in
+    let l : c.loop-i.i + 1 ≤ a.steps = omega arith in
     let m = mul-le-mul_left a.mark l in
     (omega (arith, m), omega arith, omega (arith, few c))
 
-ten : (c : tie.After-read-bits invariant-loop decreases-loop) → c.read-bits.result < 2 ^ 10
-ten c = rw c.read-bits.ensures (bits_at_below _ _ 10)
+ten : (c : tie.After-read_bits invariant-loop-i decreases-loop-i) → c.read_bits.result < 2 ^ 10
+ten c = rw c.read_bits.ensures (bits_at_below _ _ 10)
 
-cast-list : tie.Need-overflow-cast-list invariant-loop decreases-loop
-cast-list c = omega (arith, ten c)
+overflow_cast-list : tie.Need-overflow_cast-list invariant-loop-i decreases-loop-i
+overflow_cast-list c = omega (arith, ten c)
 
-mul-list : tie.Need-overflow-mul-list invariant-loop decreases-loop
-mul-list c = search rules
+offset_bounds-list-i : tie.Need-offset_bounds-list-i invariant-loop-i decreases-loop-i
+offset_bounds-list-i c = search rules
 
-slice-write-list : tie.Need-slice-write-list invariant-loop decreases-loop
-slice-write-list c = search rules
+bounds-list-i : tie.Need-bounds-list-i invariant-loop-i decreases-loop-i
+bounds-list-i c = search rules
 
-add-i : tie.Need-overflow-add-i invariant-loop decreases-loop
-add-i c = search rules
+overflow_add-i : tie.Need-overflow_add-i invariant-loop-i decreases-loop-i
+overflow_add-i c = search rules
 
-loop-less : tie.Need-loop-smaller invariant-loop decreases-loop
-loop-less c = search rules
+loop-i-smaller : tie.Need-loop-i-smaller invariant-loop-i decreases-loop-i
+loop-i-smaller c = search rules
 
-loop-again : tie.Need-loop-preserved invariant-loop decreases-loop
-loop-again c = copying_one _ _ _ _ _ _ _ c.before.before.loop.invariant _ (omega arith) c.read-bits.ensures
+loop-i-preserved : tie.Need-loop-i-preserved invariant-loop-i decreases-loop-i
+loop-i-preserved c = copying_one _ _ _ _ _ _ _ c.loop-i.invariant _ (omega arith) c.read_bits.ensures
 
-same_length : tie.Need-same-length invariant-loop decreases-loop
-same_length c = search rules
+shape_of-list : tie.Need-shape_of-list invariant-loop-i decreases-loop-i
+shape_of-list c = search rules
 
-returns : tie.Need-returns invariant-loop decreases-loop
+returns : tie.Need-returns invariant-loop-i decreases-loop-i
 returns c =
-    rw (steps_at_row) (copying_end _ _ _ _ _ _ _ c.before.loop.invariant (omega arith))
+    rw (steps_at_row) (copying_end _ _ _ _ _ _ _ c.loop-i.invariant (omega arith))
 
-pub read-each-spec : {M : Type 1} → statement M
-read-each-spec =
-    tie.close
-    (tie.spec
-    invariant-loop
-    decreases-loop
-    loop-holds
-    add-read-bits
-    mul-read-bits
-    add-read-bits-2
-    add-read-bits-3
-    read-bits-requires
-    cast-list
-    mul-list
-    slice-write-list
-    add-i
-    loop-less
-    loop-again
-    same_length
-    returns)
+pub read_each_spec : {M : Type 1} → statement M
+read_each_spec = tie.close (tie.spec invariant-loop-i decreases-loop-i loop-i-init overflow_add-mark overflow_mul-mark overflow_add-mark-in-loop-i overflow_add-mark-in-loop-i-2 read_bits-requires overflow_cast-list offset_bounds-list-i bounds-list-i overflow_add-i loop-i-smaller loop-i-preserved shape_of-list returns)

@@ -10,64 +10,49 @@ use Rattle.laws.proofs.Fields.{bits_at_below}
 use Rattle.unpack.proofs.read_each_mark.Statement.{statement}
 use Rattle.unpack.proofs.read_each_mark.Tie as tie
 
-abbrev invariant-loop : tie.invariant-loop
-invariant-loop bytes from steps marks₀ i₀ marks i =
+abbrev invariant-loop-i : tie.invariant-loop-i
+invariant-loop-i bytes from steps marks₀ i₀ marks i =
     Copying (mark_at bytes 1) 11 steps (take from marks₀ ++ row (mark_at bytes 1) 11 (53 + 11 * from) (steps - from)) marks₀ marks i
 
-abbrev decreases-loop : tie.decreases-loop
-decreases-loop bytes from steps marks₀ i₀ marks i = steps - i
+abbrev decreases-loop-i : tie.decreases-loop-i
+decreases-loop-i bytes from steps marks₀ i₀ marks i = steps - i
 
-loop-holds : tie.Need-loop-init invariant-loop decreases-loop
-loop-holds c = copying_start _ _ _ _ _ (omega arith) (omega arith)
+loop-i-init : tie.Need-loop-i-init invariant-loop-i decreases-loop-i
+loop-i-init c = copying_start _ _ _ _ _ (omega arith) (omega arith)
 
-mul-read-bits : tie.Need-overflow-mul-read-bits invariant-loop decreases-loop
-mul-read-bits c = search rules
+overflow_mul-i : tie.Need-overflow_mul-i invariant-loop-i decreases-loop-i
+overflow_mul-i c = search rules
 
-add-read-bits : tie.Need-overflow-add-read-bits invariant-loop decreases-loop
-add-read-bits c = search rules
+overflow_add-i : tie.Need-overflow_add-i invariant-loop-i decreases-loop-i
+overflow_add-i c = search rules
 
-read-bits-requires : tie.Need-read-bits-requires invariant-loop decreases-loop
-read-bits-requires c κs = search rules
+read_bits-requires : tie.Need-read_bits-requires invariant-loop-i decreases-loop-i
+read_bits-requires c κs = search rules
 
-one : (c : tie.After-read-bits invariant-loop decreases-loop) → c.read-bits.result < 2 ^ 1
-one c = rw c.read-bits.ensures (bits_at_below _ _ 1)
+one : (c : tie.After-read_bits invariant-loop-i decreases-loop-i) → c.read_bits.result < 2 ^ 1
+one c = rw c.read_bits.ensures (bits_at_below _ _ 1)
 
-cast-marks : tie.Need-overflow-cast-marks invariant-loop decreases-loop
-cast-marks c = omega (arith, one c)
+overflow_cast-marks : tie.Need-overflow_cast-marks invariant-loop-i decreases-loop-i
+overflow_cast-marks c = omega (arith, one c)
 
-slice-write-marks : tie.Need-slice-write-marks invariant-loop decreases-loop
-slice-write-marks c = search rules
+bounds-marks-i : tie.Need-bounds-marks-i invariant-loop-i decreases-loop-i
+bounds-marks-i c = search rules
 
-add-i : tie.Need-overflow-add-i invariant-loop decreases-loop
-add-i c = search rules
+overflow_add-i-in-loop-i : tie.Need-overflow_add-i-in-loop-i invariant-loop-i decreases-loop-i
+overflow_add-i-in-loop-i c = search rules
 
-loop-less : tie.Need-loop-smaller invariant-loop decreases-loop
-loop-less c = search rules
+loop-i-smaller : tie.Need-loop-i-smaller invariant-loop-i decreases-loop-i
+loop-i-smaller c = search rules
 
-loop-again : tie.Need-loop-preserved invariant-loop decreases-loop
-loop-again c = copying_one _ _ _ _ _ _ _ c.before.before.loop.invariant _ (omega arith) c.read-bits.ensures
+loop-i-preserved : tie.Need-loop-i-preserved invariant-loop-i decreases-loop-i
+loop-i-preserved c = copying_one _ _ _ _ _ _ _ c.loop-i.invariant _ (omega arith) c.read_bits.ensures
 
-same_length : tie.Need-same-length invariant-loop decreases-loop
-same_length c = search rules
+shape_of-marks : tie.Need-shape_of-marks invariant-loop-i decreases-loop-i
+shape_of-marks c = search rules
 
-returns : tie.Need-returns invariant-loop decreases-loop
+returns : tie.Need-returns invariant-loop-i decreases-loop-i
 returns c =
-    rw (marks_at_row) (copying_end _ _ _ _ _ _ _ c.before.loop.invariant (omega arith))
+    rw (marks_at_row) (copying_end _ _ _ _ _ _ _ c.loop-i.invariant (omega arith))
 
-pub read-each-mark-spec : {M : Type 1} → statement M
-read-each-mark-spec =
-    tie.close
-    (tie.spec
-    invariant-loop
-    decreases-loop
-    loop-holds
-    mul-read-bits
-    add-read-bits
-    read-bits-requires
-    cast-marks
-    slice-write-marks
-    add-i
-    loop-less
-    loop-again
-    same_length
-    returns)
+pub read_each_mark_spec : {M : Type 1} → statement M
+read_each_mark_spec = tie.close (tie.spec invariant-loop-i decreases-loop-i loop-i-init overflow_mul-i overflow_add-i read_bits-requires overflow_cast-marks bounds-marks-i overflow_add-i-in-loop-i loop-i-smaller loop-i-preserved shape_of-marks returns)

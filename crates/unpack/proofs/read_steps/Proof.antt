@@ -4,17 +4,17 @@ use borrow.Author.Rules.{rules}
 use Rattle.unpack.proofs.read_steps.Statement.{statement}
 use Rattle.unpack.proofs.read_steps.Tie as tie
 
-read-eights-requires : tie.Need-read-eights-requires
-read-eights-requires c κs = search rules
+read_eights-i-requires : tie.Need-read_eights-i-requires
+read_eights-i-requires c κs = search rules
 
-read-each-requires : tie.Need-read-each-requires
-read-each-requires c κs = search rules
+read_each-requires : tie.Need-read_each-requires
+read_each-requires c κs = search rules
 
-same_length : tie.Need-same-length
-same_length c = search rules
+shape_of-list : tie.Need-shape_of-list
+shape_of-list c = search rules
 
 returns : tie.Need-returns
-returns c = let at_each = c.before.before in at_each.read-each.ensures ∙ sym at_each.before.before.before.before.read-eights.ensures.1
+returns c = c.read_each.ensures ∙ sym c.read_eights-i.ensures.1
 
-pub read-steps-spec : {M : Type 1} → statement M
-read-steps-spec = tie.close (tie.spec read-eights-requires read-each-requires same_length returns)
+pub read_steps_spec : {M : Type 1} → statement M
+read_steps_spec = tie.close (tie.spec read_eights-i-requires read_each-requires shape_of-list returns)

@@ -19,127 +19,100 @@ use Rattle.sheet.proofs.Widths.{step_bits_suc, sheet_size_suc}
 use Rattle.writer.proofs.write.Statement.{statement}
 use Rattle.writer.proofs.write.Tie as tie
 
-abbrev known-told-to-start : tie.After-known-told → tie.Start
-known-told-to-start c = c.before.before.before.before.before.before.before
+abbrev known_told_to_start : tie.In-Value → tie.Start
+known_told_to_start c = c.before.before.before.before.before
 
-abbrev steps-to-mark : tie.After-write-steps → tie.After-mark-width
-steps-to-mark c = c.before.before.before.before.before.before.before
+abbrev steps_to_mark : tie.After-write_steps → tie.After-mark_width-mark
+steps_to_mark c = c.before.before.before.before.before.before.before
 
 abbrev given : tie.Start → Sheet
 given o = sheet o.args.edition o.args.list.now o.args.marks.now o.args.cost o.args.real
 
-called : (c : tie.After-known-told) → write_call (given (known-told-to-start c)) (length (known-told-to-start c).args.bytes.now) ≡ done c.before.a.given.0.0
-called c = let o = (known-told-to-start c).args in sym (c.before.before.before.size_for_lem.ensures o.marks.now o.cost o.real) ∙ ap value_of c.before.a.given.1
+called : (c : tie.In-Value) → write_call (given c.before.before.before.before.before) (length c.args.bytes.now) ≡ done c.in-Value.n
+called c = let o = c.args in sym (c.size_for-a.ensures o.marks.now o.cost o.real) ∙ ap value_of c.in-Value.is
 
-fit : (c : tie.After-known-told) → Fitting (given (known-told-to-start c)) (length (known-told-to-start c).args.bytes.now) c.before.a.given.0.0
+fit : (c : tie.In-Value) → Fitting (given c.before.before.before.before.before) (length c.args.bytes.now) c.in-Value.n
 fit c = fitting _ _ _ (called c)
 
 -- no write changes the count of bytes
-kept : (c : tie.After-write-steps)
-    → length c.write-steps.new.1.1.1.1.1.0 ≡ length (known-told-to-start (steps-to-mark c).before).args.bytes.now
+kept : (c : tie.After-write_steps)
+    → length c.write_steps.new.bytes ≡ length c.args.bytes.now
 kept c = search rules
 
 -- a sheet has seven bytes at least
-seven : (c : tie.After-known-told) → 7 ≤ length (known-told-to-start c).args.bytes.now
+seven : (c : tie.In-Value) → 7 ≤ length c.args.bytes.now
 unfolding sheet_size sheet_end
 seven c = omega (arith, (fit c).room)
 
-size-for-requires : tie.Need-size-for-requires
-size-for-requires c κs = search rules
+size_for-a-requires : tie.Need-size_for-a-requires
+size_for-a-requires c κs = search rules
 
-enum-known-a : tie.Need-enum-known-a
-enum-known-a c = search rules
+enum_known-a : tie.Need-enum_known-a
+enum_known-a c = search rules
 
-enum_told : tie.Need-enum-told
-enum_told c = search rules
+enum_told-1 : tie.Need-enum_told-1
+enum_told-1 c = search rules
 
 clear-requires : tie.Need-clear-requires
 clear-requires c κs = search rules
 
-same_length : tie.Need-same-length
-same_length c = search rules
+shape_of-bytes-in_default : tie.Need-shape_of-bytes-in_default
+shape_of-bytes-in_default c = search rules
 
-returns : tie.Need-returns
-returns c =
-    let at-enum-told = c.before.before.before.before in
-    let o = at-enum-told.before.before.before.before.before.before in
-    let w = at-enum-told.before.before.size_for_lem.ensures o.args.marks.now o.args.cost o.args.real in
-    let t = sym w ∙ ap value_of at-enum-told.enum_told.given.1 in
-    let p = write_refused (given o) (length o.args.bytes.now) _ _ _ t c.before.before.clear.ensures in
+returns-in_default : tie.Need-returns-in_default
+returns-in_default c =
+    let w = c.size_for-a.ensures c.args.marks.now c.args.cost c.args.real in
+    let t = sym w ∙ ap value_of c.in_default.is in
+    let p = write_refused (given c.before.before.before.before.before.before.before.before.before) (length c.args.bytes.now) _ _ _ t c.clear.ensures in
     (w, (p.0, λ n h. p.1 n (sym w ∙ h)))
 
-cast-size : tie.Need-overflow-cast-size
-cast-size c = search rules
+overflow_cast-size : tie.Need-overflow_cast-size
+overflow_cast-size c = search rules
 
-mark-width-requires : tie.Need-mark-width-requires
-mark-width-requires c κs = search rules
+mark_width-mark-requires : tie.Need-mark_width-mark-requires
+mark_width-mark-requires c κs = search rules
 
-cast-front : tie.Need-overflow-cast-front
-cast-front c = omega (arith, (fit c.before).short)
+overflow_cast-list : tie.Need-overflow_cast-list
+overflow_cast-list c = omega (arith, (fit c.before).short)
 
-front-requires : tie.Need-front-requires
-front-requires c κs = search rules
+front-head-requires : tie.Need-front-head-requires
+front-head-requires c κs = search rules
 
-write-bits-requires : tie.Need-write-bits-requires
-write-bits-requires c κs = (omega (arith, seven c.before.before.before), omega arith, omega arith)
+write_bits-requires : tie.Need-write_bits-requires
+write_bits-requires c κs = (omega (arith, seven c.before.before.before), omega arith, omega arith)
 
-write-steps-requires : tie.Need-write-steps-requires
-write-steps-requires c κs =
-    let at_mark = c.before.before.before.before.before.before in
-    let o = known-told-to-start at_mark.before in
-    let f = fit at_mark.before in
-    let e = at_mark.mark-width.ensures in (
+write_steps-requires : tie.Need-write_steps-requires
+write_steps-requires c κs =
+    let f = fit c.before.before.before.before.before.before.before in
+    let e = c.mark_width-mark.ensures in (
       e.1,
       all_below_lem 1024 0 _ (omega arith) f.below,
       f.short,
-      f.size ∙ sym (rw e.0 (sheet_size_suc o.args.edition (length o.args.list.now))),
+      f.size ∙ sym (rw e.0 (sheet_size_suc c.args.edition (length c.args.list.now))),
       omega (arith, f.room, f.size),
     )
 
-clear-from-requires : tie.Need-clear-from-requires
-clear-from-requires c κs = search rules
+clear_from-requires : tie.Need-clear_from-requires
+clear_from-requires c κs = search rules
 
-same-length-2 : tie.Need-same-length-2
-same-length-2 c = search rules
+shape_of-bytes : tie.Need-shape_of-bytes
+shape_of-bytes c = search rules
 
-returns-2 : tie.Need-returns-2
+returns : tie.Need-returns
 unfolding edition_of
-returns-2 c =
-    let at-steps = c.before.before.before.before.before.before in
-    let at_bits = at-steps.before.before.before.before in
-    let at_front = at_bits.before.before in
-    let at_mark = steps-to-mark at-steps in
-    let told = at_mark.before in
-    let o = known-told-to-start told in
-    let x = given o in
-    let k = told.before.a.given.0.0 in
-    let d = at-steps.write-steps.new.1.1.1.1.1.0 in
-    let w = called told in
-    let m = at_mark.mark-width.ensures.0 in
-    let l : length d ≡ length o.args.bytes.now = kept at-steps in
+returns c =
+    let x = given c.before.before.before.before.before.before.before.before.before.before.before.before.before.before.before.before.before.before.before in
+    let k = c.in-Value.n in
+    let d = c.write_steps.new.bytes in
+    let w = called c.before.before.before.before.before.before.before.before.before.before.before.before.before.before in
+    let m = c.mark_width-mark.ensures.0 in
+    let l : length d ≡ length c.args.bytes.now = kept c.before.before.before.before.before.before in
     let b : take k d ≡ sheet_bytes x =
-    sheet_written x _ k o.args.bytes.now _ d (rw m at at_front.front.ensures) (fit told).size at_bits.write-bits.ensures
-    (rw (m, step_bits_suc o.args.edition) at at-steps.write-steps.ensures) in
-    let z : take k d ++ replicate (length d - k) 0 ≡ sheet_bytes x ++ replicate (length o.args.bytes.now - k) 0 = rw (b, l) refl in
-    let p = write_done x (length o.args.bytes.now) _ k w (omega arith) (c.before.before.clear-from.ensures ∙ z) in
+    sheet_written x _ k c.args.bytes.now _ d (rw m at c.front-head.ensures) (fit c.before.before.before.before.before.before.before.before.before.before.before.before.before.before).size c.write_bits.ensures
+    (rw (m, step_bits_suc c.args.edition) at c.write_steps.ensures) in
+    let z : take k d ++ replicate (length d - k) 0 ≡ sheet_bytes x ++ replicate (length c.args.bytes.now - k) 0 = rw (b, l) refl in
+    let p = write_done x (length c.args.bytes.now) _ k w (omega arith) (c.clear_from.ensures ∙ z) in
     (sym w, (p.0, λ n h. p.1 n (w ∙ h)))
 
 pub write_spec : {M : Type 1} → statement M
-write_spec =
-    tie.close
-    (tie.spec
-    size-for-requires
-    enum-known-a
-    enum_told
-    clear-requires
-    same_length
-    returns
-    cast-size
-    mark-width-requires
-    cast-front
-    front-requires
-    write-bits-requires
-    write-steps-requires
-    clear-from-requires
-    same-length-2
-    returns-2)
+write_spec = tie.close (tie.spec size_for-a-requires enum_known-a enum_told-1 clear-requires shape_of-bytes-in_default returns-in_default overflow_cast-size mark_width-mark-requires overflow_cast-list front-head-requires write_bits-requires write_steps-requires clear_from-requires shape_of-bytes returns)

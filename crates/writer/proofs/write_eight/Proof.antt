@@ -4,45 +4,32 @@ use borrow.Author.Rules.{rules}
 use Rattle.writer.proofs.write_eight.Statement.{statement}
 use Rattle.writer.proofs.write_eight.Tie as tie
 
-first-word-requires : tie.Need-first-word-requires
-first-word-requires c κs = search rules
+first_word-requires : tie.Need-first_word-requires
+first_word-requires c κs = search rules
 
-put-word-requires : tie.Need-put-word-requires
-put-word-requires c κs = search rules
+put_word-requires : tie.Need-put_word-requires
+put_word-requires c κs = search rules
 
-add-put-word : tie.Need-overflow-add-put-word
-add-put-word c = search rules
+overflow_add-at : tie.Need-overflow_add-at
+overflow_add-at c = search rules
 
-add-put-word-2 : tie.Need-overflow-add-put-word-2
-add-put-word-2 c = search rules
+overflow_add-at-2 : tie.Need-overflow_add-at-2
+overflow_add-at-2 c = search rules
 
-second-word-requires : tie.Need-second-word-requires
-second-word-requires c κs = search rules
+second_word-requires : tie.Need-second_word-requires
+second_word-requires c κs = search rules
 
-put-word-requires-2 : tie.Need-put-word-requires-2
-put-word-requires-2 c κs = search rules
+put_word-requires-2 : tie.Need-put_word-requires-2
+put_word-requires-2 c κs = search rules
 
-same_length : tie.Need-same-length
-same_length c = search rules
+shape_of-bytes : tie.Need-shape_of-bytes
+shape_of-bytes c = search rules
 
 returns : tie.Need-returns
 returns c =
-    let at_second = c.before.before in
-    let at_first = at_second.before.before.before.before.before in
-    let o = at_first.before.before.before.before in
-    let a = o.args in
-    eight_written a.mark o.requires.0 a.five a.a a.b o.requires.3 o.requires.4 a.bytes.now _ _ a.at _ _
-    at_first.before.first_word.ensures at_second.before.second_word.ensures (search rules) o.requires.1 at_first.put_word.ensures at_second.put-word2.ensures
+    let a = c.args in
+    eight_written a.mark c.requires.0 a.five a.a a.b c.requires.3 c.requires.4 a.bytes.now _ _ a.at _ _
+    c.first_word.ensures c.second_word.ensures (search rules) c.requires.1 c.put_word.ensures c.put_word-2.ensures
 
-pub write-eight-spec : {M : Type 1} → statement M
-write-eight-spec =
-    tie.close
-    (tie.spec
-    first-word-requires
-    put-word-requires
-    add-put-word
-    add-put-word-2
-    second-word-requires
-    put-word-requires-2
-    same_length
-    returns)
+pub write_eight_spec : {M : Type 1} → statement M
+write_eight_spec = tie.close (tie.spec first_word-requires put_word-requires overflow_add-at overflow_add-at-2 second_word-requires put_word-requires-2 shape_of-bytes returns)

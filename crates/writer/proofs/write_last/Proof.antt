@@ -4,55 +4,39 @@ use borrow.Author.Rules.{rules}
 use Rattle.writer.proofs.write_last.Statement.{statement}
 use Rattle.writer.proofs.write_last.Tie as tie
 
-add-lesser : tie.Need-overflow-add-lesser
-add-lesser c = search rules
+overflow_add-mark : tie.Need-overflow_add-mark
+overflow_add-mark c = search rules
 
-lesser-requires : tie.Need-lesser-requires
-lesser-requires c κs = search rules
+lesser-n-requires : tie.Need-lesser-n-requires
+lesser-n-requires c κs = search rules
 
-first-word-requires : tie.Need-first-word-requires
-first-word-requires c κs = search rules
+first_word-requires : tie.Need-first_word-requires
+first_word-requires c κs = search rules
 
-write-bits-requires : tie.Need-write-bits-requires
-write-bits-requires c κs = search rules
+write_bits-requires : tie.Need-write_bits-requires
+write_bits-requires c κs = search rules
 
-add-write-bits : tie.Need-overflow-add-write-bits
-add-write-bits c = search rules
+overflow_add-at : tie.Need-overflow_add-at
+overflow_add-at c = search rules
 
-second-word-requires : tie.Need-second-word-requires
-second-word-requires c κs = search rules
+second_word-requires : tie.Need-second_word-requires
+second_word-requires c κs = search rules
 
-sub-write-bits : tie.Need-overflow-sub-write-bits
-sub-write-bits c = search rules
+overflow_sub-count : tie.Need-overflow_sub-count
+overflow_sub-count c = search rules
 
-write-bits-requires-2 : tie.Need-write-bits-requires-2
-write-bits-requires-2 c κs = search rules
+write_bits-requires-2 : tie.Need-write_bits-requires-2
+write_bits-requires-2 c κs = search rules
 
-same_length : tie.Need-same-length
-same_length c = search rules
+shape_of-bytes : tie.Need-shape_of-bytes
+shape_of-bytes c = search rules
 
 returns : tie.Need-returns
 returns c =
-    let at_second = c.before.before in
-    let at_first = at_second.before.before.before.before.before in
-    let at-lesser = at_first.before.before.before in
-    let o = at-lesser.before.before in
-    let a = o.args in
-    last_written a.mark o.requires.0 a.five a.a a.b o.requires.4 o.requires.5 a.bytes.now _ _ a.at _ _
-    at_first.before.first_word.ensures at_second.before.second_word.ensures (search rules) a.count _ at-lesser.lesser.ensures o.requires.1 o.requires.2
-    at_first.write-bits.ensures at_second.write-bits2.ensures
+    let a = c.args in
+    last_written a.mark c.requires.0 a.five a.a a.b c.requires.4 c.requires.5 a.bytes.now _ _ a.at _ _
+    c.first_word.ensures c.second_word.ensures (search rules) a.count _ c.lesser-n.ensures c.requires.1 c.requires.2
+    c.write_bits.ensures c.write_bits-2.ensures
 
-pub write-last-spec : {M : Type 1} → statement M
-write-last-spec =
-    tie.close
-    (tie.spec
-    add-lesser
-    lesser-requires
-    first-word-requires
-    write-bits-requires
-    add-write-bits
-    second-word-requires
-    sub-write-bits
-    write-bits-requires-2
-    same_length
-    returns)
+pub write_last_spec : {M : Type 1} → statement M
+write_last_spec = tie.close (tie.spec overflow_add-mark lesser-n-requires first_word-requires write_bits-requires overflow_add-at second_word-requires overflow_sub-count write_bits-requires-2 shape_of-bytes returns)

@@ -10,123 +10,88 @@ use lib.ListN.{length}
 use Rattle.writer.proofs.write_steps.Statement.{statement}
 use Rattle.writer.proofs.write_steps.Tie as tie
 
-abbrev invariant-loop : tie.invariant-loop
-invariant-loop list marks mark head size bytes₀ five₀ at₀ i₀ bytes five at i = Writing mark (entries (suc mark) list marks) head size bytes₀ bytes five at i
+abbrev invariant-loop-i : tie.invariant-loop-i
+invariant-loop-i list marks mark head size bytes₀ five₀ at₀ i₀ bytes five at i = Writing mark (entries (suc mark) list marks) head size bytes₀ bytes five at i
 
-abbrev decreases-loop : tie.decreases-loop
-decreases-loop list marks mark head size bytes₀ five₀ at₀ i₀ bytes five at i = length list - i
+abbrev decreases-loop-i : tie.decreases-loop-i
+decreases-loop-i list marks mark head size bytes₀ five₀ at₀ i₀ bytes five at i = length list - i
 
-abbrev from-loop : tie.At-loop invariant-loop decreases-loop → tie.Start invariant-loop decreases-loop
-from-loop c = c.before.before.before.before
+abbrev from_loop : tie.At-loop-i invariant-loop-i decreases-loop-i → tie.Start invariant-loop-i decreases-loop-i
+from_loop c = c.before.before.before.before
 
 -- as many entries as steps, and the size by them
-long : (c : tie.At-loop invariant-loop decreases-loop) → let a = (from-loop c).args in length (entries (suc a.mark) a.list.now a.marks.now) ≡ length a.list.now
+long : (c : tie.At-loop-i invariant-loop-i decreases-loop-i) → let a = c.args in length (entries (suc a.mark) a.list.now a.marks.now) ≡ length a.list.now
 long c = length_entries _ _ _
 
-sized : (c : tie.At-loop invariant-loop decreases-loop) → let a = (from-loop c).args in a.size ≡ (53 + (a.mark + 10) * length (entries (suc a.mark) a.list.now a.marks.now) + 7) / 8
-sized c = (from-loop c).requires.3 ∙ size_entries _ (from-loop c).requires.0 _ _
+sized : (c : tie.At-loop-i invariant-loop-i decreases-loop-i) → let a = c.args in a.size ≡ (53 + (a.mark + 10) * length (entries (suc a.mark) a.list.now a.marks.now) + 7) / 8
+sized c = c.requires.3 ∙ size_entries _ c.requires.0 _ _
 
-loop-holds : tie.Need-loop-init invariant-loop decreases-loop
-loop-holds c = writing_start _ _ _ _ _
+loop-i-init : tie.Need-loop-i-init invariant-loop-i decreases-loop-i
+loop-i-init c = writing_start _ _ _ _ _
 
-add-loop : tie.Need-overflow-add-loop invariant-loop decreases-loop
-add-loop c = omega (arith, long c)
+overflow_add-i : tie.Need-overflow_add-i invariant-loop-i decreases-loop-i
+overflow_add-i c = omega (arith, long c)
 
-eight-at-requires : tie.Need-eight-at-requires invariant-loop decreases-loop
-eight-at-requires c κs = search rules
+eight_at-e-requires : tie.Need-eight_at-e-requires invariant-loop-i decreases-loop-i
+eight_at-e-requires c κs = search rules
 
-write-eight-requires : tie.Need-write-eight-requires invariant-loop decreases-loop
-write-eight-requires c κs =
-    let at-eight = c.before in
-    let at-loop = at-eight.before.before in
-    let e = at-eight.eight-at.ensures in (
-      (from-loop at-loop).requires.0,
-      writing_room _ (from-loop at-loop).requires.0 _ _ _ _ _ _ _ _ at-loop.loop.invariant (sized at-loop) (from-loop at-loop).requires.4 (omega (arith, long at-loop)),
-      at-loop.loop.invariant.few,
+write_eight-requires : tie.Need-write_eight-requires invariant-loop-i decreases-loop-i
+write_eight-requires c κs =
+    let e = c.eight_at-e.ensures in (
+      c.requires.0,
+      writing_room _ c.requires.0 _ _ _ _ _ _ _ _ c.loop-i.invariant (sized c.before.before.before) c.requires.4 (omega (arith, long c.before.before.before)),
+      c.loop-i.invariant.few,
       e.0.1,
       e.1.1,
     )
 
-add_at : tie.Need-overflow-add-at invariant-loop decreases-loop
-add_at c = search rules
+overflow_add-at : tie.Need-overflow_add-at invariant-loop-i decreases-loop-i
+overflow_add-at c = search rules
 
-add-at-2 : tie.Need-overflow-add-at-2 invariant-loop decreases-loop
-add-at-2 c =
-    let at-loop = c.before.before.before.before.before.before.before in
-    omega (arith, writing_room _ (from-loop at-loop).requires.0 _ _ _ _ _ _ _ _ at-loop.loop.invariant (sized at-loop) (from-loop at-loop).requires.4 (omega (arith, long at-loop)))
+overflow_add-at-in-loop-i : tie.Need-overflow_add-at-in-loop-i invariant-loop-i decreases-loop-i
+overflow_add-at-in-loop-i c =
+    omega (arith, writing_room _ c.requires.0 _ _ _ _ _ _ _ _ c.loop-i.invariant (sized c.before.before.before.before.before.before.before) c.requires.4 (omega (arith, long c.before.before.before.before.before.before.before)))
 
-add-i : tie.Need-overflow-add-i invariant-loop decreases-loop
-add-i c = search rules
+overflow_add-i-in-loop-i : tie.Need-overflow_add-i-in-loop-i invariant-loop-i decreases-loop-i
+overflow_add-i-in-loop-i c = search rules
 
-loop-less : tie.Need-loop-smaller invariant-loop decreases-loop
-loop-less c = search rules
+loop-i-smaller : tie.Need-loop-i-smaller invariant-loop-i decreases-loop-i
+loop-i-smaller c = search rules
 
-loop-again : tie.Need-loop-preserved invariant-loop decreases-loop
-loop-again c =
-    let at-written = c.before.before.before in
-    let at-eight = at-written.before.before in
-    let at-loop = at-eight.before.before in
-    let o = from-loop at-loop in
-    let e = at-eight.eight-at.ensures in
-    writing_turn _ o.pre.0 _ _ _ _ _ _ _ _ at-loop.loop.invariant (sized at-loop) o.pre.4 (entries_fit _ o.pre.0 _ _ o.pre.1) _ _
-    e.0.0 e.1.0 e.0.1 e.1.1 _ (omega (arith, long at-loop)) (search rules) at-written.write-eight.ensures
+loop-i-preserved : tie.Need-loop-i-preserved invariant-loop-i decreases-loop-i
+loop-i-preserved c =
+    let e = c.eight_at-e.ensures in
+    writing_turn _ c.requires.0 _ _ _ _ _ _ _ _ c.loop-i.invariant (sized c.before.before.before.before.before.before.before) c.requires.4 (entries_fit _ c.requires.0 _ _ c.requires.1) _ _
+    e.0.0 e.1.0 e.0.1 e.1.1 _ (omega (arith, long c.before.before.before.before.before.before.before)) (search rules) c.write_eight.ensures
 
-any-four-requires : tie.Need-any-four-requires invariant-loop decreases-loop
-any-four-requires c κs = let at-loop = c.before in let o = from-loop at-loop in (o.pre.0, omega (arith, o.pre.2, at-loop.loop.invariant.passed, long at-loop), o.pre.1)
+any_four-a-requires : tie.Need-any_four-a-requires invariant-loop-i decreases-loop-i
+any_four-a-requires c κs = (c.requires.0, omega (arith, c.requires.2, c.loop-i.invariant.passed, long c.before), c.requires.1)
 
-add-any-four : tie.Need-overflow-add-any-four invariant-loop decreases-loop
-add-any-four c = let at-loop = c.before.before in omega (arith, (from-loop at-loop).requires.2, at-loop.loop.invariant.passed, long at-loop)
+overflow_add-i-2 : tie.Need-overflow_add-i-2 invariant-loop-i decreases-loop-i
+overflow_add-i-2 c = omega (arith, c.requires.2, c.loop-i.invariant.passed, long c.before.before)
 
-any-four-requires-2 : tie.Need-any-four-requires-2 invariant-loop decreases-loop
-any-four-requires-2 c κs = let at-loop = c.before.before in let o = from-loop at-loop in (o.pre.0, omega (arith, o.pre.2, at-loop.loop.invariant.passed, long at-loop), o.pre.1)
+any_four-b-requires : tie.Need-any_four-b-requires invariant-loop-i decreases-loop-i
+any_four-b-requires c κs = (c.requires.0, omega (arith, c.requires.2, c.loop-i.invariant.passed, long c.before.before), c.requires.1)
 
-sub-write-last : tie.Need-overflow-sub-write-last invariant-loop decreases-loop
-sub-write-last c =
-    let at-loop = c.before.before.before.before in
-    omega (arith, writing_last _ (from-loop at-loop).requires.0 _ _ _ _ _ _ _ _ at-loop.loop.invariant (sized at-loop) (from-loop at-loop).requires.4 (omega (arith, long at-loop)))
+overflow_sub-size : tie.Need-overflow_sub-size invariant-loop-i decreases-loop-i
+overflow_sub-size c =
+    omega (arith, writing_last _ c.requires.0 _ _ _ _ _ _ _ _ c.loop-i.invariant (sized c.before.before.before.before) c.requires.4 (omega (arith, long c.before.before.before.before)))
 
-write-last-requires : tie.Need-write-last-requires invariant-loop decreases-loop
-write-last-requires c κs =
-    let at_second = c.before in
-    let at-loop = at_second.before.before.before in
-    let o = from-loop at-loop in
-    let w = writing_last _ (from-loop at-loop).requires.0 _ _ _ _ _ _ _ _ at-loop.loop.invariant (sized at-loop) (from-loop at-loop).requires.4 (omega (arith, long at-loop)) in
-    (o.pre.0, w.1, omega (arith, w), at-loop.loop.invariant.few, at_second.before.any-four.ensures.1, at_second.any-four2.ensures.1)
+write_last-requires : tie.Need-write_last-requires invariant-loop-i decreases-loop-i
+write_last-requires c κs =
+    let w = writing_last _ c.requires.0 _ _ _ _ _ _ _ _ c.loop-i.invariant (sized c.before.before.before.before) c.requires.4 (omega (arith, long c.before.before.before.before)) in
+    (c.requires.0, w.1, omega (arith, w), c.loop-i.invariant.few, c.any_four-a.ensures.1, c.any_four-b.ensures.1)
 
-same_length : tie.Need-same-length invariant-loop decreases-loop
-same_length c = search rules
+shape_of-bytes : tie.Need-shape_of-bytes invariant-loop-i decreases-loop-i
+shape_of-bytes c = search rules
 
-returns : tie.Need-returns invariant-loop decreases-loop
+returns : tie.Need-returns invariant-loop-i decreases-loop-i
 returns c =
-    let at_last = c.before.before in
-    let at_second = at_last.before.before in
-    let a = at_second.before.any-four.ensures in
-    let b = at_second.any-four2.ensures in
-    let at-loop = at_second.before.before.before in
-    let o = from-loop at-loop in
-    rw (step_bits_fields o.args.mark o.pre.0 o.args.list.now o.args.marks.now o.pre.1)
-    (writing_end _ o.pre.0 _ _ _ _ _ _ _ _ at-loop.loop.invariant (sized at-loop) o.pre.4 (entries_fit _ o.pre.0 _ _ o.pre.1) _ _
-    a.0 b.0 a.1 b.1 _ (omega (arith, long at-loop)) at_last.write-last.ensures)
+    let a = c.any_four-a.ensures in
+    let b = c.any_four-b.ensures in
+    rw (step_bits_fields c.args.mark c.requires.0 c.args.list.now c.args.marks.now c.requires.1)
+    (writing_end _ c.requires.0 _ _ _ _ _ _ _ _ c.loop-i.invariant (sized c.before.before.before.before.before.before.before) c.requires.4 (entries_fit _ c.requires.0 _ _ c.requires.1) _ _
+    a.0 b.0 a.1 b.1 _ (omega (arith, long c.before.before.before.before.before.before.before)) c.write_last.ensures)
 
-pub write-steps-spec : {M : Type 1} → statement M
-write-steps-spec =
-    tie.close
-    (tie.spec
-    invariant-loop
-    decreases-loop
-    loop-holds
-    add-loop
-    eight-at-requires
-    write-eight-requires
-    add_at
-    add-at-2
-    add-i
-    loop-less
-    loop-again
-    any-four-requires
-    add-any-four
-    any-four-requires-2
-    sub-write-last
-    write-last-requires
-    same_length
-    returns)
+pub write_steps_spec : {M : Type 1} → statement M
+write_steps_spec = tie.close (tie.spec invariant-loop-i decreases-loop-i loop-i-init overflow_add-i eight_at-e-requires write_eight-requires overflow_add-at overflow_add-at-in-loop-i overflow_add-i-in-loop-i loop-i-smaller loop-i-preserved any_four-a-requires overflow_add-i-2 any_four-b-requires overflow_sub-size write_last-requires shape_of-bytes returns)

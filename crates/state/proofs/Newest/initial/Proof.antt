@@ -8,55 +8,42 @@ use Rattle.state.proofs.Renewing.{Placing, placing_start, placing_turn, placing_
 use Rattle.state.proofs.Newest.initial.Statement.{statement}
 use Rattle.state.proofs.Newest.initial.Tie as tie
 
-abbrev invariant-loop : tie.invariant-loop
-invariant-loop task n values₀ v₀ values v = Over (task_in task) n v × Placing (task_in task) values v
+abbrev invariant-loop-v : tie.invariant-loop-v
+invariant-loop-v task n values₀ v₀ values v = Over (task_in task) n v × Placing (task_in task) values v
 
-abbrev decreases-loop : tie.decreases-loop
-decreases-loop task n values₀ v₀ values v = n - v
+abbrev decreases-loop-v : tie.decreases-loop-v
+decreases-loop-v task n values₀ v₀ values v = n - v
 
-variables-requires : tie.Need-variables-requires invariant-loop decreases-loop
-variables-requires c κs = search rules
+variables-n-requires : tie.Need-variables-n-requires invariant-loop-v decreases-loop-v
+variables-n-requires c κs = search rules
 
-loop-holds : tie.Need-loop-init invariant-loop decreases-loop
-loop-holds c = (over_start _ _ c.before.before.requires.formed c.variables.ensures, placing_start _)
+loop-v-init : tie.Need-loop-v-init invariant-loop-v decreases-loop-v
+loop-v-init c = (over_start _ _ c.requires.formed c.variables-n.ensures, placing_start _)
 
-initial-requires : tie.Need-initial-requires invariant-loop decreases-loop
-initial-requires c κs = (c.before.before.before.before.requires, omega (arith, c.before.loop.invariant.0.all))
+initial-requires : tie.Need-initial-requires invariant-loop-v decreases-loop-v
+initial-requires c κs = (c.requires, omega (arith, c.loop-v.invariant.0.all))
 
-cast-values : tie.Need-overflow-cast-values invariant-loop decreases-loop
-cast-values c = omega (arith, init_small _ _ _ c.before.before.loop.invariant.0.formed c.initial.ensures)
+overflow_cast-values : tie.Need-overflow_cast-values invariant-loop-v decreases-loop-v
+overflow_cast-values c = omega (arith, init_small _ _ _ c.loop-v.invariant.0.formed c.initial.ensures)
 
-array-write-values : tie.Need-array-write-values invariant-loop decreases-loop
-array-write-values c = omega (arith, c.before.before.loop.invariant.0.most)
+bounds-values-v : tie.Need-bounds-values-v invariant-loop-v decreases-loop-v
+bounds-values-v c = omega (arith, c.loop-v.invariant.0.most)
 
-add-v : tie.Need-overflow-add-v invariant-loop decreases-loop
-add-v c = search rules
+overflow_step-v : tie.Need-overflow_step-v invariant-loop-v decreases-loop-v
+overflow_step-v c = search rules
 
-loop-less : tie.Need-loop-smaller invariant-loop decreases-loop
-loop-less c = search rules
+loop-v-smaller : tie.Need-loop-v-smaller invariant-loop-v decreases-loop-v
+loop-v-smaller c = search rules
 
-loop-again : tie.Need-loop-preserved invariant-loop decreases-loop
-loop-again c =
-    let I = c.before.before.loop.invariant in (
+loop-v-preserved : tie.Need-loop-v-preserved invariant-loop-v decreases-loop-v
+loop-v-preserved c =
+    let I = c.loop-v.invariant in (
       over_turn _ _ _ I.0 (omega arith),
       placing_turn _ _ _ _ I.0 I.1 (omega arith) _ c.initial.ensures,
     )
 
-returns : tie.Need-returns invariant-loop decreases-loop
-returns c = let I = c.before.loop.invariant in placing_end _ _ _ _ I.0 I.1 (omega arith)
+returns : tie.Need-returns invariant-loop-v decreases-loop-v
+returns c = let I = c.loop-v.invariant in placing_end _ _ _ _ I.0 I.1 (omega arith)
 
-pub initial-spec : {M : Type 1} → statement M
-initial-spec =
-    tie.close
-    (tie.spec
-    invariant-loop
-    decreases-loop
-    variables-requires
-    loop-holds
-    initial-requires
-    cast-values
-    array-write-values
-    add-v
-    loop-less
-    loop-again
-    returns)
+pub initial_spec : {M : Type 1} → statement M
+initial_spec = tie.close (tie.spec invariant-loop-v decreases-loop-v variables-n-requires loop-v-init initial-requires overflow_cast-values bounds-values-v overflow_step-v loop-v-smaller loop-v-preserved returns)

@@ -7,55 +7,41 @@ use Rattle.sets.proofs.Loading.{Starting, init_small, starting_start, starting_t
 use Rattle.state.proofs.Relaxed.initial.Statement.{statement}
 use Rattle.state.proofs.Relaxed.initial.Tie as tie
 
-abbrev invariant-loop : tie.invariant-loop
-invariant-loop task n sets₀ v₀ sets v = Starting (task_in task) n sets v
+abbrev invariant-loop-v : tie.invariant-loop-v
+invariant-loop-v task n sets₀ v₀ sets v = Starting (task_in task) n sets v
 
-abbrev decreases-loop : tie.decreases-loop
-decreases-loop task n sets₀ v₀ sets v = n - v
+abbrev decreases-loop-v : tie.decreases-loop-v
+decreases-loop-v task n sets₀ v₀ sets v = n - v
 
-variables-requires : tie.Need-variables-requires invariant-loop decreases-loop
-variables-requires c κs = search rules
+variables-n-requires : tie.Need-variables-n-requires invariant-loop-v decreases-loop-v
+variables-n-requires c κs = search rules
 
-loop-holds : tie.Need-loop-init invariant-loop decreases-loop
-loop-holds c = starting_start _ _ c.before.before.requires.formed c.variables.ensures
+loop-v-init : tie.Need-loop-v-init invariant-loop-v decreases-loop-v
+loop-v-init c = starting_start _ _ c.requires.formed c.variables-n.ensures
 
-initial-requires : tie.Need-initial-requires invariant-loop decreases-loop
-initial-requires c κs = (c.before.before.before.before.requires, omega (arith, c.before.loop.invariant.over.all))
+initial-requires : tie.Need-initial-requires invariant-loop-v decreases-loop-v
+initial-requires c κs = (c.requires, omega (arith, c.loop-v.invariant.over.all))
 
-single-requires : tie.Need-single-requires invariant-loop decreases-loop
-single-requires c κs = init_small _ _ _ c.before.before.loop.invariant.over.formed c.initial.ensures
+single-requires : tie.Need-single-requires invariant-loop-v decreases-loop-v
+single-requires c κs = init_small _ _ _ c.loop-v.invariant.over.formed c.initial.ensures
 
-mul-sets : tie.Need-overflow-mul-sets invariant-loop decreases-loop
-mul-sets c = search rules
+offset_bounds-sets-v : tie.Need-offset_bounds-sets-v invariant-loop-v decreases-loop-v
+offset_bounds-sets-v c = search rules
 
-array-write-sets : tie.Need-array-write-sets invariant-loop decreases-loop
-array-write-sets c = omega (arith, c.before.before.before.loop.invariant.over.most)
+bounds-sets-v : tie.Need-bounds-sets-v invariant-loop-v decreases-loop-v
+bounds-sets-v c = omega (arith, c.loop-v.invariant.over.most)
 
-add-v : tie.Need-overflow-add-v invariant-loop decreases-loop
-add-v c = search rules
+overflow_step-v : tie.Need-overflow_step-v invariant-loop-v decreases-loop-v
+overflow_step-v c = search rules
 
-loop-less : tie.Need-loop-smaller invariant-loop decreases-loop
-loop-less c = search rules
+loop-v-smaller : tie.Need-loop-v-smaller invariant-loop-v decreases-loop-v
+loop-v-smaller c = search rules
 
-loop-again : tie.Need-loop-preserved invariant-loop decreases-loop
-loop-again c = starting_turn _ _ _ _ c.before.before.before.loop.invariant (omega arith) _ _ c.before.initial.ensures c.single.ensures
+loop-v-preserved : tie.Need-loop-v-preserved invariant-loop-v decreases-loop-v
+loop-v-preserved c = starting_turn _ _ _ _ c.loop-v.invariant (omega arith) _ _ c.initial.ensures c.single.ensures
 
-returns : tie.Need-returns invariant-loop decreases-loop
-returns c = starting_end _ _ _ _ c.before.loop.invariant (omega arith)
+returns : tie.Need-returns invariant-loop-v decreases-loop-v
+returns c = starting_end _ _ _ _ c.loop-v.invariant (omega arith)
 
-pub initial-spec : {M : Type 1} → statement M
-initial-spec =
-    tie.close
-    (tie.spec
-    invariant-loop
-    decreases-loop
-    variables-requires
-    loop-holds
-    initial-requires
-    single-requires
-    mul-sets
-    array-write-sets
-    add-v
-    loop-less
-    loop-again
-    returns)
+pub initial_spec : {M : Type 1} → statement M
+initial_spec = tie.close (tie.spec invariant-loop-v decreases-loop-v variables-n-requires loop-v-init initial-requires single-requires offset_bounds-sets-v bounds-sets-v overflow_step-v loop-v-smaller loop-v-preserved returns)
