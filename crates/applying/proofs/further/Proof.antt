@@ -5,6 +5,7 @@ use mathlib.Core.Logic.{⊎_elim}
 use Rattle.applying.proofs.Running.{further_on, further_fails, further_stopped}
 use Rattle.applying.proofs.further.Statement.{statement}
 use Rattle.applying.proofs.further.Tie as tie
+use Rattle.applying.proofs.further.Lts.{else-runs-steps-via-then-runs-steps+else-applies_newest, else-runs-steps-via-else-runs-steps}
 
 applies_newest-requires : tie.Need-applies_newest-requires
 applies_newest-requires c κs = search rules
@@ -16,7 +17,11 @@ returns-then-applies_newest : tie.Need-returns-then-applies_newest
 returns-then-applies_newest c = further_on _ _ _ (search rules) (sym c.applies_newest.ensures ∙ c.if-applies_newest.true)
 
 returns : tie.Need-returns
-returns c = ⊎_elim (λ w. further_fails _ _ _ (sym w.1.ensures ∙ w.2.left)) (λ w. further_stopped _ _ _ w.left) c.else-runs-steps.branch
+returns c =
+    elim c.else-runs-steps.branch [
+      | else-runs-steps-via-then-runs-steps+else-applies_newest w ↦ further_fails _ _ _ (sym w.applies_newest.ensures ∙ w.if-applies_newest.false)
+      | else-runs-steps-via-else-runs-steps w ↦ further_stopped _ _ _ w.if-runs-steps.false
+    ]
 
 pub further_spec : {M : Type 1} → statement M
 further_spec = tie.close (tie.spec applies_newest-requires overflow_add-result returns-then-applies_newest returns)

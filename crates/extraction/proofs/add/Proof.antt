@@ -8,39 +8,29 @@ use Rattle.extraction.proofs.Keeping.{joined_one, joined_none}
 use Rattle.extraction.proofs.add.Statement.{statement}
 use Rattle.extraction.proofs.add.Tie as tie
 
-mul-wanted : tie.Need-overflow-mul-wanted
-mul-wanted c = search rules
+offset_bounds-wanted-w : tie.Need-offset_bounds-wanted-w
+offset_bounds-wanted-w c = search rules
 
-element-copy-out-wanted : tie.Need-element-copy-out-wanted
-element-copy-out-wanted c = search rules
+bounds-wanted-w : tie.Need-bounds-wanted-w
+bounds-wanted-w c = search rules
 
 single-requires : tie.Need-single-requires
 single-requires c κs = search rules
 
-mul-wanted-2 : tie.Need-overflow-mul-wanted-2
-mul-wanted-2 c = search rules
+offset_bounds-wanted-w-then-a-lt1024 : tie.Need-offset_bounds-wanted-w-then-a-lt1024
+offset_bounds-wanted-w-then-a-lt1024 c = search rules
 
-element-write-wanted : tie.Need-element-write-wanted
-element-write-wanted c = search rules
+bounds-wanted-w-then-a-lt1024 : tie.Need-bounds-wanted-w-then-a-lt1024
+bounds-wanted-w-then-a-lt1024 c = search rules
 
-returns : tie.Need-returns
-returns c =
-    let at-start = c.before.before.before in
-    let a = at-start.args in
+returns-then-a-lt1024 : tie.Need-returns-then-a-lt1024
+returns-then-a-lt1024 c =
+    let a = c.args in
     let old = get_or a.wanted.now (a.a / 64) 0 in
-    joined_one _ _ at-start.requires _ (omega arith) (ap (bit_or old) c.single.ensures)
+    joined_one _ _ c.requires _ (omega arith) (ap (bit_or old) c.single.ensures)
 
-returns-2 : tie.Need-returns-2
-returns-2 c = joined_none _ _ c.before.requires (omega arith)
+returns-else-a-lt1024 : tie.Need-returns-else-a-lt1024
+returns-else-a-lt1024 c = joined_none _ _ c.requires (omega arith)
 
 pub add_spec : {M : Type 1} → statement M
-add_spec =
-    tie.close
-    (tie.spec
-    mul-wanted
-    element-copy-out-wanted
-    single-requires
-    mul-wanted-2
-    element-write-wanted
-    returns
-    returns-2)
+add_spec = tie.close (tie.spec offset_bounds-wanted-w bounds-wanted-w single-requires offset_bounds-wanted-w-then-a-lt1024 bounds-wanted-w-then-a-lt1024 returns-then-a-lt1024 returns-else-a-lt1024)

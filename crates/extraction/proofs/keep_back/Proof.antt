@@ -13,144 +13,113 @@ use Rattle.extraction.proofs.Keeping.{keeping_start, entry_near, keeping_no, kee
 use Rattle.extraction.proofs.keep_back.Statement.{statement}
 use Rattle.extraction.proofs.keep_back.Tie as tie
 
-abbrev invariant-loop : tie.invariant-loop
-invariant-loop task first n facts count run wanted₀ k₀ m₀ kept wanted k m = Keeping (task_in task) run n wanted kept k m
+abbrev invariant-loop-k : tie.invariant-loop-k
+invariant-loop-k task first n facts count run wanted₀ k₀ m₀ kept wanted k m = Keeping (task_in task) run n wanted kept k m
 
-abbrev decreases-loop : tie.decreases-loop
-decreases-loop task first n facts count run wanted₀ k₀ m₀ kept wanted k m = k
+abbrev decreases-loop-k : tie.decreases-loop-k
+decreases-loop-k task first n facts count run wanted₀ k₀ m₀ kept wanted k m = k
 
-abbrev want-to-start : tie.After-want invariant-loop decreases-loop → tie.Start invariant-loop decreases-loop
-want-to-start c = c.before.before.before.before
+abbrev want_to_start : tie.After-want invariant-loop-k decreases-loop-k → tie.Start invariant-loop-k decreases-loop-k
+want_to_start c = c.before.before.before.before
 
-abbrev start : tie.In-loop invariant-loop decreases-loop → tie.Start invariant-loop decreases-loop
-start c = want-to-start c.before.before
+abbrev start : tie.In-loop-k invariant-loop-k decreases-loop-k → tie.Start invariant-loop-k decreases-loop-k
+start c = c.before.before.before.before.before.before
 
-abbrev wide-to-turn : tie.After-wide invariant-loop decreases-loop → tie.In-loop invariant-loop decreases-loop
-wide-to-turn c = c.before.before.before
+abbrev wide_to_turn : tie.After-wide invariant-loop-k decreases-loop-k → tie.In-loop-k invariant-loop-k decreases-loop-k
+wide_to_turn c = c.before.before.before.before
 
-abbrev tested-to-turn : tie.After-is-listed invariant-loop decreases-loop → tie.In-loop invariant-loop decreases-loop
-tested-to-turn c = wide-to-turn c.before
+abbrev tested_to_turn : tie.After-is_listed invariant-loop-k decreases-loop-k → tie.In-loop-k invariant-loop-k decreases-loop-k
+tested_to_turn c = c.before.before.before.before.before
 
-abbrev then1-to-turn : tie.Then1 invariant-loop decreases-loop → tie.In-loop invariant-loop decreases-loop
-then1-to-turn c = tested-to-turn c.before
+abbrev then1_to_turn : tie.Then-is_listed invariant-loop-k decreases-loop-k → tie.In-loop-k invariant-loop-k decreases-loop-k
+then1_to_turn c = c.before.before.before.before.before.before
 
-abbrev wide2-to-then1 : tie.After-wide2 invariant-loop decreases-loop → tie.Then1 invariant-loop decreases-loop
-wide2-to-then1 c = c.before.before
+abbrev wide2_to_then1 : tie.After-wide-then-is_listed invariant-loop-k decreases-loop-k → tie.Then-is_listed invariant-loop-k decreases-loop-k
+wide2_to_then1 c = c.before.before
 
 -- the entry that a turn looks at, and what is kept behind it
-within : (c : tie.In-loop invariant-loop decreases-loop) → c.before.loop.k - 1 < (start c).args.n
-within c = omega (arith, c.before.loop.invariant.within)
+within : (c : tie.In-loop-k invariant-loop-k decreases-loop-k) → c.loop-k.k - 1 < c.args.n
+within c = omega (arith, c.loop-k.invariant.within)
 
-behind : (c : tie.In-loop invariant-loop decreases-loop) → let h = c.before.loop in let a = (start c).args in Keeping (task_in a.task.now) a.plan.now a.n h.wanted h.plan (h.k - 1 + 1) h.m
+behind : (c : tie.In-loop-k invariant-loop-k decreases-loop-k) → let h = c.loop-k in let a = c.args in Keeping (task_in a.task.now) a.plan.now a.n h.wanted h.plan (h.k - 1 + 1) h.m
 behind c =
-    let h = c.before.loop in
-    let a = (start c).args in
+    let h = c.loop-k in
+    let a = c.args in
     subst (λ x. Keeping (task_in a.task.now) a.plan.now a.n h.wanted h.plan x h.m) (omega arith) h.invariant
 
-same : (c : tie.In-loop invariant-loop decreases-loop) → get_or c.before.loop.plan (c.before.loop.k - 1) 0 ≡ get_or (start c).args.plan.now (c.before.loop.k - 1) 0
-same c = keeping_entry (start c).requires.0.0 (c.before.loop.k - 1) (within c) (behind c)
+same : (c : tie.In-loop-k invariant-loop-k decreases-loop-k) → get_or c.loop-k.plan (c.loop-k.k - 1) 0 ≡ get_or c.args.plan.now (c.loop-k.k - 1) 0
+same c = keeping_entry c.requires.0.0 (c.loop-k.k - 1) (within c) (behind c)
 
-want-requires : tie.Need-want-requires invariant-loop decreases-loop
-want-requires c κs = (c.before.before.before.requires.1.0, refl)
+want-requires : tie.Need-want-requires invariant-loop-k decreases-loop-k
+want-requires c κs = (c.requires.1.0, refl)
 
-loop-holds : tie.Need-loop-init invariant-loop decreases-loop
-loop-holds c =
-    let p = (want-to-start c).requires in
+loop-k-init : tie.Need-loop-k-init invariant-loop-k decreases-loop-k
+loop-k-init c =
+    let p = c.requires in
     keeping_start p.0.0 _ p.0.1 _ p.1.1 _ _ c.want.ensures refl
 
-sub-k : tie.Need-overflow-sub-k invariant-loop decreases-loop
-sub-k c = omega arith
+overflow_sub-k : tie.Need-overflow_sub-k invariant-loop-k decreases-loop-k
+overflow_sub-k c = omega arith
 
-mul-i : tie.Need-overflow-mul-i invariant-loop decreases-loop
-mul-i c = record { fits = omega (arith, (start c).requires.0.0.few, c.before.loop.invariant.within) }
+offset_bounds-plan-k : tie.Need-offset_bounds-plan-k invariant-loop-k decreases-loop-k
+offset_bounds-plan-k c = record { fits = omega (arith, c.requires.0.0.few, c.loop-k.invariant.within) }
 
-element-copy-out-i : tie.Need-element-copy-out-i invariant-loop decreases-loop
-element-copy-out-i c = omega (arith, (start c).requires.0.0.few, c.before.loop.invariant.within)
+bounds-plan-k : tie.Need-bounds-plan-k invariant-loop-k decreases-loop-k
+bounds-plan-k c = omega (arith, c.requires.0.0.few, c.loop-k.invariant.within)
 
-wide-requires : tie.Need-wide-requires invariant-loop decreases-loop
+wide-requires : tie.Need-wide-requires invariant-loop-k decreases-loop-k
 wide-requires c κs = search rules
 
-is-listed-requires : tie.Need-is-listed-requires invariant-loop decreases-loop
-is-listed-requires c κs =
-    let turn = wide-to-turn c in
-    let R = (start turn).pre.0.0 in
-    rw (c.wide.ensures, same turn) (entry_near R (turn.before.loop.k - 1) (within turn))
+is_listed-requires : tie.Need-is_listed-requires invariant-loop-k decreases-loop-k
+is_listed-requires c κs =
+    let R = c.requires.0.0 in
+    rw (c.wide.ensures, same c.before.before.before.before) (entry_near R (c.loop-k.k - 1) (within c.before.before.before.before))
 
-answer-is : (c : tie.After-is-listed invariant-loop decreases-loop) → let turn = tested-to-turn c in
-    c.is-listed.result ≡ listed turn.before.loop.wanted (get_or (start turn).args.plan.now (turn.before.loop.k - 1) 0)
-answer-is c =
-    let turn = tested-to-turn c in
-    c.is-listed.ensures ∙ ap (listed turn.before.loop.wanted) (c.before.wide.ensures ∙ same turn)
+answer_is : (c : tie.After-is_listed invariant-loop-k decreases-loop-k) → c.is_listed.result ≡ listed c.loop-k.wanted (get_or c.args.plan.now (c.loop-k.k - 1) 0)
+answer_is c =
+    c.is_listed.ensures ∙ ap (listed c.loop-k.wanted) (c.wide.ensures ∙ same c.before.before.before.before.before)
 
-room : (c : tie.Then1 invariant-loop decreases-loop) → 0 < (then1-to-turn c).before.loop.m
+room : (c : tie.Then-is_listed invariant-loop-k decreases-loop-k) → 0 < c.loop-k.m
 room c =
-    let turn = then1-to-turn c in
-    keeping_room (start turn).pre.0.0 (turn.before.loop.k - 1) (within turn) (behind turn)
+    keeping_room c.requires.0.0 (c.loop-k.k - 1) (within c.before.before.before.before.before.before) (behind c.before.before.before.before.before.before)
 
-sub-m : tie.Need-overflow-sub-m invariant-loop decreases-loop
-sub-m c = room c
+overflow_sub-m : tie.Need-overflow_sub-m invariant-loop-k decreases-loop-k
+overflow_sub-m c = room c
 
-mul-plan : tie.Need-overflow-mul-plan invariant-loop decreases-loop
-mul-plan c = record { fits = omega (arith, (then1-to-turn c).before.loop.invariant.end) }
+offset_bounds-plan-m : tie.Need-offset_bounds-plan-m invariant-loop-k decreases-loop-k
+offset_bounds-plan-m c = record { fits = omega (arith, c.loop-k.invariant.end) }
 
-element-write-plan : tie.Need-element-write-plan invariant-loop decreases-loop
-element-write-plan c = omega (arith, room c, (then1-to-turn c).before.loop.invariant.end)
+bounds-plan-m : tie.Need-bounds-plan-m invariant-loop-k decreases-loop-k
+bounds-plan-m c = omega (arith, room c, c.loop-k.invariant.end)
 
-wide-requires-2 : tie.Need-wide-requires-2 invariant-loop decreases-loop
-wide-requires-2 c κs = search rules
+wide-requires-then-is_listed : tie.Need-wide-requires-then-is_listed invariant-loop-k decreases-loop-k
+wide-requires-then-is_listed c κs = search rules
 
-want-preconditions-requires : tie.Need-want-preconditions-requires invariant-loop decreases-loop
-want-preconditions-requires c κs =
-    let turn = then1-to-turn (wide2-to-then1 c) in
-    let R = (start turn).pre.0.0 in
-    (R.loaded, rw (c.wide2.ensures, same turn) (entry_below R (turn.before.loop.k - 1) (within turn)), turn.before.loop.inv.wanted_are.long)
+want_preconditions-requires : tie.Need-want_preconditions-requires invariant-loop-k decreases-loop-k
+want_preconditions-requires c κs =
+    let R = c.requires.0.0 in
+    (R.loaded, rw (c.wide-then-is_listed.ensures, same c.before.before.before.before.before.before.before.before) (entry_below R (c.loop-k.k - 1) (within c.before.before.before.before.before.before.before.before)), c.loop-k.invariant.wanted_are.long)
 
-loop-less : tie.Need-loop-smaller invariant-loop decreases-loop
-loop-less c = omega arith
+loop-k-smaller-then-is_listed : tie.Need-loop-k-smaller-then-is_listed invariant-loop-k decreases-loop-k
+loop-k-smaller-then-is_listed c = omega arith
 
-loop-again : tie.Need-loop-preserved invariant-loop decreases-loop
-loop-again c =
-    let at-wide2 = c.before in
-    let at-then1 = wide2-to-then1 at-wide2 in
-    let turn = then1-to-turn at-then1 in
-    keeping_yes (start turn).pre.0.0 (turn.before.loop.k - 1) (within turn) (behind turn) _ (start turn).pre.0.1 (sym at-then1.if1.taken ∙ answer-is at-then1.before) _
-    (rw (at-wide2.wide2.ensures, same turn) at c.want-preconditions.ensures) _ (same turn)
+loop-k-preserved-then-is_listed : tie.Need-loop-k-preserved-then-is_listed invariant-loop-k decreases-loop-k
+loop-k-preserved-then-is_listed c =
+    keeping_yes c.requires.0.0 (c.loop-k.k - 1) (within c.before.before.before.before.before.before.before.before.before) (behind c.before.before.before.before.before.before.before.before.before) _ c.requires.0.1 (sym c.if-is_listed.true ∙ answer_is c.before.before.before.before) _
+    (rw (c.wide-then-is_listed.ensures, same c.before.before.before.before.before.before.before.before.before) at c.want_preconditions.ensures) _ (same c.before.before.before.before.before.before.before.before.before)
 
-loop-less-2 : tie.Need-loop-smaller-2 invariant-loop decreases-loop
-loop-less-2 c = omega arith
+loop-k-smaller : tie.Need-loop-k-smaller invariant-loop-k decreases-loop-k
+loop-k-smaller c = omega arith
 
-loop-again-2 : tie.Need-loop-preserved-2 invariant-loop decreases-loop
-loop-again-2 c =
-    let turn = tested-to-turn c.before in
-    keeping_no (start turn).pre.0.0 (turn.before.loop.k - 1) (within turn) (behind turn) (sym c.if1.false ∙ answer-is c.before)
+loop-k-preserved : tie.Need-loop-k-preserved invariant-loop-k decreases-loop-k
+loop-k-preserved c =
+    keeping_no c.requires.0.0 (c.loop-k.k - 1) (within c.before.before.before.before.before.before) (behind c.before.before.before.before.before.before) (sym c.if-is_listed.false ∙ answer_is c.before)
 
-returns : tie.Need-returns invariant-loop decreases-loop
+returns : tie.Need-returns invariant-loop-k decreases-loop-k
 returns c =
-    let head = c.before in
-    let I = head.loop.invariant in
-    let e : head.loop.k ≡ 0 = omega arith in
-    (I.end, I.long, keeping_end (want-to-start head.before).pre.0.0 _ _ _ (rw e at I))
+    let I = c.loop-k.invariant in
+    let e : c.loop-k.k ≡ 0 = omega arith in
+    (I.end, I.long, keeping_end c.requires.0.0 _ _ _ (rw e at I))
 
-pub keep-back-spec : {M : Type 1} → statement M
-keep-back-spec =
-    tie.close
-    (tie.spec
-    invariant-loop
-    decreases-loop
-    want-requires
-    loop-holds
-    sub-k
-    mul-i
-    element-copy-out-i
-    wide-requires
-    is-listed-requires
-    sub-m
-    mul-plan
-    element-write-plan
-    wide-requires-2
-    want-preconditions-requires
-    loop-less
-    loop-again
-    loop-less-2
-    loop-again-2
-    returns)
+pub keep_back_spec : {M : Type 1} → statement M
+keep_back_spec = tie.close (tie.spec invariant-loop-k decreases-loop-k want-requires loop-k-init overflow_sub-k offset_bounds-plan-k bounds-plan-k wide-requires is_listed-requires overflow_sub-m offset_bounds-plan-m bounds-plan-m wide-requires-then-is_listed want_preconditions-requires loop-k-smaller-then-is_listed loop-k-preserved-then-is_listed loop-k-smaller loop-k-preserved returns)

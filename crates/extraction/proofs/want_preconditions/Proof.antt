@@ -5,18 +5,17 @@ use Rattle.extraction.proofs.Keeping.{joined_pre}
 use Rattle.extraction.proofs.want_preconditions.Statement.{statement}
 use Rattle.extraction.proofs.want_preconditions.Tie as tie
 
-pre-start-requires : tie.Need-pre-start-requires
-pre-start-requires c κs = search rules
+pre_start-from-requires : tie.Need-pre_start-from-requires
+pre_start-from-requires c κs = search rules
 
-eff-start-requires : tie.Need-eff-start-requires
-eff-start-requires c κs = search rules
+eff_start-to-requires : tie.Need-eff_start-to-requires
+eff_start-to-requires c κs = search rules
 
 want-requires : tie.Need-want-requires
 want-requires c κs =
-    let at-eff-start = c.before in
-    let from = at-eff-start.before.pre-start.ensures in
-    let to = at-eff-start.eff-start.ensures in
-    let p = at-eff-start.before.before.before.requires in
+    let from = c.pre_start-from.ensures in
+    let to = c.eff_start-to.ensures in
+    let p = c.requires in
     let L = loaded_listed _ p.0 _ p.1 in (
       record {
         rises = omega (arith, L.pre_below, from, to);
@@ -28,12 +27,10 @@ want-requires c κs =
 
 returns : tie.Need-returns
 returns c =
-    let at-eff-start = c.before.before in
-    let from = at-eff-start.before.pre-start.ensures in
-    let to = at-eff-start.eff-start.ensures in
-    let p = at-eff-start.before.before.before.requires in
+    let from = c.pre_start-from.ensures in
+    let to = c.eff_start-to.ensures in
+    let p = c.requires in
     joined_pre _ _ _ _ _ _ _ (loaded_listed _ p.0 _ p.1) c.want.ensures (omega (arith, from, to)) (omega (arith, from, to))
 
-pub want-preconditions-spec : {M : Type 1} → statement M
-want-preconditions-spec =
-    tie.close (tie.spec pre-start-requires eff-start-requires want-requires returns)
+pub want_preconditions_spec : {M : Type 1} → statement M
+want_preconditions_spec = tie.close (tie.spec pre_start-from-requires eff_start-to-requires want-requires returns)

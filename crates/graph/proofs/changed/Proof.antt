@@ -14,6 +14,7 @@ use Rattle.graph.proofs.Rows.{Changing, changing_start, changing_turn, changing_
 use borrow.Author.Rules.{rules}
 use Rattle.graph.proofs.changed.Statement.{statement}
 use Rattle.graph.proofs.changed.Tie as tie
+use Rattle.graph.proofs.changed.Lts.{then-changes, else-changes}
 
 abbrev invariant-loop-k : tie.invariant-loop-k
 invariant-loop-k task i paint end set₀ k₀ set k = Changing task (act (task_in task) i).pre paint (eff_at task i) end set k
@@ -59,8 +60,8 @@ loop-k-smaller c = search rules
 loop-k-preserved : tie.Need-loop-k-preserved invariant-loop-k decreases-loop-k
 loop-k-preserved c =
     elim c.if-changes.branch [
-      | inl t ↦ changing_turn _ _ _ _ _ _ _ c.loop-k.invariant (omega arith) _ c.wide-f.ensures _ c.changes.ensures t.0.taken _ _ t.1.ensures t.2
-      | inr e ↦ changing_skip _ _ _ _ _ _ _ c.loop-k.invariant (omega arith) _ c.wide-f.ensures _ c.changes.ensures e.0.left _ e.1
+      | then-changes t ↦ changing_turn _ _ _ _ _ _ _ c.loop-k.invariant (omega arith) _ c.wide-f.ensures _ c.changes.ensures t.if-changes.true _ _ t.single-set.ensures t.set-is
+      | else-changes e ↦ changing_skip _ _ _ _ _ _ _ c.loop-k.invariant (omega arith) _ c.wide-f.ensures _ c.changes.ensures e.if-changes.false _ e.set-is
     ]
 
 returns : tie.Need-returns invariant-loop-k decreases-loop-k

@@ -6,6 +6,7 @@ use native.Mathlib.Omega.{arith}
 use Rattle.labels.proofs.Seeking.{Seeking, seeking_none, seeking_start, seeking_less, seeking_more, seeking_end}
 use Rattle.labels.proofs.nearest.Statement.{statement}
 use Rattle.labels.proofs.nearest.Tie as tie
+use Rattle.labels.proofs.nearest.Lts.{then-l-least, else-l-least}
 
 abbrev invariant-loop-c : tie.invariant-loop-c
 invariant-loop-c labels front r₀ least₀ c₀ r least c = Seeking labels front r least c
@@ -53,8 +54,8 @@ loop-c-preserved : tie.Need-loop-c-preserved invariant-loop-c decreases-loop-c
 loop-c-preserved c =
     let m = c.next_member-c-in-loop-c.ensures in
     elim c.if-l-least.branch [
-      | inl q ↦ rw (q.1, q.2) (seeking_less _ _ _ _ _ _ c.loop-c.invariant (omega arith) m q.0.taken)
-      | inr q ↦ rw (q.1, q.2) (seeking_more _ _ _ _ _ _ c.loop-c.invariant (omega arith) m (λ l. omega (arith, q.0.left, l)))
+      | then-l-least q ↦ rw (q.r-is, q.least-is) (seeking_less _ _ _ _ _ _ c.loop-c.invariant (omega arith) m q.if-l-least.true)
+      | else-l-least q ↦ rw (q.r-is, q.least-is) (seeking_more _ _ _ _ _ _ c.loop-c.invariant (omega arith) m (λ l. omega (arith, q.if-l-least.false, l)))
     ]
 
 returns : tie.Need-returns invariant-loop-c decreases-loop-c

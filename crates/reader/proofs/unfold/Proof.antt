@@ -10,67 +10,50 @@ use Rattle.planning.specs.Sheet.{marks_at}
 use Rattle.reader.proofs.unfold.Statement.{statement}
 use Rattle.reader.proofs.unfold.Tie as tie
 
-read-steps-requires : tie.Need-read-steps-requires
-read-steps-requires c κs = search rules
+read_steps-requires : tie.Need-read_steps-requires
+read_steps-requires c κs = search rules
 
 clear-requires : tie.Need-clear-requires
 clear-requires c κs = search rules
 
-same_length : tie.Need-same-length
-same_length c = search rules
+shape_of-list-then-mark-eq0 : tie.Need-shape_of-list-then-mark-eq0
+shape_of-list-then-mark-eq0 c = search rules
 
-same-length-2 : tie.Need-same-length-2
-same-length-2 c = search rules
+shape_of-marks-then-mark-eq0 : tie.Need-shape_of-marks-then-mark-eq0
+shape_of-marks-then-mark-eq0 c = search rules
+
+returns-then-mark-eq0 : tie.Need-returns-then-mark-eq0
+returns-then-mark-eq0 c =
+    let a = c.args in
+    let z : a.mark ≡ 0 = omega arith in (
+      rw z c.read_steps.ensures,
+      c.clear.ensures ∙ marks_cleared a.bytes.now a.mark 53 a.steps (length a.marks.now) (omega arith) (omega arith),
+    )
+
+read_marked-requires : tie.Need-read_marked-requires
+read_marked-requires c κs =
+    let e : c.args.mark ≡ 1 = omega arith in
+    (omega arith, search rules, search rules, rw e at c.requires.4)
+
+clear_from-requires : tie.Need-clear_from-requires
+clear_from-requires c κs = search rules
+
+shape_of-list : tie.Need-shape_of-list
+shape_of-list c = search rules
+
+shape_of-marks : tie.Need-shape_of-marks
+shape_of-marks c = search rules
 
 returns : tie.Need-returns
 returns c =
-    let at_clear = c.before.before in
-    let at-read-steps = at_clear.before.before.before.before in
-    let a = at-read-steps.before.before.before.before.before.before.args in
-    let z : a.mark ≡ 0 = omega arith in (
-      rw z at-read-steps.read-steps.ensures,
-      at_clear.clear.ensures ∙ marks_cleared a.bytes.now a.mark 53 a.steps (length a.marks.now) (omega arith) (omega arith),
-    )
+    let d = c.read_marked.new.marks in
+    let e : c.args.mark ≡ 1 = omega arith in
+    let l : length d ≡ length c.args.marks.now = search rules in
+    let s = c.args.bytes.now in
+    let n = c.args.steps in
+    let z : take n d ++ replicate (length d - n) 0 ≡ marks_at s c.args.mark 53 n ++ replicate (length c.args.marks.now - n) 0 =
+    rw (c.read_marked.ensures.1, l, e) refl in
+    (rw e c.read_marked.ensures.0, c.clear_from.ensures ∙ z)
 
-read-marked-requires : tie.Need-read-marked-requires
-read-marked-requires c κs =
-    let o = c.before.before.before.before.before.before in
-    let e : o.args.mark ≡ 1 = omega arith in
-    (omega arith, search rules, search rules, rw e at o.requires.4)
-
-clear-from-requires : tie.Need-clear-from-requires
-clear-from-requires c κs = search rules
-
-same-length-3 : tie.Need-same-length-3
-same-length-3 c = search rules
-
-same-length-4 : tie.Need-same-length-4
-same-length-4 c = search rules
-
-returns-2 : tie.Need-returns-2
-returns-2 c =
-    let at-read-marked = c.before.before.before.before.before.before.before.before in
-    let o = at-read-marked.before.before.before.before.before.before.before in
-    let d = at-read-marked.read-marked.new.1.1.1.0 in
-    let e : o.args.mark ≡ 1 = omega arith in
-    let l : length d ≡ length o.args.marks.now = search rules in
-    let s = o.args.bytes.now in
-    let n = o.args.steps in
-    let z : take n d ++ replicate (length d - n) 0 ≡ marks_at s o.args.mark 53 n ++ replicate (length o.args.marks.now - n) 0 =
-    rw (at-read-marked.read-marked.ensures.1, l, e) refl in
-    (rw e at-read-marked.read-marked.ensures.0, c.before.before.clear-from.ensures ∙ z)
-
-pub unfold-spec : {M : Type 1} → statement M
-unfold-spec =
-    tie.close
-    (tie.spec
-    read-steps-requires
-    clear-requires
-    same_length
-    same-length-2
-    returns
-    read-marked-requires
-    clear-from-requires
-    same-length-3
-    same-length-4
-    returns-2)
+pub unfold_spec : {M : Type 1} → statement M
+unfold_spec = tie.close (tie.spec read_steps-requires clear-requires shape_of-list-then-mark-eq0 shape_of-marks-then-mark-eq0 returns-then-mark-eq0 read_marked-requires clear_from-requires shape_of-list shape_of-marks returns)

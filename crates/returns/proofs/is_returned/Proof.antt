@@ -5,6 +5,7 @@ use Rattle.returns.proofs.Returns.{next_serves, head_chain, serves_near, served,
 use borrow.Author.Rules.{rules}
 use Rattle.returns.proofs.is_returned.Statement.{statement}
 use Rattle.returns.proofs.is_returned.Tie as tie
+use Rattle.returns.proofs.is_returned.Lts.{then-j-eq65535, else-j-eq65535}
 
 abbrev start_of : tie.After-later_return-j → tie.Start
 start_of c = c.before.before.before.before.before.before.before
@@ -32,10 +33,10 @@ first_return-j-requires c κs =
 overflow_cast-last : tie.Need-overflow_cast-last
 overflow_cast-last c =
     let p = c.requires in
-    ⊎_elim
-    (λ w. omega (arith, w.5, serves_near _ _ p.0 _ _ (next_serves _ _ _ _ _ _ w.3.ensures)))
-    (λ w. omega (arith, w.2, serves_near _ _ p.0 _ _ c.later_return-j.ensures))
-    c.if-j-eq65535.branch
+    elim c.if-j-eq65535.branch [
+      | then-j-eq65535 w ↦ omega (arith, w.j-is, serves_near _ _ p.0 _ _ (next_serves _ _ _ _ _ _ w.first_return-j.ensures))
+      | else-j-eq65535 w ↦ omega (arith, w.j-is, serves_near _ _ p.0 _ _ c.later_return-j.ensures)
+    ]
 
 offset_bounds-last-f-2 : tie.Need-offset_bounds-last-f-2
 offset_bounds-last-f-2 c = search rules
@@ -46,10 +47,10 @@ bounds-last-f-2 c = search rules
 returns : tie.Need-returns
 returns c =
     let p = c.requires in
-    ⊎_elim
-    (λ w. rw w.5 (served_first _ _ p.0 _ _ _ w.1.ensures w.3.ensures))
-    (λ w. rw w.2 (served _ _ p.0 _ _ c.later_return-j.ensures w.0.left))
-    c.if-j-eq65535.branch
+    elim c.if-j-eq65535.branch [
+      | then-j-eq65535 w ↦ rw w.j-is (served_first _ _ p.0 _ _ _ w.first_mover.ensures w.first_return-j.ensures)
+      | else-j-eq65535 w ↦ rw w.j-is (served _ _ p.0 _ _ c.later_return-j.ensures w.if-j-eq65535.false)
+    ]
 
 pub is_returned_spec : {M : Type 1} → statement M
 is_returned_spec = tie.close (tie.spec offset_bounds-last-f bounds-last-f wide-h-requires later_return-j-requires first_mover-requires first_return-j-requires overflow_cast-last offset_bounds-last-f-2 bounds-last-f-2 returns)

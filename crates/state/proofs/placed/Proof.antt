@@ -49,11 +49,11 @@ loop-k-preserved : tie.Need-loop-k-preserved invariant-loop-k decreases-loop-k
 loop-k-preserved c =
     let I = c.loop-k.invariant in (
       omega (arith, I.0),
-      filled_turn _ _ _ I.1 (omega arith) _ (c.choose.ensures ∙ placed_at c.args.t1 _ _ _ _ (search rules) (omega (arith, c.requires)) I.0),
+      filled_turn _ _ _ I.1 (omega arith) _ (c.choose.ensures ∙ placed_at c.args.values _ _ _ _ (search rules) (omega (arith, c.requires)) I.0),
     )
 
 returns : tie.Need-returns invariant-loop-k decreases-loop-k
-returns c = placed_end c.args.t1 _ _ _ _ (search rules) c.loop-k.invariant.1 (omega arith)
+returns c = placed_end c.args.values _ _ _ _ (search rules) c.loop-k.invariant.1 (omega arith)
 
 pub placed_spec : {M : Type 1} → statement M
 placed_spec = tie.close (tie.spec invariant-loop-k decreases-loop-k overflow_cast-x overflow_cast-n overflow_sub-n loop-k-init bounds-values-k choose-requires bounds-r-k overflow_add-n overflow_add-k loop-k-smaller loop-k-preserved returns)

@@ -4,48 +4,36 @@ use Rattle.waiting.specs.Waiting.{hung}
 use Rattle.waiting.proofs.hang.Statement.{statement}
 use Rattle.waiting.proofs.hang.Tie as tie
 
-add-work : tie.Need-overflow-add-work
-add-work c = search rules
+overflow_add-work : tie.Need-overflow_add-work
+overflow_add-work c = search rules
 
-mul-work : tie.Need-overflow-mul-work
-mul-work c = search rules
+offset_bounds-work-f : tie.Need-offset_bounds-work-f
+offset_bounds-work-f c = search rules
 
-slice-read-work : tie.Need-slice-read-work
-slice-read-work c = search rules
+bounds-work-f : tie.Need-bounds-work-f
+bounds-work-f c = search rules
 
-mul-work-2 : tie.Need-overflow-mul-work-2
-mul-work-2 c = search rules
+offset_bounds-work-j : tie.Need-offset_bounds-work-j
+offset_bounds-work-j c = search rules
 
-slice-write-work : tie.Need-slice-write-work
-slice-write-work c = search rules
+bounds-work-j : tie.Need-bounds-work-j
+bounds-work-j c = search rules
 
-add-work-2 : tie.Need-overflow-add-work-2
-add-work-2 c = search rules
+overflow_add-work-2 : tie.Need-overflow_add-work-2
+overflow_add-work-2 c = search rules
 
-mul-work-3 : tie.Need-overflow-mul-work-3
-mul-work-3 c = search rules
+offset_bounds-work-f-2 : tie.Need-offset_bounds-work-f-2
+offset_bounds-work-f-2 c = search rules
 
-slice-write-work-2 : tie.Need-slice-write-work-2
-slice-write-work-2 c = search rules
+bounds-work-f-2 : tie.Need-bounds-work-f-2
+bounds-work-f-2 c = search rules
 
-same_length : tie.Need-same-length
-same_length c = search rules
+shape_of-work : tie.Need-shape_of-work
+shape_of-work c = search rules
 
 returns : tie.Need-returns
 unfolding hung
 returns c = refl
 
-pub hang-spec : {M : Type 1} → statement M
-hang-spec =
-    tie.close
-    (tie.spec
-    add-work
-    mul-work
-    slice-read-work
-    mul-work-2
-    slice-write-work
-    add-work-2
-    mul-work-3
-    slice-write-work-2
-    same_length
-    returns)
+pub hang_spec : {M : Type 1} → statement M
+hang_spec = tie.close (tie.spec overflow_add-work offset_bounds-work-f bounds-work-f offset_bounds-work-j bounds-work-j overflow_add-work-2 offset_bounds-work-f-2 bounds-work-f-2 shape_of-work returns)

@@ -11,71 +11,53 @@ use Rattle.waiting.proofs.Chains.{sites_ended, sites_spent, front, sites_settled
 use Rattle.waiting.proofs.settle_all.Statement.{statement}
 use Rattle.waiting.proofs.settle_all.Tie as tie
 
-abbrev invariant-loop : tie.invariant-loop
-invariant-loop sets task order work₀ ready₀ h from to j₀ left₀ work ready j left =
+abbrev invariant-loop-left : tie.invariant-loop-left
+invariant-loop-left sets task order work₀ ready₀ h from to j₀ left₀ work ready j left =
     Sites task order (actions (task_in task)) (sets_of sets) (has (facts_in task from to)) work ready j left × (length work ≡ length work₀)
 
-abbrev decreases-loop : tie.decreases-loop
-decreases-loop sets task order work₀ ready₀ h from to j₀ left₀ work ready j left = left
+abbrev decreases-loop-left : tie.decreases-loop-left
+decreases-loop-left sets task order work₀ ready₀ h from to j₀ left₀ work ready j left = left
 
-loop-holds : tie.Need-loop-init invariant-loop decreases-loop
-loop-holds c = (c.before.before.requires.1, refl)
+loop-left-init : tie.Need-loop-left-init invariant-loop-left decreases-loop-left
+loop-left-init c = (c.requires.1, refl)
 
-same_length : tie.Need-same-length invariant-loop decreases-loop
-same_length c = search rules
+shape_of-work-then-j-ge1024 : tie.Need-shape_of-work-then-j-ge1024 invariant-loop-left decreases-loop-left
+shape_of-work-then-j-ge1024 c = search rules
 
-returns : tie.Need-returns invariant-loop decreases-loop
-returns c = sites_ended c.before.before.loop.invariant.0 c.if1.true
+returns-then-j-ge1024 : tie.Need-returns-then-j-ge1024 invariant-loop-left decreases-loop-left
+returns-then-j-ge1024 c = sites_ended c.loop-left.invariant.0 c.if-j-ge1024.true
 
-cast-after : tie.Need-overflow-cast-after invariant-loop decreases-loop
-cast-after c = search rules
+overflow_cast-after : tie.Need-overflow_cast-after invariant-loop-left decreases-loop-left
+overflow_cast-after c = search rules
 
-mul-after : tie.Need-overflow-mul-after invariant-loop decreases-loop
-mul-after c = search rules
+offset_bounds-work-j : tie.Need-offset_bounds-work-j invariant-loop-left decreases-loop-left
+offset_bounds-work-j c = search rules
 
-slice-read-after : tie.Need-slice-read-after invariant-loop decreases-loop
-slice-read-after c = search rules
+bounds-work-j : tie.Need-bounds-work-j invariant-loop-left decreases-loop-left
+bounds-work-j c = search rules
 
-settle-requires : tie.Need-settle-requires invariant-loop decreases-loop
+settle-requires : tie.Need-settle-requires invariant-loop-left decreases-loop-left
 settle-requires c κs =
-    let head = c.before.before.before.before.before in
-    let S = head.loop.invariant.0 in
+    let S = c.loop-left.invariant.0 in
     let b = (front S (omega arith)).below in
-    ((head.before.before.before.requires.0, omega arith, S.named head.loop.j b), (S.ready_sound, S.places head.loop.j b, S.long))
+    ((c.requires.0, omega arith, S.named c.loop-left.j b), (S.ready_sound, S.places c.loop-left.j b, S.long))
 
-sub-left : tie.Need-overflow-sub-left invariant-loop decreases-loop
-sub-left c = search rules
+overflow_sub-left : tie.Need-overflow_sub-left invariant-loop-left decreases-loop-left
+overflow_sub-left c = search rules
 
-loop-less : tie.Need-loop-smaller invariant-loop decreases-loop
-loop-less c = search rules
+loop-left-smaller : tie.Need-loop-left-smaller invariant-loop-left decreases-loop-left
+loop-left-smaller c = search rules
 
-loop-again : tie.Need-loop-preserved invariant-loop decreases-loop
-loop-again c =
-    let at-settle = c.before.before in
-    let I = at-settle.before.before.before.before.before.before.loop.invariant in
-    (sites_settled I.0 (omega arith) _ _ at-settle.settle.ensures, c.before.work.given ∙ I.1)
+loop-left-preserved : tie.Need-loop-left-preserved invariant-loop-left decreases-loop-left
+loop-left-preserved c =
+    let I = c.loop-left.invariant in
+    (sites_settled I.0 (omega arith) _ _ c.settle.ensures, c.work-1.given ∙ I.1)
 
-same-length-2 : tie.Need-same-length-2 invariant-loop decreases-loop
-same-length-2 c = search rules
+shape_of-work : tie.Need-shape_of-work invariant-loop-left decreases-loop-left
+shape_of-work c = search rules
 
-returns-2 : tie.Need-returns-2 invariant-loop decreases-loop
-returns-2 c = sites_spent c.before.loop.invariant.0 (omega arith)
+returns : tie.Need-returns invariant-loop-left decreases-loop-left
+returns c = sites_spent c.loop-left.invariant.0 (omega arith)
 
-pub settle-all-spec : {M : Type 1} → statement M
-settle-all-spec =
-    tie.close
-    (tie.spec
-    invariant-loop
-    decreases-loop
-    loop-holds
-    same_length
-    returns
-    cast-after
-    mul-after
-    slice-read-after
-    settle-requires
-    sub-left
-    loop-less
-    loop-again
-    same-length-2
-    returns-2)
+pub settle_all_spec : {M : Type 1} → statement M
+settle_all_spec = tie.close (tie.spec invariant-loop-left decreases-loop-left loop-left-init shape_of-work-then-j-ge1024 returns-then-j-ge1024 overflow_cast-after offset_bounds-work-j bounds-work-j settle-requires overflow_sub-left loop-left-smaller loop-left-preserved shape_of-work returns)

@@ -14,131 +14,103 @@ use Rattle.waiting.proofs.Chains.{Entered, entered_start, entered_place, entered
 use Rattle.waiting.proofs.settle_each.Statement.{statement}
 use Rattle.waiting.proofs.settle_each.Tie as tie
 
-abbrev invariant-loop : tie.invariant-loop
-invariant-loop sets task order work₀ ready₀ n j₀ work ready j = (n ≡ actions (task_in task)) × (j ≤ n) × Entered task order (sets_of sets) (has []) work ready j × (length work ≡ length work₀)
+abbrev invariant-loop-j : tie.invariant-loop-j
+invariant-loop-j sets task order work₀ ready₀ n j₀ work ready j = (n ≡ actions (task_in task)) × (j ≤ n) × Entered task order (sets_of sets) (has []) work ready j × (length work ≡ length work₀)
 
-abbrev decreases-loop : tie.decreases-loop
-decreases-loop sets task order work₀ ready₀ n j₀ work ready j = n - j
+abbrev decreases-loop-j : tie.decreases-loop-j
+decreases-loop-j sets task order work₀ ready₀ n j₀ work ready j = n - j
 
-abbrev start : tie.At-loop invariant-loop decreases-loop → tie.Start invariant-loop decreases-loop
+abbrev start : tie.At-loop-j invariant-loop-j decreases-loop-j → tie.Start invariant-loop-j decreases-loop-j
 start c = c.before.before.before.before
 
-abbrev order_at : tie.At-loop invariant-loop decreases-loop → ℕ
+abbrev order_at : tie.At-loop-j invariant-loop-j decreases-loop-j → ℕ
 order_at c = get_or (start c).args.order.now c.loop.j 0
 
 -- a rank below the number of actions names one
-below : (c : tie.In-loop invariant-loop decreases-loop) → c.before.loop.j < actions (task_in (start c.before).args.task.now)
-below c = omega (arith, c.before.loop.invariant.0)
+below : (c : tie.In-loop-j invariant-loop-j decreases-loop-j) → c.loop-j.j < actions (task_in c.args.task.now)
+below c = omega (arith, c.loop-j.invariant.0)
 
-near : (c : tie.In-loop invariant-loop decreases-loop) → c.before.loop.j < 1024
-near c = omega (arith, below c, (start c.before).pre.0.formed.actions_max)
+near : (c : tie.In-loop-j invariant-loop-j decreases-loop-j) → c.loop-j.j < 1024
+near c = omega (arith, below c, c.requires.0.formed.actions_max)
 
-named : (c : tie.In-loop invariant-loop decreases-loop) → order_at c.before < actions (task_in (start c.before).args.task.now)
-named c = (start c.before).pre.1.named _ (below c)
+named : (c : tie.In-loop-j invariant-loop-j decreases-loop-j) → order_at c.before < actions (task_in c.args.task.now)
+named c = c.requires.1.named _ (below c)
 
-listed : (c : tie.In-loop invariant-loop decreases-loop) → Listed (start c.before).args.task.now (order_at c.before)
-listed c = loaded_listed _ (start c.before).pre.0 _ (named c)
+listed : (c : tie.In-loop-j invariant-loop-j decreases-loop-j) → Listed c.args.task.now (order_at c.before)
+listed c = loaded_listed _ c.requires.0 _ (named c)
 
-abbrev pre-start-to-in : tie.After-pre-start invariant-loop decreases-loop → tie.In-loop invariant-loop decreases-loop
-pre-start-to-in c = c.before.before.before
+abbrev pre_start_to_in : tie.After-pre_start invariant-loop-j decreases-loop-j → tie.In-loop-j invariant-loop-j decreases-loop-j
+pre_start_to_in c = c.before.before.before.before
 
-place : (c : tie.After-pre-start invariant-loop decreases-loop) → c.pre-start.result ≡ pre_at (start (pre-start-to-in c).before).args.task.now (order_at (pre-start-to-in c).before)
-place c = c.pre-start.ensures ∙ ap (pre_at (start (pre-start-to-in c).before).args.task.now) c.before.wide.ensures
+place : (c : tie.After-pre_start invariant-loop-j decreases-loop-j) → c.pre_start.result ≡ pre_at c.args.task.now (order_at c.before.before.before.before.before)
+place c = c.pre_start.ensures ∙ ap (pre_at c.args.task.now) c.wide.ensures
 
-actions-requires : tie.Need-actions-requires invariant-loop decreases-loop
-actions-requires c κs = search rules
+actions-n-requires : tie.Need-actions-n-requires invariant-loop-j decreases-loop-j
+actions-n-requires c κs = search rules
 
-loop-holds : tie.Need-loop-init invariant-loop decreases-loop
-loop-holds c =
-    let p = c.before.before.before.requires in
-    (c.actions.ensures, omega arith, entered_start (omega (arith, p.0.formed.variables_max)) p.2 p.3, refl)
+loop-j-init : tie.Need-loop-j-init invariant-loop-j decreases-loop-j
+loop-j-init c =
+    let p = c.requires in
+    (c.actions-n.ensures, omega arith, entered_start (omega (arith, p.0.formed.variables_max)) p.2 p.3, refl)
 
-mul_wide : tie.Need-overflow-mul-wide invariant-loop decreases-loop
-mul_wide c = record { fits = omega (arith, near c) }
+offset_bounds-order-j : tie.Need-offset_bounds-order-j invariant-loop-j decreases-loop-j
+offset_bounds-order-j c = record { fits = omega (arith, near c) }
 
-element-copy-out-wide : tie.Need-element-copy-out-wide invariant-loop decreases-loop
-element-copy-out-wide c = near c
+bounds-order-j : tie.Need-bounds-order-j invariant-loop-j decreases-loop-j
+bounds-order-j c = near c.before
 
-wide-requires : tie.Need-wide-requires invariant-loop decreases-loop
+wide-requires : tie.Need-wide-requires invariant-loop-j decreases-loop-j
 wide-requires c κs = search rules
 
-pre-start-requires : tie.Need-pre-start-requires invariant-loop decreases-loop
-pre-start-requires c κs =
-    let inside = c.before.before in
-    ((start inside.before).pre.0, rw c.wide.ensures (named inside))
+pre_start-requires : tie.Need-pre_start-requires invariant-loop-j decreases-loop-j
+pre_start-requires c κs =
+    (c.requires.0, rw c.wide.ensures (named c.before.before.before))
 
-cast-work : tie.Need-overflow-cast-work invariant-loop decreases-loop
-cast-work c =
-    let head = (pre-start-to-in c).before in
-    record { fits = omega (arith, place c, head.before.before.before.shared-slice-known.given (4 * (337 + order_at head) + 1)) }
+overflow_cast-work : tie.Need-overflow_cast-work invariant-loop-j decreases-loop-j
+overflow_cast-work c =
+    record { fits = omega (arith, place c, c.shared_slice_known-1.given (4 * (337 + order_at c.before.before.before.before.before) + 1)) }
 
-add-work : tie.Need-overflow-add-work invariant-loop decreases-loop
-add-work c = record { fits = omega (arith, near (pre-start-to-in c)) }
+overflow_add-work : tie.Need-overflow_add-work invariant-loop-j decreases-loop-j
+overflow_add-work c = record { fits = omega (arith, near c.before.before.before.before) }
 
-mul-work : tie.Need-overflow-mul-work invariant-loop decreases-loop
-mul-work c = record { fits = omega (arith, near (pre-start-to-in c)) }
+offset_bounds-work-j : tie.Need-offset_bounds-work-j invariant-loop-j decreases-loop-j
+offset_bounds-work-j c = record { fits = omega (arith, near c.before.before.before.before) }
 
-slice-write-work : tie.Need-slice-write-work invariant-loop decreases-loop
-slice-write-work c =
-    let inside = pre-start-to-in c in
-    omega (arith, near inside, inside.before.loop.inv.2.sites.long)
+bounds-work-j : tie.Need-bounds-work-j invariant-loop-j decreases-loop-j
+bounds-work-j c =
+    omega (arith, near c.before.before.before.before, c.loop-j.invariant.2.sites.long)
 
-cast-settle : tie.Need-overflow-cast-settle invariant-loop decreases-loop
-cast-settle c = record { fits = omega (arith, near (pre-start-to-in c.before.before)) }
+overflow_cast-j : tie.Need-overflow_cast-j invariant-loop-j decreases-loop-j
+overflow_cast-j c = record { fits = omega (arith, near c.before.before.before.before.before.before) }
 
-settle-requires : tie.Need-settle-requires invariant-loop decreases-loop
+settle-requires : tie.Need-settle-requires invariant-loop-j decreases-loop-j
 settle-requires c κs =
-    let inside = pre-start-to-in c.before.before in
-    let L = listed inside in
-    let E = inside.before.loop.inv.2 in (
-      ((start inside.before).pre.0, near inside, named inside),
-      (E.sites.ready_sound, entered_place E (near inside) (named inside) _ (place c.before.before) L.pre_below, rw length-set E.sites.long),
+    let L = listed c.before.before.before.before.before.before in
+    let E = c.loop-j.invariant.2 in (
+      (c.requires.0, near c.before.before.before.before.before.before, named c.before.before.before.before.before.before),
+      (E.sites.ready_sound, entered_place E (near c.before.before.before.before.before.before) (named c.before.before.before.before.before.before) _ (place c.before.before) L.pre_below, rw length-set E.sites.long),
     )
 
-add-j : tie.Need-overflow-add-j invariant-loop decreases-loop
-add-j c = search rules
+overflow_add-j : tie.Need-overflow_add-j invariant-loop-j decreases-loop-j
+overflow_add-j c = search rules
 
-loop-less : tie.Need-loop-smaller invariant-loop decreases-loop
-loop-less c = search rules
+loop-j-smaller : tie.Need-loop-j-smaller invariant-loop-j decreases-loop-j
+loop-j-smaller c = search rules
 
-loop-again : tie.Need-loop-preserved invariant-loop decreases-loop
-loop-again c =
-    let at-settle = c.before.before in
-    let inside = pre-start-to-in at-settle.before.before.before in
-    let I = inside.before.loop.inv in
-    let long = (rw length-set at c.before.work.given) ∙ I.3 in
-    (I.0, omega arith, entered_turn I.2 (near inside) (named inside) _ (place at-settle.before.before.before) (listed inside).pre_below _ _ at-settle.settle.ensures, long)
+loop-j-preserved : tie.Need-loop-j-preserved invariant-loop-j decreases-loop-j
+loop-j-preserved c =
+    let I = c.loop-j.invariant in
+    let long = (rw length-set at c.work-1.given) ∙ I.3 in
+    (I.0, omega arith, entered_turn I.2 (near c.before.before.before.before.before.before.before.before.before) (named c.before.before.before.before.before.before.before.before.before) _ (place c.before.before.before.before.before) (listed c.before.before.before.before.before.before.before.before.before).pre_below _ _ c.settle.ensures, long)
 
-same_length : tie.Need-same-length invariant-loop decreases-loop
-same_length c = search rules
+shape_of-work : tie.Need-shape_of-work invariant-loop-j decreases-loop-j
+shape_of-work c = search rules
 
-returns : tie.Need-returns invariant-loop decreases-loop
+returns : tie.Need-returns invariant-loop-j decreases-loop-j
 returns c =
-    let head = c.before in
-    let I = head.loop.invariant in
-    let e : head.loop.j ≡ actions (task_in (start head).args.task.now) = omega (arith, I.0, I.1) in
+    let I = c.loop-j.invariant in
+    let e : c.loop-j.j ≡ actions (task_in c.args.task.now) = omega (arith, I.0, I.1) in
     rw e at I.2.sites
 
-pub settle-each-spec : {M : Type 1} → statement M
-settle-each-spec =
-    tie.close
-    (tie.spec
-    invariant-loop
-    decreases-loop
-    actions-requires
-    loop-holds
-    mul_wide
-    element-copy-out-wide
-    wide-requires
-    pre-start-requires
-    cast-work
-    add-work
-    mul-work
-    slice-write-work
-    cast-settle
-    settle-requires
-    add-j
-    loop-less
-    loop-again
-    same_length
-    returns)
+pub settle_each_spec : {M : Type 1} → statement M
+settle_each_spec = tie.close (tie.spec invariant-loop-j decreases-loop-j actions-n-requires loop-j-init offset_bounds-order-j bounds-order-j wide-requires pre_start-requires overflow_cast-work overflow_add-work offset_bounds-work-j bounds-work-j overflow_cast-j settle-requires overflow_add-j loop-j-smaller loop-j-preserved shape_of-work returns)
