@@ -16,21 +16,30 @@ use Rattle.planning.specs.Runs.{State, holds, step, relaxed, run, variables, act
 use Rattle.planning.specs.Relaxed.{choice, forward, addable, forward_run, forward_end, reaches_goals}
 use Rattle.laws.proofs.Tests.{T→true, F→false}
 use Rattle.laws.proofs.Below.{total_le, total_pred, total_one, tally_pos}
-use Rattle.laws.proofs.Steps.{run_append}
+use Rattle.laws.proofs.Steps.{All, run_append}
 use Rattle.laws.proofs.Formed.{Formed, initial_holds}
-use Rattle.laws.proofs.Forward.{forward_take, forward_goal, forward_none, forward_run_ran, forward_run_once, eff_ranged}
+use Rattle.laws.proofs.Forward.{Once, forward_take, forward_goal, forward_none, forward_run_ran, forward_run_once, eff_ranged}
 use Rattle.task.specs.Task.{facts_in}
-use Rattle.waiting.specs.Waiting.{reaches, Passing}
+use Rattle.waiting.specs.Waiting.{reaches, Each, Passing}
 use Rattle.sets.specs.Sets.{sets_of}
 use Rattle.forward_run.specs.declared.Ran.{Ran}
 use Rattle.forward_run.specs.Running.{RanOf}
 use Rattle.waiting.proofs.Places.{holds_each, each_holds}
-use Rattle.waiting.proofs.Chains.{once-length}
+use Rattle.waiting.proofs.Chains.{Distinct, distinct_length}
 
 -- the run has at most 1,024 actions, since none is taken twice
+all_each : (P Q : ℕ → Type 0) → ((i : ℕ) → P i → Q i) → (l : List ℕ) → All P l → Each Q l
+all_each P Q f [] h = tt
+all_each P Q f (i ∷ l) h = (f i h.0, all_each P Q f l h.1)
+
+once_distinct : (l : List ℕ) → Once l → Distinct l
+once_distinct [] o = tt
+once_distinct (i ∷ l) o = (all_each (λ j. i ≢ j) (λ j. j ≢ i) (λ j n e. n (sym e)) l o.0, once_distinct l o.1)
+
 forward_run_few : (t : Task) → Formed t → length (forward_run t) ≤ 1024
 forward_run_few t F =
-    omega (arith, F.actions_max, once-length (actions t) (forward_run t) (forward_run_ran t F).below (forward_run_once t F))
+    let below = all_each (λ i. i < actions t) (λ i. i < actions t) (λ i h. h) (forward_run t) (forward_run_ran t F).below in
+    omega (arith, F.actions_max, distinct_length (actions t) (forward_run t) below (once_distinct (forward_run t) (forward_run_once t F)))
 
 -- F actions are enough from the initial state
 forward_run_fuel : (t : Task) → Formed t → total (variables t) (count t) ≤ size (variables t) (count t) (initial t) + addable t

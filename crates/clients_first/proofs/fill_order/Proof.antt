@@ -9,92 +9,66 @@ use borrow.Author.Rules.{rules}
 use Rattle.clients_first.proofs.fill_order.Statement.{statement}
 use Rattle.clients_first.proofs.fill_order.Tie as tie
 
-abbrev invariant-loop : tie.invariant-loop
-invariant-loop task₀ rows paint n left₀ k₀ task left k = Taking (task_in task₀) n task₀ task left k
+abbrev invariant-loop-k : tie.invariant-loop-k
+invariant-loop-k task₀ rows paint n left₀ k₀ task left k = Taking (task_in task₀) n task₀ task left k
 
-abbrev decreases-loop : tie.decreases-loop
-decreases-loop task₀ rows paint n left₀ k₀ task left k = n - k
+abbrev decreases-loop-k : tie.decreases-loop-k
+decreases-loop-k task₀ rows paint n left₀ k₀ task left k = n - k
 
-variables-requires : tie.Need-variables-requires invariant-loop decreases-loop
-variables-requires c κs = search rules
+variables-n-requires : tie.Need-variables-n-requires invariant-loop-k decreases-loop-k
+variables-n-requires c κs = search rules
 
-loop-holds : tie.Need-loop-init invariant-loop decreases-loop
-loop-holds c = let p = c.before.before.before.requires in taking_start _ _ _ p.1 c.variables.ensures _ _ p.2 (omega (arith, p.0.formed.variables_max, c.variables.ensures)) p.0.head
+loop-k-init : tie.Need-loop-k-init invariant-loop-k decreases-loop-k
+loop-k-init c = let p = c.requires in taking_start _ _ _ p.1 c.variables-n.ensures _ _ p.2 (omega (arith, p.0.formed.variables_max, c.variables-n.ensures)) p.0.head
 
-lowest-ready-requires : tie.Need-lowest-ready-requires invariant-loop decreases-loop
-lowest-ready-requires c κs = c.before.loop.invariant.few
+lowest_ready-f-requires : tie.Need-lowest_ready-f-requires invariant-loop-k decreases-loop-k
+lowest_ready-f-requires c κs = c.loop-k.invariant.few
 
-enum-known-f : tie.Need-enum-known-f invariant-loop decreases-loop
-enum-known-f c = search rules
+enum_known-f : tie.Need-enum_known-f invariant-loop-k decreases-loop-k
+enum_known-f c = search rules
 
-enum_told : tie.Need-enum-told invariant-loop decreases-loop
-enum_told c = search rules
+enum_told-1 : tie.Need-enum_told-1 invariant-loop-k decreases-loop-k
+enum_told-1 c = search rules
 
-same_length : tie.Need-same-length invariant-loop decreases-loop
-same_length c = c.before.before.before.before.loop.invariant.long
+shape_of-task-in_default : tie.Need-shape_of-task-in_default invariant-loop-k decreases-loop-k
+shape_of-task-in_default c = c.loop-k.invariant.long
 
-returns : tie.Need-returns invariant-loop decreases-loop
-returns c =
-    let l = c.before.before.before.before in
-    let v = l.before in
-    let p = v.before.before.before.requires in
-    taking_stop _ _ _ p.1 v.variables.ensures _ _ _ _ l.loop.invariant (sym (ap found_of c.enum_told.given.1) ∙ c.before.before.lowest-ready.ensures) refl
+returns-in_default : tie.Need-returns-in_default invariant-loop-k decreases-loop-k
+returns-in_default c =
+    let p = c.requires in
+    taking_stop _ _ _ p.1 c.variables-n.ensures _ _ _ _ c.loop-k.invariant (sym (ap found_of c.in_default.is) ∙ c.lowest_ready-f.ensures) refl
 
 -- the variable found is below 64
-below : (c : tie.After-known-told invariant-loop decreases-loop) → c.before.f.given.0.0 < 64
+below : (c : tie.In-At invariant-loop-k decreases-loop-k) → c.in-At.v < 64
 below c =
-    let k = c.before in
-    let l = k.before.before.before.before in
-    let v = l.before in
-    let p = v.before.before.before.requires in
-    let i = l.loop.invariant in
-    let b = taking_found _ _ _ p.1 v.variables.ensures _ _ _ _ i _ (sym (ap found_of k.f.given.1) ∙ k.before.before.lowest-ready.ensures) in
+    let p = c.requires in
+    let i = c.loop-k.invariant in
+    let b = taking_found _ _ _ p.1 c.variables-n.ensures _ _ _ _ i _ (sym (ap found_of c.in-At.is) ∙ c.lowest_ready-f.ensures) in
     omega (arith, i.few, b.0)
 
-set-order-requires : tie.Need-set-order-requires invariant-loop decreases-loop
-set-order-requires c κs = let i = c.before.before.before.before.before.before.loop.invariant in (omega (arith, i.few), below c.before, omega (arith, i.long, i.room))
+set_order-requires : tie.Need-set_order-requires invariant-loop-k decreases-loop-k
+set_order-requires c κs = let i = c.loop-k.invariant in (omega (arith, i.few), below c.before, omega (arith, i.long, i.room))
 
-single-requires : tie.Need-single-requires invariant-loop decreases-loop
-single-requires c κs = below c.before.before.before.before
+single-left-requires : tie.Need-single-left-requires invariant-loop-k decreases-loop-k
+single-left-requires c κs = below c.before.before.before.before
 
-add-k : tie.Need-overflow-add-k invariant-loop decreases-loop
-add-k c = search rules
+overflow_add-k : tie.Need-overflow_add-k invariant-loop-k decreases-loop-k
+overflow_add-k c = search rules
 
-loop-less : tie.Need-loop-smaller invariant-loop decreases-loop
-loop-less c = search rules
+loop-k-smaller : tie.Need-loop-k-smaller invariant-loop-k decreases-loop-k
+loop-k-smaller c = search rules
 
-loop-again : tie.Need-loop-preserved invariant-loop decreases-loop
-loop-again c =
-    let k = c.before.before.before.before.before.before in
-    let l = k.before.before.before.before in
-    let v = l.before in
-    let p = v.before.before.before.requires in
-    taking_turn _ _ _ p.1 v.variables.ensures _ _ _ _ l.loop.invariant (omega arith) _ _ _ (sym (ap found_of k.f.given.1) ∙ k.before.before.lowest-ready.ensures)
-    c.single.ensures c.before.before.before.set-order.ensures
+loop-k-preserved : tie.Need-loop-k-preserved invariant-loop-k decreases-loop-k
+loop-k-preserved c =
+    let p = c.requires in
+    taking_turn _ _ _ p.1 c.variables-n.ensures _ _ _ _ c.loop-k.invariant (omega arith) _ _ _ (sym (ap found_of c.in-At.is) ∙ c.lowest_ready-f.ensures)
+    c.single-left.ensures c.set_order.ensures
 
-same-length-2 : tie.Need-same-length-2 invariant-loop decreases-loop
-same-length-2 c = c.before.loop.invariant.long
+shape_of-task : tie.Need-shape_of-task invariant-loop-k decreases-loop-k
+shape_of-task c = c.loop-k.invariant.long
 
-returns-2 : tie.Need-returns-2 invariant-loop decreases-loop
-returns-2 c = let l = c.before in let v = l.before in let p = v.before.before.before.requires in taking_end _ _ _ p.1 v.variables.ensures _ _ _ _ l.loop.invariant (omega arith) refl
+returns : tie.Need-returns invariant-loop-k decreases-loop-k
+returns c = let p = c.requires in taking_end _ _ _ p.1 c.variables-n.ensures _ _ _ _ c.loop-k.invariant (omega arith) refl
 
-pub fill-order-spec : {M : Type 1} → statement M
-fill-order-spec =
-    tie.close
-    (tie.spec
-    invariant-loop
-    decreases-loop
-    variables-requires
-    loop-holds
-    lowest-ready-requires
-    enum-known-f
-    enum_told
-    same_length
-    returns
-    set-order-requires
-    single-requires
-    add-k
-    loop-less
-    loop-again
-    same-length-2
-    returns-2)
+pub fill_order_spec : {M : Type 1} → statement M
+fill_order_spec = tie.close (tie.spec invariant-loop-k decreases-loop-k variables-n-requires loop-k-init lowest_ready-f-requires enum_known-f enum_told-1 shape_of-task-in_default returns-in_default set_order-requires single-left-requires overflow_add-k loop-k-smaller loop-k-preserved shape_of-task returns)

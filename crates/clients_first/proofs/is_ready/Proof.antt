@@ -7,11 +7,11 @@ use Rattle.clients_first.proofs.is_ready.Tie as tie
 member-requires : tie.Need-member-requires
 member-requires c κs = search rules
 
-returns : tie.Need-returns
-returns c = let a = c.before.before.args in ready_of a.row a.left a.v (search rules) (search rules) (sym c.before.member.ensures ∙ c.if1.true)
+returns-then-member : tie.Need-returns-then-member
+returns-then-member c = let a = c.args in ready_of a.row a.left a.v (search rules) (search rules) (sym c.member.ensures ∙ c.if-member.true)
 
-returns-2 : tie.Need-returns-2
-returns-2 c = let a = c.before.before.args in unready_of a.row a.left a.v (sym c.before.member.ensures ∙ c.if1.false)
+returns-else-member : tie.Need-returns-else-member
+returns-else-member c = let a = c.args in unready_of a.row a.left a.v (sym c.member.ensures ∙ c.if-member.false)
 
-pub is-ready-spec : {M : Type 1} → statement M
-is-ready-spec = tie.close (tie.spec member-requires returns returns-2)
+pub is_ready_spec : {M : Type 1} → statement M
+is_ready_spec = tie.close (tie.spec member-requires returns-then-member returns-else-member)

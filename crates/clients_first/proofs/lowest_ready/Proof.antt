@@ -10,53 +10,40 @@ use native.Mathlib.Omega.{arith}
 use Rattle.clients_first.proofs.lowest_ready.Statement.{statement}
 use Rattle.clients_first.proofs.lowest_ready.Tie as tie
 
-abbrev invariant-loop : tie.invariant-loop
-invariant-loop rows left n v₀ v = Searched n (λ w. in_set left w && not (some_below 64 (λ u. in_set left u && sets_of rows w u))) v
+abbrev invariant-loop-v : tie.invariant-loop-v
+invariant-loop-v rows left n v₀ v = Searched n (λ w. in_set left w && not (some_below 64 (λ u. in_set left u && sets_of rows w u))) v
 
-abbrev decreases-loop : tie.decreases-loop
-decreases-loop rows left n v₀ v = n - v
+abbrev decreases-loop-v : tie.decreases-loop-v
+decreases-loop-v rows left n v₀ v = n - v
 
-loop-holds : tie.Need-loop-init invariant-loop decreases-loop
-loop-holds c = searched_start _ _
+loop-v-init : tie.Need-loop-v-init invariant-loop-v decreases-loop-v
+loop-v-init c = searched_start _ _
 
-mul-is-ready : tie.Need-overflow-mul-is-ready invariant-loop decreases-loop
-mul-is-ready c = search rules
+offset_bounds-rows-v : tie.Need-offset_bounds-rows-v invariant-loop-v decreases-loop-v
+offset_bounds-rows-v c = search rules
 
-element-copy-out-is-ready : tie.Need-element-copy-out-is-ready invariant-loop decreases-loop
-element-copy-out-is-ready c = search rules
+bounds-rows-v : tie.Need-bounds-rows-v invariant-loop-v decreases-loop-v
+bounds-rows-v c = search rules
 
-is-ready-requires : tie.Need-is-ready-requires invariant-loop decreases-loop
-is-ready-requires c κs = search rules
+is_ready-requires : tie.Need-is_ready-requires invariant-loop-v decreases-loop-v
+is_ready-requires c κs = search rules
 
-returns : tie.Need-returns invariant-loop decreases-loop
+returns-then-is_ready : tie.Need-returns-then-is_ready invariant-loop-v decreases-loop-v
 unfolding sets_of
-returns c = searched_hit _ _ _ c.before.before.before.before.loop.invariant (omega arith) (sym c.before.is-ready.ensures ∙ c.if1.true)
+returns-then-is_ready c = searched_hit _ _ _ c.loop-v.invariant (omega arith) (sym c.is_ready.ensures ∙ c.if-is_ready.true)
 
-add-v : tie.Need-overflow-add-v invariant-loop decreases-loop
-add-v c = search rules
+overflow_add-v : tie.Need-overflow_add-v invariant-loop-v decreases-loop-v
+overflow_add-v c = search rules
 
-loop-less : tie.Need-loop-smaller invariant-loop decreases-loop
-loop-less c = search rules
+loop-v-smaller : tie.Need-loop-v-smaller invariant-loop-v decreases-loop-v
+loop-v-smaller c = search rules
 
-loop-again : tie.Need-loop-preserved invariant-loop decreases-loop
+loop-v-preserved : tie.Need-loop-v-preserved invariant-loop-v decreases-loop-v
 unfolding sets_of
-loop-again c = searched_turn _ _ _ c.before.before.before.before.loop.invariant (omega arith) (sym c.before.is-ready.ensures ∙ c.if1.false)
+loop-v-preserved c = searched_turn _ _ _ c.loop-v.invariant (omega arith) (sym c.is_ready.ensures ∙ c.if-is_ready.false)
 
-returns-2 : tie.Need-returns-2 invariant-loop decreases-loop
-returns-2 c = searched_end _ _ _ c.before.loop.invariant (omega arith)
+returns : tie.Need-returns invariant-loop-v decreases-loop-v
+returns c = searched_end _ _ _ c.loop-v.invariant (omega arith)
 
-pub lowest-ready-spec : {M : Type 1} → statement M
-lowest-ready-spec =
-    tie.close
-    (tie.spec
-    invariant-loop
-    decreases-loop
-    loop-holds
-    mul-is-ready
-    element-copy-out-is-ready
-    is-ready-requires
-    returns
-    add-v
-    loop-less
-    loop-again
-    returns-2)
+pub lowest_ready_spec : {M : Type 1} → statement M
+lowest_ready_spec = tie.close (tie.spec invariant-loop-v decreases-loop-v loop-v-init offset_bounds-rows-v bounds-rows-v is_ready-requires returns-then-is_ready overflow_add-v loop-v-smaller loop-v-preserved returns)

@@ -3,17 +3,17 @@ use borrow.Author.Rules.{rules}
 use Rattle.clients_first.proofs.write_order.Statement.{statement}
 use Rattle.clients_first.proofs.write_order.Tie as tie
 
-fill-order-requires : tie.Need-fill-order-requires
-fill-order-requires c κs = search rules
+fill_order-n-requires : tie.Need-fill_order-n-requires
+fill_order-n-requires c κs = search rules
 
-end-order-requires : tie.Need-end-order-requires
-end-order-requires c κs = search rules
+end_order-requires : tie.Need-end_order-requires
+end_order-requires c κs = search rules
 
-same_length : tie.Need-same-length
-same_length c = search rules
+shape_of-task : tie.Need-shape_of-task
+shape_of-task c = search rules
 
 returns : tie.Need-returns
-returns c = let e = c.before.before in let f = e.before.before.before.before in ordered_end _ _ _ _ f.before.before.before.requires.0.head f.fill-order.ensures e.end-order.ensures
+returns c = ordered_end _ _ _ _ c.requires.0.head c.fill_order-n.ensures c.end_order.ensures
 
-pub write-order-spec : {M : Type 1} → statement M
-write-order-spec = tie.close (tie.spec fill-order-requires end-order-requires same_length returns)
+pub write_order_spec : {M : Type 1} → statement M
+write_order_spec = tie.close (tie.spec fill_order-n-requires end_order-requires shape_of-task returns)

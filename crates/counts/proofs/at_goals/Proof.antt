@@ -5,14 +5,14 @@ use Rattle.planning.specs.Runs.{holds}
 use Rattle.counts.proofs.at_goals.Statement.{statement}
 use Rattle.counts.proofs.at_goals.Tie as tie
 
-load-requires : tie.Need-load-requires
-load-requires c κs = search rules
+load-goals-requires : tie.Need-load-goals-requires
+load-goals-requires c κs = search rules
 
-all-newest-requires : tie.Need-all-newest-requires
-all-newest-requires c κs = let G = c.before.before.before.load.ensures in (omega arith, omega (arith, G.few), λ k _ h. G.small k h)
+all_newest-requires : tie.Need-all_newest-requires
+all_newest-requires c κs = let G = c.load-goals.ensures in (omega arith, omega (arith, G.few), λ k _ h. G.small k h)
 
 returns : tie.Need-returns
-returns c = c.all-newest.ensures ∙ ap (holds _) c.before.before.before.before.load.ensures.are
+returns c = c.all_newest.ensures ∙ ap (holds _) c.load-goals.ensures.are
 
-pub at-goals-spec : {M : Type 1} → statement M
-at-goals-spec = tie.close (tie.spec load-requires all-newest-requires returns)
+pub at_goals_spec : {M : Type 1} → statement M
+at_goals_spec = tie.close (tie.spec load-goals-requires all_newest-requires returns)

@@ -17,139 +17,102 @@ use Rattle.counts.proofs.Plainly.{gliding_start, gliding_more, glides_from, pass
 use Rattle.counts.proofs.glide.Statement.{statement}
 use Rattle.counts.proofs.glide.Tie as tie
 
-abbrev invariant-loop : tie.invariant-loop
-invariant-loop task plan to plain k i₀ r₀ now₀ i r now = Gliding (task_in task) plain plan to (values_of now₀.values) r₀ (values_of now.values) r × Few r
+abbrev invariant-loop-r : tie.invariant-loop-r
+invariant-loop-r task plan to plain k i₀ r₀ now₀ i r now = Gliding (task_in task) plain plan to (values_of now₀.values) r₀ (values_of now.values) r × Few r
 
-abbrev decreases-loop : tie.decreases-loop
-decreases-loop task plan to plain k i₀ r₀ now₀ i r now = to - r.steps
+abbrev decreases-loop-r : tie.decreases-loop-r
+decreases-loop-r task plan to plain k i₀ r₀ now₀ i r now = to - r.steps
 
 -- the points of a turn, from the last to the first
-abbrev first_of : tie.After-counted invariant-loop decreases-loop → tie.After-wide invariant-loop decreases-loop
-first_of c = c.before.before.before
+abbrev first_of : tie.After-counted-r invariant-loop-r decreases-loop-r → tie.After-wide-i invariant-loop-r decreases-loop-r
+first_of c = c.before.before
 
-abbrev begin-of : tie.After-wide invariant-loop decreases-loop → tie.Start invariant-loop decreases-loop
-begin-of c = c.before.before.before.before
+abbrev begin_of : tie.After-wide-i invariant-loop-r decreases-loop-r → tie.Start invariant-loop-r decreases-loop-r
+begin_of c = c.before.before.before.before
 
-abbrev start_of : tie.At-loop invariant-loop decreases-loop → tie.Start invariant-loop decreases-loop
-start_of h = begin-of (first_of h.before.before)
+abbrev start_of : tie.At-loop-r invariant-loop-r decreases-loop-r → tie.Start invariant-loop-r decreases-loop-r
+start_of c = c.before.before.before.before.before.before.before.before
 
-abbrev head_of : tie.After-wide2 invariant-loop decreases-loop → tie.At-loop invariant-loop decreases-loop
+abbrev head_of : tie.After-wide-i-in-loop-r invariant-loop-r decreases-loop-r → tie.At-loop-r invariant-loop-r decreases-loop-r
 head_of c = c.before.before.before.before
 
 -- an entry of the part that is gone along
-below : (s : tie.Start invariant-loop decreases-loop) (k i : ℕ) → k < s.args.to → i ≡ get_or s.args.plan.now k 0 → i < actions (task_in s.args.task.now)
+below : (s : tie.Start invariant-loop-r decreases-loop-r) (k i : ℕ) → k < s.args.to → i ≡ get_or s.args.plan.now k 0 → i < actions (task_in s.args.task.now)
 below s k i b e =
     let plan = s.args.plan.now in
     let same : get_or (take s.args.to plan) k 0 ≡ i = get_or-take s.args.to plan k 0 b ∙ sym e in
     subst (λ (x : ℕ). x < actions (task_in s.args.task.now)) same (s.requires.5 k (omega (arith, length-take-le s.args.to plan s.requires.4)))
 
-below-first : (c : tie.After-wide invariant-loop decreases-loop) → c.wide.result < actions (task_in (begin-of c).args.task.now)
-below-first c = let s = begin-of c in below s s.args.c.steps _ s.pre.2 c.wide.ensures
+below_first : (c : tie.After-wide-i invariant-loop-r decreases-loop-r) → c.wide-i.result < actions (task_in c.args.task.now)
+below_first c = below c.before.before.before.before c.args.c.steps _ c.requires.2 c.wide-i.ensures
 
-below_next : (c : tie.After-wide2 invariant-loop decreases-loop) → c.wide2.result < actions (task_in (start_of (head_of c)).args.task.now)
-below_next c = below (start_of (head_of c)) (head_of c).loop.r.steps _ c.before.before.if1.true c.wide2.ensures
+below_next : (c : tie.After-wide-i-in-loop-r invariant-loop-r decreases-loop-r) → c.wide-i-in-loop-r.result < actions (task_in c.args.task.now)
+below_next c = below c.before.before.before.before.before.before.before.before.before.before.before.before c.loop-r.r.steps _ c.loop-r-test.true c.wide-i-in-loop-r.ensures
 
-mul_wide : tie.Need-overflow-mul-wide invariant-loop decreases-loop
-mul_wide c = let s = c.before.before in omega (arith, s.requires.2, s.requires.3)
+offset_bounds-plan-k : tie.Need-offset_bounds-plan-k invariant-loop-r decreases-loop-r
+offset_bounds-plan-k c = omega (arith, c.requires.2, c.requires.3)
 
-shared-slice-read-wide : tie.Need-shared-slice-read-wide invariant-loop decreases-loop
-shared-slice-read-wide c = let s = c.before.before.before in omega (arith, s.requires.2, s.requires.4)
+bounds-plan-k : tie.Need-bounds-plan-k invariant-loop-r decreases-loop-r
+bounds-plan-k c = omega (arith, c.requires.2, c.requires.4)
 
-wide-requires : tie.Need-wide-requires invariant-loop decreases-loop
-wide-requires c κs = search rules
+wide-i-requires : tie.Need-wide-i-requires invariant-loop-r decreases-loop-r
+wide-i-requires c κs = search rules
 
-counted-requires : tie.Need-counted-requires invariant-loop decreases-loop
-counted-requires c κs =
-    let w = c.before.before in
-    let s = begin-of w in
-    (s.pre.0, below-first w, record { few = s.pre.1; more = omega (arith, s.pre.2, s.pre.3) })
+counted-r-requires : tie.Need-counted-r-requires invariant-loop-r decreases-loop-r
+counted-r-requires c κs =
+    (c.requires.0, below_first c.before, record { few = c.requires.1; more = omega (arith, c.requires.2, c.requires.3) })
 
-step-requires : tie.Need-step-requires invariant-loop decreases-loop
-step-requires c κs = let w = first_of c in ((begin-of w).pre.0, below-first w)
+step-now-requires : tie.Need-step-now-requires invariant-loop-r decreases-loop-r
+step-now-requires c κs = (c.requires.0, below_first c.before.before)
 
-loop-holds : tie.Need-loop-init invariant-loop decreases-loop
-loop-holds c =
-    let k = c.before in
-    let s = begin-of (first_of k) in
-    let O = k.counted.ensures in (
-      gliding_start _ _ _ _ _ _ (omega (arith, O.steps, s.pre.2)),
-      onward_few _ _ (s.pre.0.formed.cost_below _) s.pre.1 (omega (arith, s.pre.2, s.pre.3)) _ _ O,
+loop-r-init : tie.Need-loop-r-init invariant-loop-r decreases-loop-r
+loop-r-init c =
+    let O = c.counted-r.ensures in (
+      gliding_start _ _ _ _ _ _ (omega (arith, O.steps, c.requires.2)),
+      onward_few _ _ (c.requires.0.formed.cost_below _) c.requires.1 (omega (arith, c.requires.2, c.requires.3)) _ _ O,
     )
 
-mul-wide-2 : tie.Need-overflow-mul-wide-2 invariant-loop decreases-loop
-mul-wide-2 c = let s = start_of c.before.before in omega (arith, c.if1.true, s.pre.3)
+offset_bounds-plan-k-in-loop-r : tie.Need-offset_bounds-plan-k-in-loop-r invariant-loop-r decreases-loop-r
+offset_bounds-plan-k-in-loop-r c = omega (arith, c.loop-r-test.true, c.requires.3)
 
-shared-slice-read-wide-2 : tie.Need-shared-slice-read-wide-2 invariant-loop decreases-loop
-shared-slice-read-wide-2 c = let s = start_of c.before.before.before in omega (arith, c.before.if1.true, s.pre.4)
+bounds-plan-k-in-loop-r : tie.Need-bounds-plan-k-in-loop-r invariant-loop-r decreases-loop-r
+bounds-plan-k-in-loop-r c = omega (arith, c.loop-r-test.true, c.requires.4)
 
-wide-requires-2 : tie.Need-wide-requires-2 invariant-loop decreases-loop
-wide-requires-2 c κs = search rules
+wide-i-requires-in-loop-r : tie.Need-wide-i-requires-in-loop-r invariant-loop-r decreases-loop-r
+wide-i-requires-in-loop-r c κs = search rules
 
-is-listed-requires : tie.Need-is-listed-requires invariant-loop decreases-loop
-is-listed-requires c κs = omega (arith, below_next c, (start_of (head_of c)).pre.0.formed.actions_max)
+is_listed-requires : tie.Need-is_listed-requires invariant-loop-r decreases-loop-r
+is_listed-requires c κs = omega (arith, below_next c, c.requires.0.formed.actions_max)
 
-passed-requires : tie.Need-passed-requires invariant-loop decreases-loop
-passed-requires c κs =
-    let w = c.before.before in
-    let h = head_of w in
-    let s = start_of h in
-    (s.pre.0, below_next w, record { few = h.loop.inv.1; more = omega (arith, w.before.before.if1.true, s.pre.3) })
+passed-r-requires : tie.Need-passed-r-requires invariant-loop-r decreases-loop-r
+passed-r-requires c κs =
+    (c.requires.0, below_next c.before.before, record { few = c.loop-r.invariant.1; more = omega (arith, c.loop-r-test.true, c.requires.3) })
 
-step-requires-2 : tie.Need-step-requires-2 invariant-loop decreases-loop
-step-requires-2 c κs = let w = c.before.before.before in ((start_of (head_of w)).pre.0, below_next w)
+step-now-requires-in-loop-r : tie.Need-step-now-requires-in-loop-r invariant-loop-r decreases-loop-r
+step-now-requires-in-loop-r c κs = (c.requires.0, below_next c.before.before.before)
 
-abbrev wide_of : tie.After-passed invariant-loop decreases-loop → tie.After-wide2 invariant-loop decreases-loop
+abbrev wide_of : tie.After-passed-r invariant-loop-r decreases-loop-r → tie.After-wide-i-in-loop-r invariant-loop-r decreases-loop-r
 wide_of c = c.before.before.before
 
-loop-less : tie.Need-loop-smaller invariant-loop decreases-loop
-loop-less c =
-    let p = c.before in
-    let more : p.passed.result.steps ≡ (head_of (wide_of p)).loop.r.steps + 1 = ap (λ (x : Counts). x.steps) p.passed.ensures ∙ passed_steps _ _ in
-    omega (arith, more, (wide_of p).before.before.if1.true)
+loop-r-smaller : tie.Need-loop-r-smaller invariant-loop-r decreases-loop-r
+loop-r-smaller c =
+    let more : c.passed-r.result.steps ≡ c.loop-r.r.steps + 1 = ap (λ (x : Counts). x.steps) c.passed-r.ensures ∙ passed_steps _ _ in
+    omega (arith, more, c.loop-r-test.true)
 
-loop-again : tie.Need-loop-preserved invariant-loop decreases-loop
-loop-again c =
-    let p = c.before in
-    let e = p.before in
-    let w = wide_of p in
-    let h = head_of w in
-    let s = start_of h in
-    let b = w.before.before.if1.taken in
-    let own = true→T _ (sym e.before.is-listed.ensures ∙ not-false _ e.if2.false) in
-    let few = passed_few _ _ (s.pre.0.formed.cost_below _) h.loop.inv.1 (omega (arith, b, s.pre.3)) in
-    (gliding_more _ _ _ _ _ _ _ _ h.loop.inv.0 b _ w.wide2.ensures own _ _ c.step2.ensures p.passed.ensures, subst (λ (x : Counts). Few x) (sym p.passed.ensures) few)
+loop-r-preserved : tie.Need-loop-r-preserved invariant-loop-r decreases-loop-r
+loop-r-preserved c =
+    let b = c.loop-r-test.true in
+    let own = true→T _ (sym c.is_listed.ensures ∙ c.if-not-is_listed.false) in
+    let few = passed_few _ _ (c.requires.0.formed.cost_below _) c.loop-r.invariant.1 (omega (arith, b, c.requires.3)) in
+    (gliding_more _ _ _ _ _ _ _ _ c.loop-r.invariant.0 b _ c.wide-i-in-loop-r.ensures own _ _ c.step-now-in-loop-r.ensures c.passed-r.ensures, subst (λ (x : Counts). Few x) (sym c.passed-r.ensures) few)
 
-returns : tie.Need-returns invariant-loop decreases-loop
-returns c =
-    let h = c.before.before in
-    let k = h.before.before in
-    glides_from _ _ _ _ _ _ _ _ (first_of k).wide.ensures k.counted.ensures _ h.before.step.ensures h.loop.invariant.0
+returns-after-loop-r : tie.Need-returns-after-loop-r invariant-loop-r decreases-loop-r
+returns-after-loop-r c =
+    glides_from _ _ _ _ _ _ _ _ c.wide-i.ensures c.counted-r.ensures _ c.step-now.ensures c.loop-r.invariant.0
 
-returns-2 : tie.Need-returns-2 invariant-loop decreases-loop
-returns-2 c =
-    let h = c.before.before.before.before.before.before in
-    let k = h.before.before in
-    glides_from _ _ _ _ _ _ _ _ (first_of k).wide.ensures k.counted.ensures _ h.before.step.ensures h.loop.invariant.0
+returns-then-not-is_listed : tie.Need-returns-then-not-is_listed invariant-loop-r decreases-loop-r
+returns-then-not-is_listed c =
+    glides_from _ _ _ _ _ _ _ _ c.wide-i.ensures c.counted-r.ensures _ c.step-now.ensures c.loop-r.invariant.0
 
-pub glide-spec : {M : Type 1} → statement M
-glide-spec =
-    tie.close
-    (tie.spec
-    invariant-loop
-    decreases-loop
-    mul_wide
-    shared-slice-read-wide
-    wide-requires
-    counted-requires
-    step-requires
-    loop-holds
-    mul-wide-2
-    shared-slice-read-wide-2
-    wide-requires-2
-    is-listed-requires
-    passed-requires
-    step-requires-2
-    loop-less
-    loop-again
-    returns
-    returns-2)
+pub glide_spec : {M : Type 1} → statement M
+glide_spec = tie.close (tie.spec invariant-loop-r decreases-loop-r offset_bounds-plan-k bounds-plan-k wide-i-requires counted-r-requires step-now-requires loop-r-init offset_bounds-plan-k-in-loop-r bounds-plan-k-in-loop-r wide-i-requires-in-loop-r is_listed-requires passed-r-requires step-now-requires-in-loop-r loop-r-smaller loop-r-preserved returns-after-loop-r returns-then-not-is_listed)

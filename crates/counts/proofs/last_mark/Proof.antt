@@ -4,13 +4,13 @@ use Rattle.planning.specs.Basics.{one_if}
 use Rattle.counts.proofs.last_mark.Statement.{statement}
 use Rattle.counts.proofs.last_mark.Tie as tie
 
-returns : tie.Need-returns
+returns-then-action : tie.Need-returns-then-action
 unfolding one_if
-returns c = rw c.if1.true refl
+returns-then-action c = rw c.if-action.true refl
 
-returns-2 : tie.Need-returns-2
+returns-else-action : tie.Need-returns-else-action
 unfolding one_if
-returns-2 c = rw c.if1.false refl
+returns-else-action c = rw c.if-action.false refl
 
-pub last-mark-spec : {M : Type 1} → statement M
-last-mark-spec = tie.close (tie.spec returns returns-2)
+pub last_mark_spec : {M : Type 1} → statement M
+last_mark_spec = tie.close (tie.spec returns-then-action returns-else-action)

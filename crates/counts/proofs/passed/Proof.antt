@@ -12,39 +12,41 @@ use Rattle.sets.specs.Sets.{further}
 use Rattle.counts.proofs.Plainly.{passed_all, passed_some, passed_is}
 use Rattle.counts.proofs.passed.Statement.{statement}
 use Rattle.counts.proofs.passed.Tie as tie
+use Rattle.counts.proofs.passed.Lts.{then-runs-c, else-runs-c}
 
-abbrev joined_of : tie.After-cost → tie.Joined1
+abbrev joined_of : tie.After-cost → tie.Joined-runs-c
 joined_of c = c.before.before
 
 abbrev start_of : tie.After-cost → tie.Start
-start_of c = (joined_of c).before.before.before
+start_of c = c.before.before.before.before.before
 
-cost-is : (c : tie.After-cost) → let s = start_of c in c.cost.result ≡ (act (task_in s.args.task.now) s.args.i).cost
+cost_is : (c : tie.After-cost) → c.cost.result ≡ (act (task_in c.args.task.now) c.args.i).cost
 unfolding action_in
-cost-is c = let s = start_of c in c.cost.ensures ∙ ap (λ (a : Action). a.cost) (sym (task_in_act s.args.task.now s.args.i s.pre.1))
+cost_is c = c.cost.ensures ∙ ap (λ (a : Action). a.cost) (sym (task_in_act c.args.task.now c.args.i c.requires.1))
 
-runs-are : (j : tie.Joined1) → let c = j.before.before.before.args.c in j.if1.runs ≡ further true c.runs c.steps
-runs-are j =
-    let s = j.before.before.before in
-    let a = act (task_in s.args.task.now) s.args.i in
-    ⊎_elim (λ w. passed_all a s.args.c _ (eq-eqb _ _ w.0.taken) w.1) (λ w. w.1 ∙ passed_some a s.args.c (ne_eqb _ _ w.0.left)) j.if1.branch
+runs_are : (j : tie.Joined-runs-c) → let c = j.args.c in j.if-runs-c.runs ≡ further true c.runs c.steps
+runs_are j =
+    let a = act (task_in j.args.task.now) j.args.i in
+    elim j.if-runs-c.branch [
+      | then-runs-c w ↦ passed_all a j.args.c _ (eq-eqb _ _ w.if-runs-c.true) w.runs-is
+      | else-runs-c w ↦ w.runs-is ∙ passed_some a j.args.c (ne_eqb _ _ w.if-runs-c.false)
+    ]
 
-add-runs : tie.Need-overflow-add-runs
-add-runs c = search rules
+overflow_add-runs : tie.Need-overflow_add-runs
+overflow_add-runs c = search rules
 
-add-t6 : tie.Need-overflow-add-t6
-add-t6 c = search rules
+overflow_add-result : tie.Need-overflow_add-result
+overflow_add-result c = search rules
 
 cost-requires : tie.Need-cost-requires
 cost-requires c κs = search rules
 
-add-t8 : tie.Need-overflow-add-t8
-add-t8 c =
-    let s = start_of c.before in
-    omega (arith, cost-is c.before, s.pre.0.formed.cost_below s.args.i, s.pre.2.few.cost, s.pre.2.more)
+overflow_add-result-2 : tie.Need-overflow_add-result-2
+overflow_add-result-2 c =
+    omega (arith, cost_is c.before, c.requires.0.formed.cost_below c.args.i, c.requires.2.few.cost, c.requires.2.more)
 
 returns : tie.Need-returns
-returns c = passed_is _ _ _ _ (runs-are (joined_of c.before)) (cost-is c.before)
+returns c = passed_is _ _ _ _ (runs_are c.before.before.before) (cost_is c.before)
 
-pub passed-spec : {M : Type 1} → statement M
-passed-spec = tie.close (tie.spec add-runs add-t6 cost-requires add-t8 returns)
+pub passed_spec : {M : Type 1} → statement M
+passed_spec = tie.close (tie.spec overflow_add-runs overflow_add-result cost-requires overflow_add-result-2 returns)

@@ -1,28 +1,29 @@
+use borrow.Author.Tests.{eq-eqb, ne_eqb}
 use borrow.Author.Rules.{rules}
 use Rattle.counts.proofs.Counting.{judged_all, judged_some}
 use Rattle.counts.proofs.verdict.Statement.{statement}
 use Rattle.counts.proofs.verdict.Tie as tie
 
-at-goals-requires : tie.Need-at-goals-requires
-at-goals-requires c κs = search rules
+at_goals-met-requires : tie.Need-at_goals-met-requires
+at_goals-met-requires c κs = search rules
 
-cast-t12 : tie.Need-overflow-cast-t12
-cast-t12 c = search rules
+overflow_cast-result : tie.Need-overflow_cast-result
+overflow_cast-result c = search rules
 
-cast-t14 : tie.Need-overflow-cast-t14
-cast-t14 c = search rules
+overflow_cast-result-2 : tie.Need-overflow_cast-result-2
+overflow_cast-result-2 c = search rules
 
-cast-t16 : tie.Need-overflow-cast-t16
-cast-t16 c = search rules
+overflow_cast-result-3 : tie.Need-overflow_cast-result-3
+overflow_cast-result-3 c = search rules
 
-cast-t18 : tie.Need-overflow-cast-t18
-cast-t18 c = search rules
+overflow_cast-result-4 : tie.Need-overflow_cast-result-4
+overflow_cast-result-4 c = search rules
 
-returns : tie.Need-returns
-returns c = judged_all _ _ _ _ c.if1.true c.before.at-goals.ensures
+returns-then-all : tie.Need-returns-then-all
+returns-then-all c = judged_all _ _ _ _ (eq-eqb _ _ c.if-all.true) c.at_goals-met.ensures
 
-returns-2 : tie.Need-returns-2
-returns-2 c = judged_some _ _ _ c.if1.false
+returns-else-all : tie.Need-returns-else-all
+returns-else-all c = judged_some _ _ _ (ne_eqb _ _ c.if-all.false)
 
-pub verdict-spec : {M : Type 1} → statement M
-verdict-spec = tie.close (tie.spec at-goals-requires cast-t12 cast-t14 cast-t16 cast-t18 returns returns-2)
+pub verdict_spec : {M : Type 1} → statement M
+verdict_spec = tie.close (tie.spec at_goals-met-requires overflow_cast-result overflow_cast-result-2 overflow_cast-result-3 overflow_cast-result-4 returns-then-all returns-else-all)

@@ -6,31 +6,29 @@ use native.Mathlib.Omega.{arith}
 use Rattle.cycles.proofs.closure.Statement.{statement}
 use Rattle.cycles.proofs.closure.Tie as tie
 
-abbrev invariant-loop : tie.invariant-loop
-invariant-loop n rows₀ k₀ rows k = Closing n rows₀ rows k
+abbrev invariant-loop-k : tie.invariant-loop-k
+invariant-loop-k n rows₀ k₀ rows k = Closing n rows₀ rows k
 
-abbrev decreases-loop : tie.decreases-loop
-decreases-loop n rows₀ k₀ rows k = n - k
+abbrev decreases-loop-k : tie.decreases-loop-k
+decreases-loop-k n rows₀ k₀ rows k = n - k
 
-loop-holds : tie.Need-loop-init invariant-loop decreases-loop
-loop-holds c = closing_start _ _ (search rules) c.requires.1
+loop-k-init : tie.Need-loop-k-init invariant-loop-k decreases-loop-k
+loop-k-init c = closing_start _ _ (search rules) c.requires.1
 
-join-at-requires : tie.Need-join-at-requires invariant-loop decreases-loop
-join-at-requires c κs = let l = c.before.before in (search rules, search rules, l.loop.invariant.long, l.loop.invariant.starts)
+join_at-requires : tie.Need-join_at-requires invariant-loop-k decreases-loop-k
+join_at-requires c κs = (search rules, search rules, c.loop-k.invariant.long, c.loop-k.invariant.starts)
 
-add-k : tie.Need-overflow-add-k invariant-loop decreases-loop
-add-k c = search rules
+overflow_add-k : tie.Need-overflow_add-k invariant-loop-k decreases-loop-k
+overflow_add-k c = search rules
 
-loop-less : tie.Need-loop-smaller invariant-loop decreases-loop
-loop-less c = search rules
+loop-k-smaller : tie.Need-loop-k-smaller invariant-loop-k decreases-loop-k
+loop-k-smaller c = search rules
 
-loop-again : tie.Need-loop-preserved invariant-loop decreases-loop
-loop-again c = let l = c.before.before.before in closing_turn _ _ _ _ l.loop.invariant (omega arith) _ c.join-at.ensures
+loop-k-preserved : tie.Need-loop-k-preserved invariant-loop-k decreases-loop-k
+loop-k-preserved c = closing_turn _ _ _ _ c.loop-k.invariant (omega arith) _ c.join_at.ensures
 
-returns : tie.Need-returns invariant-loop decreases-loop
-returns c = closing_end _ _ _ _ c.before.loop.invariant (omega arith)
+returns : tie.Need-returns invariant-loop-k decreases-loop-k
+returns c = closing_end _ _ _ _ c.loop-k.invariant (omega arith)
 
-pub closure-spec : {M : Type 1} → statement M
-closure-spec =
-    tie.close
-    (tie.spec invariant-loop decreases-loop loop-holds join-at-requires add-k loop-less loop-again returns)
+pub closure_spec : {M : Type 1} → statement M
+closure_spec = tie.close (tie.spec invariant-loop-k decreases-loop-k loop-k-init join_at-requires overflow_add-k loop-k-smaller loop-k-preserved returns)

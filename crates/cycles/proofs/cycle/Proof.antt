@@ -5,18 +5,17 @@ use borrow.Author.Rules.{rules}
 use Rattle.cycles.proofs.cycle.Statement.{statement}
 use Rattle.cycles.proofs.cycle.Tie as tie
 
-variables-requires : tie.Need-variables-requires
-variables-requires c κs = search rules
+variables-n-requires : tie.Need-variables-n-requires
+variables-n-requires c κs = search rules
 
-closure-requires : tie.Need-closure-requires
-closure-requires c κs = let p = c.before.before.requires in (omega (arith, p.0.formed.variables_max, c.variables.ensures), black_arc_starts _ _ _ p.1 c.variables.ensures)
+closure-ways-requires : tie.Need-closure-ways-requires
+closure-ways-requires c κs = let p = c.requires in (omega (arith, p.0.formed.variables_max, c.variables-n.ensures), black_arc_starts _ _ _ p.1 c.variables-n.ensures)
 
-lowest-on-cycle-requires : tie.Need-lowest-on-cycle-requires
-lowest-on-cycle-requires c κs = let v = c.before.before in omega (arith, v.before.before.requires.0.formed.variables_max, v.variables.ensures)
+lowest_on_cycle-requires : tie.Need-lowest_on_cycle-requires
+lowest_on_cycle-requires c κs = omega (arith, c.requires.0.formed.variables_max, c.variables-n.ensures)
 
 returns : tie.Need-returns
-returns c = let k = c.before.before in let v = k.before in c.lowest-on-cycle.ensures ∙ cycle_found _ _ _ _ v.before.before.requires.1 v.variables.ensures k.closure.ensures
+returns c = c.lowest_on_cycle.ensures ∙ cycle_found _ _ _ _ c.requires.1 c.variables-n.ensures c.closure-ways.ensures
 
-pub cycle-spec : {M : Type 1} → statement M
-cycle-spec =
-    tie.close (tie.spec variables-requires closure-requires lowest-on-cycle-requires returns)
+pub cycle_spec : {M : Type 1} → statement M
+cycle_spec = tie.close (tie.spec variables-n-requires closure-ways-requires lowest_on_cycle-requires returns)

@@ -7,11 +7,11 @@ use Rattle.cycles.proofs.extended.Tie as tie
 member-requires : tie.Need-member-requires
 member-requires c κs = search rules
 
-returns : tie.Need-returns
-returns c = let a = c.before.before.args in extended_row a.row a.k a.onward (sym c.before.member.ensures ∙ c.if1.true)
+returns-then-member : tie.Need-returns-then-member
+returns-then-member c = let a = c.args in extended_row a.row a.k a.onward (sym c.member.ensures ∙ c.if-member.true)
 
-returns-2 : tie.Need-returns-2
-returns-2 c = let a = c.before.before.args in same_row a.row a.k a.onward (sym c.before.member.ensures ∙ c.if1.false)
+returns-else-member : tie.Need-returns-else-member
+returns-else-member c = let a = c.args in same_row a.row a.k a.onward (sym c.member.ensures ∙ c.if-member.false)
 
-pub extended-spec : {M : Type 1} → statement M
-extended-spec = tie.close (tie.spec member-requires returns returns-2)
+pub extended_spec : {M : Type 1} → statement M
+extended_spec = tie.close (tie.spec member-requires returns-then-member returns-else-member)

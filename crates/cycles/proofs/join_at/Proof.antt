@@ -7,63 +7,47 @@ use native.Mathlib.Omega.{arith}
 use Rattle.cycles.proofs.join_at.Statement.{statement}
 use Rattle.cycles.proofs.join_at.Tie as tie
 
-abbrev invariant-loop : tie.invariant-loop
-invariant-loop rows₀ n k onward u₀ rows u = Joining n k rows₀ onward rows u
+abbrev invariant-loop-u : tie.invariant-loop-u
+invariant-loop-u rows₀ n k onward u₀ rows u = Joining n k rows₀ onward rows u
 
-abbrev decreases-loop : tie.decreases-loop
-decreases-loop rows₀ n k onward u₀ rows u = n - u
+abbrev decreases-loop-u : tie.decreases-loop-u
+decreases-loop-u rows₀ n k onward u₀ rows u = n - u
 
-mul-onward : tie.Need-overflow-mul-onward invariant-loop decreases-loop
-mul-onward c = search rules
+offset_bounds-rows-k : tie.Need-offset_bounds-rows-k invariant-loop-u decreases-loop-u
+offset_bounds-rows-k c = search rules
 
-element-copy-out-onward : tie.Need-element-copy-out-onward invariant-loop decreases-loop
-element-copy-out-onward c = search rules
+bounds-rows-k : tie.Need-bounds-rows-k invariant-loop-u decreases-loop-u
+bounds-rows-k c = search rules
 
-loop-holds : tie.Need-loop-init invariant-loop decreases-loop
-loop-holds c = joining_start _ _ _ c.before.requires.0 c.before.requires.3 _ c.before.requires.2 refl
+loop-u-init : tie.Need-loop-u-init invariant-loop-u decreases-loop-u
+loop-u-init c = joining_start _ _ _ c.requires.0 c.requires.3 _ c.requires.2 refl
 
-mul-extended : tie.Need-overflow-mul-extended invariant-loop decreases-loop
-mul-extended c = search rules
+offset_bounds-rows-u : tie.Need-offset_bounds-rows-u invariant-loop-u decreases-loop-u
+offset_bounds-rows-u c = search rules
 
-element-copy-out-extended : tie.Need-element-copy-out-extended invariant-loop decreases-loop
-element-copy-out-extended c = search rules
+bounds-rows-u : tie.Need-bounds-rows-u invariant-loop-u decreases-loop-u
+bounds-rows-u c = search rules
 
-extended-requires : tie.Need-extended-requires invariant-loop decreases-loop
+extended-requires : tie.Need-extended-requires invariant-loop-u decreases-loop-u
 extended-requires c κs = search rules
 
-mul-rows : tie.Need-overflow-mul-rows invariant-loop decreases-loop
-mul-rows c = search rules
+offset_bounds-rows-u-in-loop-u : tie.Need-offset_bounds-rows-u-in-loop-u invariant-loop-u decreases-loop-u
+offset_bounds-rows-u-in-loop-u c = search rules
 
-element-write-rows : tie.Need-element-write-rows invariant-loop decreases-loop
-element-write-rows c = search rules
+bounds-rows-u-in-loop-u : tie.Need-bounds-rows-u-in-loop-u invariant-loop-u decreases-loop-u
+bounds-rows-u-in-loop-u c = search rules
 
-add-u : tie.Need-overflow-add-u invariant-loop decreases-loop
-add-u c = search rules
+overflow_add-u : tie.Need-overflow_add-u invariant-loop-u decreases-loop-u
+overflow_add-u c = search rules
 
-loop-less : tie.Need-loop-smaller invariant-loop decreases-loop
-loop-less c = search rules
+loop-u-smaller : tie.Need-loop-u-smaller invariant-loop-u decreases-loop-u
+loop-u-smaller c = search rules
 
-loop-again : tie.Need-loop-preserved invariant-loop decreases-loop
-loop-again c = let l = c.before.before.before in joining_turn _ _ _ l.before.before.requires.0 l.before.before.requires.3 _ _ _ l.loop.invariant (omega arith) _ c.extended.ensures
+loop-u-preserved : tie.Need-loop-u-preserved invariant-loop-u decreases-loop-u
+loop-u-preserved c = joining_turn _ _ _ c.requires.0 c.requires.3 _ _ _ c.loop-u.invariant (omega arith) _ c.extended.ensures
 
-returns : tie.Need-returns invariant-loop decreases-loop
-returns c = let p = c.before.before.before.requires in record { long = c.before.loop.invariant.long; states = joining_end _ _ _ p.0 p.3 _ _ _ c.before.loop.invariant (omega arith) }
+returns : tie.Need-returns invariant-loop-u decreases-loop-u
+returns c = let p = c.requires in record { long = c.loop-u.invariant.long; states = joining_end _ _ _ p.0 p.3 _ _ _ c.loop-u.invariant (omega arith) }
 
-pub join-at-spec : {M : Type 1} → statement M
-join-at-spec =
-    tie.close
-    (tie.spec
-    invariant-loop
-    decreases-loop
-    mul-onward
-    element-copy-out-onward
-    loop-holds
-    mul-extended
-    element-copy-out-extended
-    extended-requires
-    mul-rows
-    element-write-rows
-    add-u
-    loop-less
-    loop-again
-    returns)
+pub join_at_spec : {M : Type 1} → statement M
+join_at_spec = tie.close (tie.spec invariant-loop-u decreases-loop-u offset_bounds-rows-k bounds-rows-k loop-u-init offset_bounds-rows-u bounds-rows-u extended-requires offset_bounds-rows-u-in-loop-u bounds-rows-u-in-loop-u overflow_add-u loop-u-smaller loop-u-preserved returns)

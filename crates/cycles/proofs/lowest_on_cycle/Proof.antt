@@ -8,53 +8,40 @@ use borrow.Author.Rules.{rules}
 use Rattle.cycles.proofs.lowest_on_cycle.Statement.{statement}
 use Rattle.cycles.proofs.lowest_on_cycle.Tie as tie
 
-abbrev invariant-loop : tie.invariant-loop
-invariant-loop rows n v₀ v = Searched n (λ u. sets_of rows u u) v
+abbrev invariant-loop-v : tie.invariant-loop-v
+invariant-loop-v rows n v₀ v = Searched n (λ u. sets_of rows u u) v
 
-abbrev decreases-loop : tie.decreases-loop
-decreases-loop rows n v₀ v = n - v
+abbrev decreases-loop-v : tie.decreases-loop-v
+decreases-loop-v rows n v₀ v = n - v
 
-loop-holds : tie.Need-loop-init invariant-loop decreases-loop
-loop-holds c = searched_start _ _
+loop-v-init : tie.Need-loop-v-init invariant-loop-v decreases-loop-v
+loop-v-init c = searched_start _ _
 
-mul-member : tie.Need-overflow-mul-member invariant-loop decreases-loop
-mul-member c = search rules
+offset_bounds-rows-v : tie.Need-offset_bounds-rows-v invariant-loop-v decreases-loop-v
+offset_bounds-rows-v c = search rules
 
-element-copy-out-member : tie.Need-element-copy-out-member invariant-loop decreases-loop
-element-copy-out-member c = search rules
+bounds-rows-v : tie.Need-bounds-rows-v invariant-loop-v decreases-loop-v
+bounds-rows-v c = search rules
 
-member-requires : tie.Need-member-requires invariant-loop decreases-loop
+member-requires : tie.Need-member-requires invariant-loop-v decreases-loop-v
 member-requires c κs = search rules
 
-returns : tie.Need-returns invariant-loop decreases-loop
+returns-then-member : tie.Need-returns-then-member invariant-loop-v decreases-loop-v
 unfolding sets_of
-returns c = searched_hit _ _ _ c.before.before.before.before.loop.invariant (omega arith) (sym c.before.member.ensures ∙ c.if1.true)
+returns-then-member c = searched_hit _ _ _ c.loop-v.invariant (omega arith) (sym c.member.ensures ∙ c.if-member.true)
 
-add-v : tie.Need-overflow-add-v invariant-loop decreases-loop
-add-v c = search rules
+overflow_add-v : tie.Need-overflow_add-v invariant-loop-v decreases-loop-v
+overflow_add-v c = search rules
 
-loop-less : tie.Need-loop-smaller invariant-loop decreases-loop
-loop-less c = search rules
+loop-v-smaller : tie.Need-loop-v-smaller invariant-loop-v decreases-loop-v
+loop-v-smaller c = search rules
 
-loop-again : tie.Need-loop-preserved invariant-loop decreases-loop
+loop-v-preserved : tie.Need-loop-v-preserved invariant-loop-v decreases-loop-v
 unfolding sets_of
-loop-again c = searched_turn _ _ _ c.before.before.before.before.loop.invariant (omega arith) (sym c.before.member.ensures ∙ c.if1.false)
+loop-v-preserved c = searched_turn _ _ _ c.loop-v.invariant (omega arith) (sym c.member.ensures ∙ c.if-member.false)
 
-returns-2 : tie.Need-returns-2 invariant-loop decreases-loop
-returns-2 c = searched_end _ _ _ c.before.loop.invariant (omega arith)
+returns : tie.Need-returns invariant-loop-v decreases-loop-v
+returns c = searched_end _ _ _ c.loop-v.invariant (omega arith)
 
-pub lowest-on-cycle-spec : {M : Type 1} → statement M
-lowest-on-cycle-spec =
-    tie.close
-    (tie.spec
-    invariant-loop
-    decreases-loop
-    loop-holds
-    mul-member
-    element-copy-out-member
-    member-requires
-    returns
-    add-v
-    loop-less
-    loop-again
-    returns-2)
+pub lowest_on_cycle_spec : {M : Type 1} → statement M
+lowest_on_cycle_spec = tie.close (tie.spec invariant-loop-v decreases-loop-v loop-v-init offset_bounds-rows-v bounds-rows-v member-requires returns-then-member overflow_add-v loop-v-smaller loop-v-preserved returns)

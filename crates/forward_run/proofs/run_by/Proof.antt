@@ -14,261 +14,194 @@ use Rattle.sets.specs.Sets.{sets_of}
 use Rattle.forward_run.proofs.Looping.{Looping, left, looping_start, looping_goals, looping_solved, looping_none, chosen_below, looping_drop, drop_less, take_room, looping_take, take_less}
 use Rattle.forward_run.proofs.run_by.Statement.{statement}
 use Rattle.forward_run.proofs.run_by.Tie as tie
+use Rattle.forward_run.proofs.run_by.Lts.{then-g-count-via-then-g-count, then-g-count-via-else-g-count+then-rank-ge1024}
 
-abbrev invariant-loop : tie.invariant-loop
-invariant-loop task order work₀ plan₀ goals count s₀ ready₀ steps₀ g₀ from₀ to₀ work plan s ready steps g from to =
+abbrev invariant-loop-g : tie.invariant-loop-g
+invariant-loop-g task order work₀ plan₀ goals count s₀ ready₀ steps₀ g₀ from₀ to₀ work plan s ready steps g from to =
     Looping task order goals plan s.sets work ready steps g from to × (length work ≡ length work₀)
 
-abbrev decreases-loop : tie.decreases-loop
-decreases-loop task order work₀ plan₀ goals count s₀ ready₀ steps₀ g₀ from₀ to₀ work plan s ready steps g from to =
+abbrev decreases-loop-g : tie.decreases-loop-g
+decreases-loop-g task order work₀ plan₀ goals count s₀ ready₀ steps₀ g₀ from₀ to₀ work plan s ready steps g from to =
     left task s.sets ready from to
 
 -- the points of the code, from the last to the first
-abbrev initial-to-start : tie.After-initial invariant-loop decreases-loop → tie.Start invariant-loop decreases-loop
-initial-to-start c = c.before.before.before.before
+abbrev initial_to_start : tie.After-initial-s invariant-loop-g decreases-loop-g → tie.Start invariant-loop-g decreases-loop-g
+initial_to_start c = c.before.before.before.before
 
-abbrev ready-to-initial : tie.After-ready invariant-loop decreases-loop → tie.After-initial invariant-loop decreases-loop
-ready-to-initial c = c.before.before.before.before
+abbrev ready_to_initial : tie.After-ready-1 invariant-loop-g decreases-loop-g → tie.After-initial-s invariant-loop-g decreases-loop-g
+ready_to_initial c = c.before.before.before
 
-abbrev settle-each-to-initial : tie.After-settle-each invariant-loop decreases-loop → tie.After-initial invariant-loop decreases-loop
-settle-each-to-initial c = ready-to-initial c.before
+abbrev settle_each_to_initial : tie.After-settle_each invariant-loop-g decreases-loop-g → tie.After-initial-s invariant-loop-g decreases-loop-g
+settle_each_to_initial c = c.before.before.before.before
 
-abbrev start : tie.At-loop invariant-loop decreases-loop → tie.Start invariant-loop decreases-loop
-start c = initial-to-start (settle-each-to-initial c.before.before.before)
+abbrev start : tie.At-loop-g invariant-loop-g decreases-loop-g → tie.Start invariant-loop-g decreases-loop-g
+start c = c.before.before.before.before.before.before.before.before.before.before.before
 
-abbrev wake-to-head : tie.After-wake invariant-loop decreases-loop → tie.At-loop invariant-loop decreases-loop
-wake-to-head c = c.before.before.before.before.before
+abbrev wake_to_head : tie.After-wake invariant-loop-g decreases-loop-g → tie.At-loop-g invariant-loop-g decreases-loop-g
+wake_to_head c = c.before.before.before.before
 
-abbrev unmet-to-work2 : tie.After-unmet invariant-loop decreases-loop → tie.After-work2 invariant-loop decreases-loop
-unmet-to-work2 c = c.before.before.before.before.before.before.before
+abbrev unmet_to_work2 : tie.After-unmet-g invariant-loop-g decreases-loop-g → tie.After-work-in-loop-g-1 invariant-loop-g decreases-loop-g
+unmet_to_work2 c = c.before.before.before.before.before
 
-abbrev unmet-to-wake : tie.After-unmet invariant-loop decreases-loop → tie.After-wake invariant-loop decreases-loop
-unmet-to-wake c = (unmet-to-work2 c).before
+abbrev unmet_to_wake : tie.After-unmet-g invariant-loop-g decreases-loop-g → tie.After-wake invariant-loop-g decreases-loop-g
+unmet_to_wake c = c.before.before.before.before.before.before
 
-abbrev lowest-to-unmet : tie.After-lowest invariant-loop decreases-loop → tie.After-unmet invariant-loop decreases-loop
-lowest-to-unmet c = c.before.before
+abbrev lowest_to_unmet : tie.After-lowest-rank invariant-loop-g decreases-loop-g → tie.After-unmet-g invariant-loop-g decreases-loop-g
+lowest_to_unmet c = c.before.before
 
-abbrev unmark-to-lowest : tie.After-unmark invariant-loop decreases-loop → tie.After-lowest invariant-loop decreases-loop
-unmark-to-lowest c = c.before.before.before.before
+abbrev unmark_to_lowest : tie.After-unmark invariant-loop-g decreases-loop-g → tie.After-lowest-rank invariant-loop-g decreases-loop-g
+unmark_to_lowest c = c.before.before.before.before
 
-abbrev wide-to-unmark : tie.After-wide invariant-loop decreases-loop → tie.After-unmark invariant-loop decreases-loop
-wide-to-unmark c = c.before.before
+abbrev wide_to_unmark : tie.After-wide-i invariant-loop-g decreases-loop-g → tie.After-unmark invariant-loop-g decreases-loop-g
+wide_to_unmark c = c.before.before.before
 
-abbrev tested-to-wide : tie.After-has-effects invariant-loop decreases-loop → tie.After-wide invariant-loop decreases-loop
-tested-to-wide c = c.before.before.before
+abbrev tested_to_wide : tie.After-has_effects invariant-loop-g decreases-loop-g → tie.After-wide-i invariant-loop-g decreases-loop-g
+tested_to_wide c = c.before.before
 
-abbrev unmark-to-head : tie.After-unmark invariant-loop decreases-loop → tie.At-loop invariant-loop decreases-loop
-unmark-to-head c = wake-to-head (unmet-to-wake (lowest-to-unmet (unmark-to-lowest c)))
+abbrev unmark_to_head : tie.After-unmark invariant-loop-g decreases-loop-g → tie.At-loop-g invariant-loop-g decreases-loop-g
+unmark_to_head c = c.before.before.before.before.before.before.before.before.before.before.before.before.before.before.before.before
 
-abbrev step-to-tested : tie.After-step invariant-loop decreases-loop → tie.After-has-effects invariant-loop decreases-loop
-step-to-tested c = c.before.before.before.before
+abbrev step_to_tested : tie.After-step-s invariant-loop-g decreases-loop-g → tie.After-has_effects invariant-loop-g decreases-loop-g
+step_to_tested c = c.before.before.before.before.before
 
-load-requires : tie.Need-load-requires invariant-loop decreases-loop
-load-requires c κs = search rules
+load-goals-requires : tie.Need-load-goals-requires invariant-loop-g decreases-loop-g
+load-goals-requires c κs = search rules
 
-initial-requires : tie.Need-initial-requires invariant-loop decreases-loop
-initial-requires c κs = search rules
+initial-s-requires : tie.Need-initial-s-requires invariant-loop-g decreases-loop-g
+initial-s-requires c κs = search rules
 
-settle-each-requires : tie.Need-settle-each-requires invariant-loop decreases-loop
-settle-each-requires c κs =
-    let p = (initial-to-start (ready-to-initial c)).pre in
+settle_each-requires : tie.Need-settle_each-requires invariant-loop-g decreases-loop-g
+settle_each-requires c κs =
+    let p = c.requires in
     (p.0, p.1, p.2, refl)
 
-goals-long : (c : tie.After-load invariant-loop decreases-loop) → length c.load.result.facts ≡ 64
-goals-long c = search rules
+goals_long : (c : tie.After-load-goals invariant-loop-g decreases-loop-g) → length c.load-goals.result.facts ≡ 64
+goals_long c = search rules
 
-loop-holds : tie.Need-loop-init invariant-loop decreases-loop
-loop-holds c =
-    let at-settle-each = c.before.before in
-    let at-initial = settle-each-to-initial at-settle-each in
-    let p = (initial-to-start at-initial).pre in
-    (looping_start p.0 p.1 at-initial.before.load.ensures (goals-long at-initial.before) p.3 at-initial.initial.ensures at-settle-each.settle-each.ensures, refl)
+loop-g-init : tie.Need-loop-g-init invariant-loop-g decreases-loop-g
+loop-g-init c =
+    let p = c.requires in
+    (looping_start p.0 p.1 c.load-goals.ensures (goals_long c.before.before.before.before.before.before.before) p.3 c.initial-s.ensures c.settle_each.ensures, refl)
 
-wake-requires : tie.Need-wake-requires invariant-loop decreases-loop
+wake-requires : tie.Need-wake-requires invariant-loop-g decreases-loop-g
 wake-requires c κs =
-    let I = c.before.before.before.before.loop.invariant.0 in
+    let I = c.loop-g.invariant.0 in
     (I.loaded, I.facts, I.settled)
 
-unmet-requires : tie.Need-unmet-requires invariant-loop decreases-loop
-unmet-requires c κs = looping_goals (wake-to-head c.before.before.before.before.before.before.before).loop.inv.0
+unmet-g-requires : tie.Need-unmet-g-requires invariant-loop-g decreases-loop-g
+unmet-g-requires c κs = looping_goals c.loop-g.invariant.0
 
-lowest-requires : tie.Need-lowest-requires invariant-loop decreases-loop
-lowest-requires c κs = (unmet-to-wake c.before).wake.ensures.0.ready_sound
+lowest-rank-requires : tie.Need-lowest-rank-requires invariant-loop-g decreases-loop-g
+lowest-rank-requires c κs = c.wake.ensures.0.ready_sound
 
 -- what waits stays in a list of one length
-long : (c : tie.After-unmet invariant-loop decreases-loop) → length (unmet-to-wake c).wake.new.1.1.1.0 ≡ length (wake-to-head (unmet-to-wake c)).before.before.before.settle-each.last.1.1.1.0
-long c = (unmet-to-work2 c).work2.given ∙ (wake-to-head (unmet-to-wake c)).loop.inv.1
+long : (c : tie.After-unmet-g invariant-loop-g decreases-loop-g) → length c.wake.new.work ≡ length c.settle_each.new.work
+long c = c.work-in-loop-g-1.given ∙ c.loop-g.invariant.1
 
-same_length : tie.Need-same-length invariant-loop decreases-loop
-same_length c =
-    let at-unmet = lowest-to-unmet c.before in
-    long at-unmet ∙ (wake-to-head (unmet-to-wake at-unmet)).before.before.work.given
+shape_of-work-then-g-count : tie.Need-shape_of-work-then-g-count invariant-loop-g decreases-loop-g
+shape_of-work-then-g-count c =
+    long c.before.before.before ∙ c.work-1.given
 
-returns : tie.Need-returns invariant-loop decreases-loop
-returns c =
-    let at-lowest = c.before in
-    let at-unmet = lowest-to-unmet at-lowest in
-    let at-wake = unmet-to-wake at-unmet in
-    let I = (wake-to-head at-wake).loop.inv.0 in
-    let S = at-wake.wake.ensures.0 in
-    let U = at-unmet.unmet.ensures in
-    elim c.if1.branch [
-      | inl met ↦ looping_solved I S U met.taken _ refl (eq-eqb _ _ met.taken) refl
-      | inr none ↦ looping_none I S U none.0.left at-lowest.lowest.ensures (leb-true 1024 _ none.1.taken) _ refl (ne_eqb _ _ none.0.left) refl
+returns-then-g-count : tie.Need-returns-then-g-count invariant-loop-g decreases-loop-g
+returns-then-g-count c =
+    let I = c.loop-g.invariant.0 in
+    let S = c.wake.ensures.0 in
+    let U = c.unmet-g.ensures in
+    elim c.then-g-count.branch [
+      | then-g-count-via-then-g-count met ↦ looping_solved I S U met.if-g-count.true _ refl (eq-eqb _ _ met.if-g-count.true) refl
+      | then-g-count-via-else-g-count+then-rank-ge1024 none ↦ looping_none I S U none.if-g-count.false c.lowest-rank.ensures none.if-rank-ge1024.true _ refl (ne_eqb _ _ none.if-g-count.false) refl
     ]
 
-unmark-requires : tie.Need-unmark-requires invariant-loop decreases-loop
+unmark-requires : tie.Need-unmark-requires invariant-loop-g decreases-loop-g
 unmark-requires c κs =
-    let at-lowest = c.before.before.before in
-    let b = leb-false 1024 at-lowest.lowest.result c.before.if2.false in
-    (b, (unmet-to-wake (lowest-to-unmet at-lowest)).wake.ensures.0.ready_sound, at-lowest.lowest.ensures.is b)
+    let b = c.if-rank-ge1024.false in
+    (b, c.wake.ensures.0.ready_sound, c.lowest-rank.ensures.is b)
 
-below : (c : tie.After-unmark invariant-loop decreases-loop) → (unmark-to-lowest c).lowest.result < 1024
-below c = leb-false 1024 (unmark-to-lowest c).lowest.result c.before.before.if2.false
+below : (c : tie.After-unmark invariant-loop-g decreases-loop-g) → c.lowest-rank.result < 1024
+below c = c.if-rank-ge1024.false
 
-mul_wide : tie.Need-overflow-mul-wide invariant-loop decreases-loop
-mul_wide c = record { fits = omega (arith, below c) }
+offset_bounds-order-rank : tie.Need-offset_bounds-order-rank invariant-loop-g decreases-loop-g
+offset_bounds-order-rank c = record { fits = omega (arith, below c) }
 
-element-copy-out-wide : tie.Need-element-copy-out-wide invariant-loop decreases-loop
-element-copy-out-wide c = below c
+bounds-order-rank : tie.Need-bounds-order-rank invariant-loop-g decreases-loop-g
+bounds-order-rank c = below c.before
 
-wide-requires : tie.Need-wide-requires invariant-loop decreases-loop
-wide-requires c κs = tt
+wide-i-requires : tie.Need-wide-i-requires invariant-loop-g decreases-loop-g
+wide-i-requires c κs = tt
 
-chosen : (c : tie.After-wide invariant-loop decreases-loop) → c.wide.result < actions (task_in (start (unmark-to-head (wide-to-unmark c))).args.task.now)
+chosen : (c : tie.After-wide-i invariant-loop-g decreases-loop-g) → c.wide-i.result < actions (task_in c.args.task.now)
 chosen c =
-    let at-unmark = wide-to-unmark c in
-    let at-lowest = unmark-to-lowest at-unmark in
-    let at-unmet = lowest-to-unmet at-lowest in
-    let at-wake = unmet-to-wake at-unmet in
-    chosen_below (wake-to-head at-wake).loop.inv.0 at-wake.wake.ensures.0 at-unmet.unmet.ensures at-unmark.before.before.before.if1.left at-lowest.lowest.ensures
-    (below at-unmark) c.wide.ensures
+    chosen_below c.loop-g.invariant.0 c.wake.ensures.0 c.unmet-g.ensures c.if-g-count.false c.lowest-rank.ensures
+    (below c.before.before.before) c.wide-i.ensures
 
-has-effects-requires : tie.Need-has-effects-requires invariant-loop decreases-loop
-has-effects-requires c κs =
-    let at_wide = c.before.before in
-    ((unmark-to-head (wide-to-unmark at_wide)).loop.inv.0.loaded, chosen at_wide)
+has_effects-requires : tie.Need-has_effects-requires invariant-loop-g decreases-loop-g
+has_effects-requires c κs =
+    (c.loop-g.invariant.0.loaded, chosen c.before)
 
 -- what the test of the effects says
-fresh : (c : tie.Then3 invariant-loop decreases-loop) → let at_wide = tested-to-wide c.before in let head = unmark-to-head (wide-to-unmark at_wide) in
-    holds (sets_of head.loop.s.sets) (act (task_in (start head).args.task.now) at_wide.wide.result).eff ≡ false
-fresh c = sym c.before.has-effects.ensures ∙ not-true _ c.if3.true
+fresh : (c : tie.Then-not-has_effects invariant-loop-g decreases-loop-g) → holds (sets_of c.loop-g.s.sets) (act (task_in c.args.task.now) c.wide-i.result).eff ≡ false
+fresh c = sym c.has_effects.ensures ∙ c.if-not-has_effects.true
 
-stale : (c : tie.Else3 invariant-loop decreases-loop) → let at_wide = tested-to-wide c.before in let head = unmark-to-head (wide-to-unmark at_wide) in
-    holds (sets_of head.loop.s.sets) (act (task_in (start head).args.task.now) at_wide.wide.result).eff ≡ true
-stale c = sym c.before.has-effects.ensures ∙ not-false _ c.if3.false
+stale : (c : tie.Else-not-has_effects invariant-loop-g decreases-loop-g) → holds (sets_of c.loop-g.s.sets) (act (task_in c.args.task.now) c.wide-i.result).eff ≡ true
+stale c = sym c.has_effects.ensures ∙ c.if-not-has_effects.false
 
-room : (c : tie.Then3 invariant-loop decreases-loop) → (unmark-to-head (wide-to-unmark (tested-to-wide c.before))).loop.steps < 1024
+room : (c : tie.Then-not-has_effects invariant-loop-g decreases-loop-g) → c.loop-g.steps < 1024
 room c =
-    let at_wide = tested-to-wide c.before in
-    let at-unmark = wide-to-unmark at_wide in
-    let at-lowest = unmark-to-lowest at-unmark in
-    let at-unmet = lowest-to-unmet at-lowest in
-    let at-wake = unmet-to-wake at-unmet in
-    take_room (wake-to-head at-wake).loop.inv.0 at-wake.wake.ensures.0 at-unmet.unmet.ensures at-unmark.before.before.before.if1.left at-lowest.lowest.ensures (below at-unmark)
-    at_wide.wide.ensures at-unmark.unmark.ensures (fresh c)
+    take_room c.loop-g.invariant.0 c.wake.ensures.0 c.unmet-g.ensures c.if-g-count.false c.lowest-rank.ensures (below c.before.before.before.before.before.before)
+    c.wide-i.ensures c.unmark.ensures (fresh c)
 
-cast-plan : tie.Need-overflow-cast-plan invariant-loop decreases-loop
-cast-plan c = record { fits = omega (arith, chosen (tested-to-wide c.before)) }
+overflow_cast-plan : tie.Need-overflow_cast-plan invariant-loop-g decreases-loop-g
+overflow_cast-plan c = record { fits = omega (arith, chosen c.before.before.before) }
 
-mul-plan : tie.Need-overflow-mul-plan invariant-loop decreases-loop
-mul-plan c = record { fits = omega (arith, room c) }
+offset_bounds-plan-steps : tie.Need-offset_bounds-plan-steps invariant-loop-g decreases-loop-g
+offset_bounds-plan-steps c = record { fits = omega (arith, room c) }
 
-element-write-plan : tie.Need-element-write-plan invariant-loop decreases-loop
-element-write-plan c = room c
+bounds-plan-steps : tie.Need-bounds-plan-steps invariant-loop-g decreases-loop-g
+bounds-plan-steps c = room c.before
 
-add-steps : tie.Need-overflow-add-steps invariant-loop decreases-loop
-add-steps c = record { fits = omega (arith, room c) }
+overflow_add-steps : tie.Need-overflow_add-steps invariant-loop-g decreases-loop-g
+overflow_add-steps c = record { fits = omega (arith, room c.before) }
 
 -- the action is one of the loaded task
-named : (c : tie.After-wide invariant-loop decreases-loop) → let t = (start (unmark-to-head (wide-to-unmark c))).args.task.now in Loaded t × (c.wide.result < actions (task_in t))
-named c = ((unmark-to-head (wide-to-unmark c)).loop.inv.0.loaded, chosen c)
+named : (c : tie.After-wide-i invariant-loop-g decreases-loop-g) → let t = c.args.task.now in Loaded t × (c.wide-i.result < actions (task_in t))
+named c = (c.loop-g.invariant.0.loaded, chosen c)
 
-eff-start-requires : tie.Need-eff-start-requires invariant-loop decreases-loop
-eff-start-requires c κs = named (tested-to-wide c.before)
+eff_start-from-requires : tie.Need-eff_start-from-requires invariant-loop-g decreases-loop-g
+eff_start-from-requires c κs = named c.before.before.before.before
 
-eff-end-requires : tie.Need-eff-end-requires invariant-loop decreases-loop
-eff-end-requires c κs = named (tested-to-wide c.before.before)
+eff_end-to-requires : tie.Need-eff_end-to-requires invariant-loop-g decreases-loop-g
+eff_end-to-requires c κs = named c.before.before.before.before.before
 
-step-requires : tie.Need-step-requires invariant-loop decreases-loop
-step-requires c κs = named (tested-to-wide c.before.before.before)
+step-s-requires : tie.Need-step-s-requires invariant-loop-g decreases-loop-g
+step-s-requires c κs = named c.before.before.before.before.before.before
 
-loop-less : tie.Need-loop-smaller invariant-loop decreases-loop
-loop-less c =
-    let at_wide = tested-to-wide (step-to-tested c) in
-    let at-unmark = wide-to-unmark at_wide in
-    let at-lowest = unmark-to-lowest at-unmark in
-    let at-unmet = lowest-to-unmet at-lowest in
-    let at-wake = unmet-to-wake at-unmet in
-    take_less (wake-to-head at-wake).loop.inv.0 at-wake.wake.ensures.0 at-unmet.unmet.ensures at-unmark.before.before.before.if1.left at-lowest.lowest.ensures (below at-unmark)
-    at_wide.wide.ensures at-unmark.unmark.ensures (fresh c.before.before.before)
-    _ c.step.ensures c.before.before.eff-start.ensures c.before.eff-end.ensures
+loop-g-smaller-then-not-has_effects : tie.Need-loop-g-smaller-then-not-has_effects invariant-loop-g decreases-loop-g
+loop-g-smaller-then-not-has_effects c =
+    take_less c.loop-g.invariant.0 c.wake.ensures.0 c.unmet-g.ensures c.if-g-count.false c.lowest-rank.ensures (below c.before.before.before.before.before.before.before.before.before.before)
+    c.wide-i.ensures c.unmark.ensures (fresh c.before.before.before.before)
+    _ c.step-s.ensures c.eff_start-from.ensures c.eff_end-to.ensures
 
-loop-again : tie.Need-loop-preserved invariant-loop decreases-loop
-loop-again c =
-    let at_wide = tested-to-wide (step-to-tested c) in
-    let at-unmark = wide-to-unmark at_wide in
-    let at-lowest = unmark-to-lowest at-unmark in
-    let at-unmet = lowest-to-unmet at-lowest in
-    let at-wake = unmet-to-wake at-unmet in
-    let I = (wake-to-head at-wake).loop.inv in (
-      looping_take I.0 at-wake.wake.ensures.0 at-unmet.unmet.ensures at-unmark.before.before.before.if1.left at-lowest.lowest.ensures (below at-unmark)
-          at_wide.wide.ensures at-unmark.unmark.ensures (fresh c.before.before.before)
-          _ c.step.ensures c.before.before.eff-start.ensures c.before.eff-end.ensures,
-      long at-unmet,
+loop-g-preserved-then-not-has_effects : tie.Need-loop-g-preserved-then-not-has_effects invariant-loop-g decreases-loop-g
+loop-g-preserved-then-not-has_effects c =
+    let I = c.loop-g.invariant in (
+      looping_take I.0 c.wake.ensures.0 c.unmet-g.ensures c.if-g-count.false c.lowest-rank.ensures (below c.before.before.before.before.before.before.before.before.before.before)
+          c.wide-i.ensures c.unmark.ensures (fresh c.before.before.before.before)
+          _ c.step-s.ensures c.eff_start-from.ensures c.eff_end-to.ensures,
+      long c.before.before.before.before.before.before.before.before.before.before.before.before.before.before.before.before,
     )
 
-loop-less-2 : tie.Need-loop-smaller-2 invariant-loop decreases-loop
-loop-less-2 c =
-    let at_wide = tested-to-wide c.before in
-    let at-unmark = wide-to-unmark at_wide in
-    let at-lowest = unmark-to-lowest at-unmark in
-    let at-unmet = lowest-to-unmet at-lowest in
-    let at-wake = unmet-to-wake at-unmet in
-    drop_less (wake-to-head at-wake).loop.inv.0 at-wake.wake.ensures.0 at-unmet.unmet.ensures at-unmark.before.before.before.if1.left at-lowest.lowest.ensures (below at-unmark)
-    at_wide.wide.ensures at-unmark.unmark.ensures (stale c) at-wake.wake.ensures.1
+loop-g-smaller : tie.Need-loop-g-smaller invariant-loop-g decreases-loop-g
+loop-g-smaller c =
+    drop_less c.loop-g.invariant.0 c.wake.ensures.0 c.unmet-g.ensures c.if-g-count.false c.lowest-rank.ensures (below c.before.before.before.before.before.before)
+    c.wide-i.ensures c.unmark.ensures (stale c) c.wake.ensures.1
 
-loop-again-2 : tie.Need-loop-preserved-2 invariant-loop decreases-loop
-loop-again-2 c =
-    let at_wide = tested-to-wide c.before in
-    let at-unmark = wide-to-unmark at_wide in
-    let at-lowest = unmark-to-lowest at-unmark in
-    let at-unmet = lowest-to-unmet at-lowest in
-    let at-wake = unmet-to-wake at-unmet in
-    let I = (wake-to-head at-wake).loop.inv in (
-      looping_drop I.0 at-wake.wake.ensures.0 at-unmet.unmet.ensures at-unmark.before.before.before.if1.left at-lowest.lowest.ensures (below at-unmark)
-          at_wide.wide.ensures at-unmark.unmark.ensures (stale c),
-      long at-unmet,
+loop-g-preserved : tie.Need-loop-g-preserved invariant-loop-g decreases-loop-g
+loop-g-preserved c =
+    let I = c.loop-g.invariant in (
+      looping_drop I.0 c.wake.ensures.0 c.unmet-g.ensures c.if-g-count.false c.lowest-rank.ensures (below c.before.before.before.before.before.before)
+          c.wide-i.ensures c.unmark.ensures (stale c),
+      long c.before.before.before.before.before.before.before.before.before.before.before.before,
     )
 
-pub run-by-spec : {M : Type 1} → statement M
-run-by-spec =
-    tie.close
-    (tie.spec
-    invariant-loop
-    decreases-loop
-    load-requires
-    initial-requires
-    settle-each-requires
-    loop-holds
-    wake-requires
-    unmet-requires
-    lowest-requires
-    same_length
-    returns
-    unmark-requires
-    mul_wide
-    element-copy-out-wide
-    wide-requires
-    has-effects-requires
-    cast-plan
-    mul-plan
-    element-write-plan
-    add-steps
-    eff-start-requires
-    eff-end-requires
-    step-requires
-    loop-less
-    loop-again
-    loop-less-2
-    loop-again-2)
+pub run_by_spec : {M : Type 1} → statement M
+run_by_spec = tie.close (tie.spec invariant-loop-g decreases-loop-g load-goals-requires initial-s-requires settle_each-requires loop-g-init wake-requires unmet-g-requires lowest-rank-requires shape_of-work-then-g-count returns-then-g-count unmark-requires offset_bounds-order-rank bounds-order-rank wide-i-requires has_effects-requires overflow_cast-plan offset_bounds-plan-steps bounds-plan-steps overflow_add-steps eff_start-from-requires eff_end-to-requires step-s-requires loop-g-smaller-then-not-has_effects loop-g-preserved-then-not-has_effects loop-g-smaller loop-g-preserved)

@@ -8,59 +8,42 @@ use borrow.Author.Rules.{rules}
 use Rattle.lacking.proofs.is_covered.Statement.{statement}
 use Rattle.lacking.proofs.is_covered.Tie as tie
 
-abbrev invariant-loop : tie.invariant-loop
-invariant-loop task marks own f kept last₀ s₀ last s = s ≤ 32
+abbrev invariant-loop-s : tie.invariant-loop-s
+invariant-loop-s task marks own f kept last₀ s₀ last s = s ≤ 32
 
-abbrev decreases-loop : tie.decreases-loop
-decreases-loop task marks own f kept last₀ s₀ last s = 32 - s
+abbrev decreases-loop-s : tie.decreases-loop-s
+decreases-loop-s task marks own f kept last₀ s₀ last s = 32 - s
 
-loop-holds : tie.Need-loop-init invariant-loop decreases-loop
-loop-holds c = search rules
+loop-s-init : tie.Need-loop-s-init invariant-loop-s decreases-loop-s
+loop-s-init c = search rules
 
-mul-j : tie.Need-overflow-mul-j invariant-loop decreases-loop
-mul-j c = search rules
+offset_bounds-kept-s : tie.Need-offset_bounds-kept-s invariant-loop-s decreases-loop-s
+offset_bounds-kept-s c = search rules
 
-element-copy-out-j : tie.Need-element-copy-out-j invariant-loop decreases-loop
-element-copy-out-j c = search rules
+bounds-kept-s : tie.Need-bounds-kept-s invariant-loop-s decreases-loop-s
+bounds-kept-s c = search rules
 
-all-marked-requires : tie.Need-all-marked-requires invariant-loop decreases-loop
-all-marked-requires c κs =
-    let l = c.before.before.before.before in
-    let p = l.before.before.before.requires in
-    (p.0.loaded, (p.1.each l.loop.s (omega arith) (omega (arith, p.0.small, c.before.if1.true))).below, p.2)
+all_marked-requires : tie.Need-all_marked-requires invariant-loop-s decreases-loop-s
+all_marked-requires c κs =
+    let p = c.requires in
+    (p.0.loaded, (p.1.each c.loop-s.s (omega arith) (omega (arith, p.0.small, c.if-j-f.true))).below, p.2)
 
-returns : tie.Need-returns invariant-loop decreases-loop
-returns c =
-    let m = c.before in
-    let k = m.before.before in
-    let l = k.before.before.before in
-    let p = l.before.before.before.requires in
-    λ _. complete_covers _ p.0.loaded.formed _ _ _ _ (kept_at _ _ p.1 l.loop.s _ _ (omega arith) refl p.0.small k.if1.true) (sym m.all-marked.ensures ∙ c.if2.true)
+returns-then-all_marked : tie.Need-returns-then-all_marked invariant-loop-s decreases-loop-s
+returns-then-all_marked c =
+    let p = c.requires in
+    λ _. complete_covers _ p.0.loaded.formed _ _ _ _ (kept_at _ _ p.1 c.loop-s.s _ _ (omega arith) refl p.0.small c.if-j-f.true) (sym c.all_marked.ensures ∙ c.if-all_marked.true)
 
-add-s : tie.Need-overflow-add-s invariant-loop decreases-loop
-add-s c = search rules
+overflow_add-s : tie.Need-overflow_add-s invariant-loop-s decreases-loop-s
+overflow_add-s c = search rules
 
-loop-less : tie.Need-loop-smaller invariant-loop decreases-loop
-loop-less c = search rules
+loop-s-smaller : tie.Need-loop-s-smaller invariant-loop-s decreases-loop-s
+loop-s-smaller c = search rules
 
-loop-again : tie.Need-loop-preserved invariant-loop decreases-loop
-loop-again c = search rules
+loop-s-preserved : tie.Need-loop-s-preserved invariant-loop-s decreases-loop-s
+loop-s-preserved c = search rules
 
-returns-2 : tie.Need-returns-2 invariant-loop decreases-loop
-returns-2 c = λ q. let z : ◌≡◌ {A = ℕ} 0 1 = cc in absurd (omega arith)
+returns : tie.Need-returns invariant-loop-s decreases-loop-s
+returns c = λ q. let z : ◌≡◌ {A = ℕ} 0 1 = cc in absurd (omega arith)
 
-pub is-covered-spec : {M : Type 1} → statement M
-is-covered-spec =
-    tie.close
-    (tie.spec
-    invariant-loop
-    decreases-loop
-    loop-holds
-    mul-j
-    element-copy-out-j
-    all-marked-requires
-    returns
-    add-s
-    loop-less
-    loop-again
-    returns-2)
+pub is_covered_spec : {M : Type 1} → statement M
+is_covered_spec = tie.close (tie.spec invariant-loop-s decreases-loop-s loop-s-init offset_bounds-kept-s bounds-kept-s all_marked-requires returns-then-all_marked overflow_add-s loop-s-smaller loop-s-preserved returns)

@@ -4,108 +4,81 @@ use borrow.Author.Rules.{rules}
 use Rattle.lacking.proofs.keep.Statement.{statement}
 use Rattle.lacking.proofs.keep.Tie as tie
 
-abbrev actions-to-start : tie.After-actions → tie.Start
-actions-to-start c = c.before.before.before.before.before.before.before
+abbrev actions_to_start : tie.After-actions → tie.Start
+actions_to_start c = c.before.before.before.before.before.before.before.before
 
-abbrev complete-to-start : tie.After-is-complete → tie.Start
-complete-to-start c = actions-to-start c.before.before.before.before
+abbrev complete_to_start : tie.After-is_complete → tie.Start
+complete_to_start c = c.before.before.before.before.before.before.before.before.before.before.before.before
 
-element-copy-out-tries : tie.Need-element-copy-out-tries
-element-copy-out-tries c = search rules
+bounds-last-1024 : tie.Need-bounds-last-1024
+bounds-last-1024 c = search rules
 
-returns : tie.Need-returns
-returns c = let p = c.before.before.before.before.requires in ready_more _ _ _ _ _ p.2 (omega arith)
+returns-then-tries-eq0 : tie.Need-returns-then-tries-eq0
+returns-then-tries-eq0 c = let p = c.requires in ready_more _ _ _ _ _ p.2 (omega arith)
 
-mul_wide : tie.Need-overflow-mul-wide
-mul_wide c = search rules
+overflow_mul-f : tie.Need-overflow_mul-f
+overflow_mul-f c = search rules
 
-add_wide : tie.Need-overflow-add-wide
-add_wide c = search rules
+overflow_add-f : tie.Need-overflow_add-f
+overflow_add-f c = search rules
 
-add-wide-2 : tie.Need-overflow-add-wide-2
-add-wide-2 c = search rules
+overflow_add-f-2 : tie.Need-overflow_add-f-2
+overflow_add-f-2 c = search rules
 
-mul-wide-2 : tie.Need-overflow-mul-wide-2
-mul-wide-2 c = search rules
+offset_bounds-last-f : tie.Need-offset_bounds-last-f
+offset_bounds-last-f c = search rules
 
-element-copy-out-wide : tie.Need-element-copy-out-wide
-element-copy-out-wide c = search rules
+bounds-last-f : tie.Need-bounds-last-f
+bounds-last-f c = search rules
 
-wide-requires : tie.Need-wide-requires
-wide-requires c κs = search rules
+wide-j-requires : tie.Need-wide-j-requires
+wide-j-requires c κs = search rules
 
 actions-requires : tie.Need-actions-requires
 actions-requires c κs = search rules
 
-returns-2 : tie.Need-returns-2
-returns-2 c = let p = (actions-to-start c.before).requires in ready_more _ _ _ _ _ p.2 (omega arith)
+returns-then-actions-j : tie.Need-returns-then-actions-j
+returns-then-actions-j c = let p = c.requires in ready_more _ _ _ _ _ p.2 (omega arith)
 
-is-complete-requires : tie.Need-is-complete-requires
-is-complete-requires c κs =
-    let x = c.before.before in
-    let p = (actions-to-start x.before).requires in
-    (p.0, omega (arith, x.before.actions.ensures, x.if2.false), p.2.unmarked, p.1)
+is_complete-requires : tie.Need-is_complete-requires
+is_complete-requires c κs =
+    let p = c.requires in
+    (p.0, omega (arith, c.actions.ensures, c.if-actions-j.false), p.2.unmarked, p.1)
 
-mul-kept : tie.Need-overflow-mul-kept
-mul-kept c = search rules
+overflow_mul-kept : tie.Need-overflow_mul-kept
+overflow_mul-kept c = search rules
 
-add_kept : tie.Need-overflow-add-kept
-add_kept c = search rules
+overflow_add-kept : tie.Need-overflow_add-kept
+overflow_add-kept c = search rules
 
-wide-requires-2 : tie.Need-wide-requires-2
-wide-requires-2 c κs = search rules
+wide-requires : tie.Need-wide-requires
+wide-requires c κs = search rules
 
-mul-kept-2 : tie.Need-overflow-mul-kept-2
-mul-kept-2 c = search rules
+offset_bounds-kept-wide : tie.Need-offset_bounds-kept-wide
+offset_bounds-kept-wide c = search rules
 
-element-write-kept : tie.Need-element-write-kept
-element-write-kept c = search rules
+bounds-kept-wide : tie.Need-bounds-kept-wide
+bounds-kept-wide c = search rules
 
-sub-last : tie.Need-overflow-sub-last
-sub-last c = search rules
+overflow_sub-last : tie.Need-overflow_sub-last
+overflow_sub-last c = search rules
 
-element-write-last : tie.Need-element-write-last
-element-write-last c = search rules
+bounds-last-1024-else-is_complete : tie.Need-bounds-last-1024-else-is_complete
+bounds-last-1024-else-is_complete c = search rules
 
-same_length : tie.Need-same-length
-same_length c = search rules
+shape_of-marks-then-is_complete : tie.Need-shape_of-marks-then-is_complete
+shape_of-marks-then-is_complete c = search rules
 
-returns-3 : tie.Need-returns-3
-returns-3 c =
-    let t = c.before in
-    let k = t.before.before.before in
-    let p = (complete-to-start k).requires in
-    record { unmarked = k.is-complete.ensures.1; complete = kept_more _ p.0.loaded.formed _ p.2.complete _ _ _ (omega arith) (k.is-complete.ensures.0 t.if3.true) }
+returns-then-is_complete : tie.Need-returns-then-is_complete
+returns-then-is_complete c =
+    let p = c.requires in
+    record { unmarked = c.is_complete.ensures.1; complete = kept_more _ p.0.loaded.formed _ p.2.complete _ _ _ (omega arith) (c.is_complete.ensures.0 c.if-is_complete.true) }
 
-same-length-2 : tie.Need-same-length-2
-same-length-2 c = search rules
+shape_of-marks-else-is_complete : tie.Need-shape_of-marks-else-is_complete
+shape_of-marks-else-is_complete c = search rules
 
-returns-4 : tie.Need-returns-4
-returns-4 c = search rules
+returns-else-is_complete : tie.Need-returns-else-is_complete
+returns-else-is_complete c = search rules
 
 pub keep_spec : {M : Type 1} → statement M
-keep_spec =
-    tie.close
-    (tie.spec
-    element-copy-out-tries
-    returns
-    mul_wide
-    add_wide
-    add-wide-2
-    mul-wide-2
-    element-copy-out-wide
-    wide-requires
-    actions-requires
-    returns-2
-    is-complete-requires
-    mul-kept
-    add_kept
-    wide-requires-2
-    mul-kept-2
-    element-write-kept
-    sub-last
-    element-write-last
-    same_length
-    returns-3
-    same-length-2
-    returns-4)
+keep_spec = tie.close (tie.spec bounds-last-1024 returns-then-tries-eq0 overflow_mul-f overflow_add-f overflow_add-f-2 offset_bounds-last-f bounds-last-f wide-j-requires actions-requires returns-then-actions-j is_complete-requires overflow_mul-kept overflow_add-kept wide-requires offset_bounds-kept-wide bounds-kept-wide overflow_sub-last bounds-last-1024-else-is_complete shape_of-marks-then-is_complete returns-then-is_complete shape_of-marks-else-is_complete returns-else-is_complete)

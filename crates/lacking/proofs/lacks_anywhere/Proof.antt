@@ -7,85 +7,56 @@ use borrow.Author.Rules.{rules}
 use Rattle.lacking.proofs.lacks_anywhere.Statement.{statement}
 use Rattle.lacking.proofs.lacks_anywhere.Tie as tie
 
-count-requires : tie.Need-count-requires
-count-requires c κs = let p = c.before.before.requires in (p.0.loaded, black_inside _ _ p.0.on)
+count-n-requires : tie.Need-count-n-requires
+count-n-requires c κs = let p = c.requires in (p.0.loaded, black_inside _ _ p.0.on)
 
-lacks-between-requires : tie.Need-lacks-between-requires
-lacks-between-requires c κs = search rules
+lacks_between-requires : tie.Need-lacks_between-requires
+lacks_between-requires c κs = search rules
 
-same_length : tie.Need-same-length
-same_length c = search rules
+shape_of-marks-then-n-lt16 : tie.Need-shape_of-marks-then-n-lt16
+shape_of-marks-then-n-lt16 c = search rules
 
-returns : tie.Need-returns
-returns c =
-    let n = c.before.before.before.before in
-    let p = n.before.before.before.requires in
-    (c.lacks-between.ensures ∙ all_values _ _ _ _ _ n.count.ensures, ready_more _ _ _ _ _ p.2 (omega arith))
+returns-then-n-lt16 : tie.Need-returns-then-n-lt16
+returns-then-n-lt16 c =
+    let p = c.requires in
+    (c.lacks_between.ensures ∙ all_values _ _ _ _ _ c.count-n.ensures, ready_more _ _ _ _ _ p.2 (omega arith))
 
-is-covered-requires : tie.Need-is-covered-requires
-is-covered-requires c κs = search rules
+is_covered-requires : tie.Need-is_covered-requires
+is_covered-requires c κs = search rules
 
-same-length-2 : tie.Need-same-length-2
-same-length-2 c = search rules
+shape_of-marks-then-is_covered : tie.Need-shape_of-marks-then-is_covered
+shape_of-marks-then-is_covered c = search rules
 
-returns-2 : tie.Need-returns-2
-returns-2 c =
-    let k = c.before in
-    let n = k.before.before.before.before.before in
-    let p = n.before.before.before.requires in
-    (sym (k.is-covered.ensures c.if2.true), ready_more _ _ _ _ _ p.2 (omega arith))
+returns-then-is_covered : tie.Need-returns-then-is_covered
+returns-then-is_covered c =
+    let p = c.requires in
+    (sym (c.is_covered.ensures c.if-is_covered.true), ready_more _ _ _ _ _ p.2 (omega arith))
 
-lacks-between-requires-2 : tie.Need-lacks-between-requires-2
-lacks-between-requires-2 c κs =
-    let k = c.before.before.before in
-    let n = k.before.before.before.before.before in
-    let p = n.before.before.before.requires in
-    (p.0, omega arith, few_values_lem _ p.0.loaded.formed _ _ n.count.ensures, p.2.unmarked.long)
+lacks_between-requires-2 : tie.Need-lacks_between-requires-2
+lacks_between-requires-2 c κs =
+    let p = c.requires in
+    (p.0, omega arith, few_values_lem _ p.0.loaded.formed _ _ c.count-n.ensures, p.2.unmarked.long)
 
-same-length-3 : tie.Need-same-length-3
-same-length-3 c = search rules
+shape_of-marks-then-lacks_between : tie.Need-shape_of-marks-then-lacks_between
+shape_of-marks-then-lacks_between c = search rules
 
-returns-3 : tie.Need-returns-3
-returns-3 c =
-    let b = c.before in
-    let k = b.before.before.before.before in
-    let n = k.before.before.before.before.before in
-    let p = n.before.before.before.requires in
-    (sym c.if3.true ∙ b.lacks-between2.ensures ∙ all_values _ _ _ _ _ n.count.ensures, ready_more _ _ _ _ _ p.2 (omega arith))
+returns-then-lacks_between : tie.Need-returns-then-lacks_between
+returns-then-lacks_between c =
+    let p = c.requires in
+    (sym c.if-lacks_between.true ∙ c.lacks_between-2.ensures ∙ all_values _ _ _ _ _ c.count-n.ensures, ready_more _ _ _ _ _ p.2 (omega arith))
 
-add-keep : tie.Need-overflow-add-keep
-add-keep c = search rules
+overflow_add-own : tie.Need-overflow_add-own
+overflow_add-own c = search rules
 
 keep-requires : tie.Need-keep-requires
 keep-requires c κs = search rules
 
-same-length-4 : tie.Need-same-length-4
-same-length-4 c = search rules
+shape_of-marks : tie.Need-shape_of-marks
+shape_of-marks c = search rules
 
-returns-4 : tie.Need-returns-4
-returns-4 c =
-    let y = c.before.before in
-    let x = y.before.before.before.before in
-    let b = x.before in
-    let k = b.before.before.before.before in
-    let n = k.before.before.before.before.before in
-    (sym x.if3.false ∙ b.lacks-between2.ensures ∙ all_values _ _ _ _ _ n.count.ensures, ready_more _ _ _ _ _ y.keep.ensures (omega arith))
+returns : tie.Need-returns
+returns c =
+    (sym c.if-lacks_between.false ∙ c.lacks_between-2.ensures ∙ all_values _ _ _ _ _ c.count-n.ensures, ready_more _ _ _ _ _ c.keep.ensures (omega arith))
 
-pub lacks-anywhere-spec : {M : Type 1} → statement M
-lacks-anywhere-spec =
-    tie.close
-    (tie.spec
-    count-requires
-    lacks-between-requires
-    same_length
-    returns
-    is-covered-requires
-    same-length-2
-    returns-2
-    lacks-between-requires-2
-    same-length-3
-    returns-3
-    add-keep
-    keep-requires
-    same-length-4
-    returns-4)
+pub lacks_anywhere_spec : {M : Type 1} → statement M
+lacks_anywhere_spec = tie.close (tie.spec count-n-requires lacks_between-requires shape_of-marks-then-n-lt16 returns-then-n-lt16 is_covered-requires shape_of-marks-then-is_covered returns-then-is_covered lacks_between-requires-2 shape_of-marks-then-lacks_between returns-then-lacks_between overflow_add-own keep-requires shape_of-marks returns)

@@ -9,43 +9,32 @@ use borrow.Author.Rules.{rules}
 use Rattle.lacking.proofs.lacks_between.Statement.{statement}
 use Rattle.lacking.proofs.lacks_between.Tie as tie
 
-abbrev invariant-loop : tie.invariant-loop
-invariant-loop task marks i f from to last₀ d₀ last d = Trying (task_in task) (marked i marks) (f / 64) (f % 64) from to d
+abbrev invariant-loop-d : tie.invariant-loop-d
+invariant-loop-d task marks i f from to last₀ d₀ last d = Trying (task_in task) (marked i marks) (f / 64) (f % 64) from to d
 
-abbrev decreases-loop : tie.decreases-loop
-decreases-loop task marks i f from to last₀ d₀ last d = to - d
+abbrev decreases-loop-d : tie.decreases-loop-d
+decreases-loop-d task marks i f from to last₀ d₀ last d = to - d
 
-loop-holds : tie.Need-loop-init invariant-loop decreases-loop
-loop-holds c = trying_start _ _ _ _ _ _ c.before.before.requires.1
+loop-d-init : tie.Need-loop-d-init invariant-loop-d decreases-loop-d
+loop-d-init c = trying_start _ _ _ _ _ _ c.requires.1
 
-arc-returned-requires : tie.Need-arc-returned-requires invariant-loop decreases-loop
-arc-returned-requires c κs = let p = c.before.before.before.before.before.requires in (p.0, omega (arith, p.2), p.3)
+arc_returned-requires : tie.Need-arc_returned-requires invariant-loop-d decreases-loop-d
+arc_returned-requires c κs = let p = c.requires in (p.0, omega (arith, p.2), p.3)
 
-returns : tie.Need-returns invariant-loop decreases-loop
-returns c = let a = c.before in let l = a.before.before.before in trying_hit _ _ _ _ _ _ _ l.loop.invariant (omega arith) _ a.arc-returned.ensures (not-true _ c.if1.true)
+returns-then-not-arc_returned : tie.Need-returns-then-not-arc_returned invariant-loop-d decreases-loop-d
+returns-then-not-arc_returned c = trying_hit _ _ _ _ _ _ _ c.loop-d.invariant (omega arith) _ c.arc_returned.ensures c.if-not-arc_returned.true
 
-add-d : tie.Need-overflow-add-d invariant-loop decreases-loop
-add-d c = search rules
+overflow_add-d : tie.Need-overflow_add-d invariant-loop-d decreases-loop-d
+overflow_add-d c = search rules
 
-loop-less : tie.Need-loop-smaller invariant-loop decreases-loop
-loop-less c = search rules
+loop-d-smaller : tie.Need-loop-d-smaller invariant-loop-d decreases-loop-d
+loop-d-smaller c = search rules
 
-loop-again : tie.Need-loop-preserved invariant-loop decreases-loop
-loop-again c = let a = c.before in let l = a.before.before.before in trying_turn _ _ _ _ _ _ _ l.loop.invariant (omega arith) _ a.arc-returned.ensures (not-false _ c.if1.false)
+loop-d-preserved : tie.Need-loop-d-preserved invariant-loop-d decreases-loop-d
+loop-d-preserved c = trying_turn _ _ _ _ _ _ _ c.loop-d.invariant (omega arith) _ c.arc_returned.ensures c.if-not-arc_returned.false
 
-returns-2 : tie.Need-returns-2 invariant-loop decreases-loop
-returns-2 c = trying_end _ _ _ _ _ _ _ c.before.loop.invariant (omega arith)
+returns : tie.Need-returns invariant-loop-d decreases-loop-d
+returns c = trying_end _ _ _ _ _ _ _ c.loop-d.invariant (omega arith)
 
-pub lacks-between-spec : {M : Type 1} → statement M
-lacks-between-spec =
-    tie.close
-    (tie.spec
-    invariant-loop
-    decreases-loop
-    loop-holds
-    arc-returned-requires
-    returns
-    add-d
-    loop-less
-    loop-again
-    returns-2)
+pub lacks_between_spec : {M : Type 1} → statement M
+lacks_between_spec = tie.close (tie.spec invariant-loop-d decreases-loop-d loop-d-init arc_returned-requires returns-then-not-arc_returned overflow_add-d loop-d-smaller loop-d-preserved returns)

@@ -6,52 +6,37 @@ use borrow.Author.Rules.{rules}
 use Rattle.lacking.proofs.lacks_marked.Statement.{statement}
 use Rattle.lacking.proofs.lacks_marked.Tie as tie
 
-mul-own : tie.Need-overflow-mul-own
-mul-own c = search rules
+overflow_mul-own : tie.Need-overflow_mul-own
+overflow_mul-own c = search rules
 
-cast-own : tie.Need-overflow-cast-own
-cast-own c = search rules
+overflow_cast-own : tie.Need-overflow_cast-own
+overflow_cast-own c = search rules
 
-need-requires : tie.Need-need-requires
-need-requires c κs = search rules
+need-d-requires : tie.Need-need-d-requires
+need-d-requires c κs = search rules
 
-add-lacks-between : tie.Need-overflow-add-lacks-between
-add-lacks-between c = search rules
+overflow_add-d : tie.Need-overflow_add-d
+overflow_add-d c = search rules
 
-lacks-between-requires : tie.Need-lacks-between-requires
-lacks-between-requires c κs = search rules
+lacks_between-requires : tie.Need-lacks_between-requires
+lacks_between-requires c κs = search rules
 
-same_length : tie.Need-same-length
-same_length c = search rules
+shape_of-marks-then-d-lt64 : tie.Need-shape_of-marks-then-d-lt64
+shape_of-marks-then-d-lt64 c = search rules
+
+returns-then-d-lt64 : tie.Need-returns-then-d-lt64
+returns-then-d-lt64 c =
+    (c.lacks_between.ensures ∙ asked_one _ _ _ _ _ _ c.need-d.ensures (omega arith), ready_more _ _ _ _ _ c.requires.2 (omega arith))
+
+lacks_anywhere-requires : tie.Need-lacks_anywhere-requires
+lacks_anywhere-requires c κs = search rules
+
+shape_of-marks : tie.Need-shape_of-marks
+shape_of-marks c = search rules
 
 returns : tie.Need-returns
 returns c =
-    let a = c.before.before.before.before in
-    (c.lacks-between.ensures ∙ asked_one _ _ _ _ _ _ a.need.ensures (omega arith), ready_more _ _ _ _ _ a.before.before.before.requires.2 (omega arith))
+    (c.lacks_anywhere.ensures.0 ∙ asked_any _ _ _ _ _ _ c.need-d.ensures (omega (arith, c.if-d-lt64.false)), c.lacks_anywhere.ensures.1)
 
-lacks-anywhere-requires : tie.Need-lacks-anywhere-requires
-lacks-anywhere-requires c κs = search rules
-
-same-length-2 : tie.Need-same-length-2
-same-length-2 c = search rules
-
-returns-2 : tie.Need-returns-2
-returns-2 c =
-    let y = c.before.before in
-    let x = y.before.before.before.before in
-    (y.lacks-anywhere.ensures.0 ∙ asked_any _ _ _ _ _ _ x.before.need.ensures (omega (arith, x.if1.false)), y.lacks-anywhere.ensures.1)
-
-pub lacks-marked-spec : {M : Type 1} → statement M
-lacks-marked-spec =
-    tie.close
-    (tie.spec
-    mul-own
-    cast-own
-    need-requires
-    add-lacks-between
-    lacks-between-requires
-    same_length
-    returns
-    lacks-anywhere-requires
-    same-length-2
-    returns-2)
+pub lacks_marked_spec : {M : Type 1} → statement M
+lacks_marked_spec = tie.close (tie.spec overflow_mul-own overflow_cast-own need-d-requires overflow_add-d lacks_between-requires shape_of-marks-then-d-lt64 returns-then-d-lt64 lacks_anywhere-requires shape_of-marks returns)

@@ -4,32 +4,27 @@ use borrow.Author.Rules.{rules}
 use Rattle.painting.proofs.link.Statement.{statement}
 use Rattle.painting.proofs.link.Tie as tie
 
-move-of-requires : tie.Need-move-of-requires
-move-of-requires c κs = search rules
+move_of-f-requires : tie.Need-move_of-f-requires
+move_of-f-requires c κs = search rules
 
-same_length : tie.Need-same-length
-same_length c = search rules
+shape_of-task-then-f-eq65535 : tie.Need-shape_of-task-then-f-eq65535
+shape_of-task-then-f-eq65535 c = search rules
 
-returns : tie.Need-returns
-returns c = link_none _ _ _ _ c.before.move-of.ensures c.if1.true
+returns-then-f-eq65535 : tie.Need-returns-then-f-eq65535
+returns-then-f-eq65535 c = link_none _ _ _ _ c.move_of-f.ensures c.if-f-eq65535.true
 
 link-requires : tie.Need-link-requires
 link-requires c κs =
-    let e = c.before in
-    let m = e.before in
-    let p = m.before.before.before.requires in
-    let k = the_move _ _ p.0.formed _ _ m.move-of.ensures e.if1.false in
+    let p = c.requires in
+    let k = the_move _ _ p.0.formed _ _ c.move_of-f.ensures c.if-f-eq65535.false in
     (move_heads _ _ p.0.formed _ _ k _ p.0.heads, omega (arith, p.1, p.0.formed.actions_max))
 
-same-length-2 : tie.Need-same-length-2
-same-length-2 c = search rules
+shape_of-task : tie.Need-shape_of-task
+shape_of-task c = search rules
 
-returns-2 : tie.Need-returns-2
-returns-2 c =
-    let k = c.before.before in
-    let e = k.before.before in
-    link_one _ _ _ _ _ e.before.move-of.ensures e.if1.false k.link.ensures
+returns : tie.Need-returns
+returns c =
+    link_one _ _ _ _ _ c.move_of-f.ensures c.if-f-eq65535.false c.link.ensures
 
-pub link-spec : {M : Type 1} → statement M
-link-spec =
-    tie.close (tie.spec move-of-requires same_length returns link-requires same-length-2 returns-2)
+pub link_spec : {M : Type 1} → statement M
+link_spec = tie.close (tie.spec move_of-f-requires shape_of-task-then-f-eq65535 returns-then-f-eq65535 link-requires shape_of-task returns)

@@ -5,88 +5,54 @@ use borrow.Author.Rules.{rules}
 use Rattle.painting.proofs.link_all.Statement.{statement}
 use Rattle.painting.proofs.link_all.Tie as tie
 
-abbrev invariant-loop : tie.invariant-loop
-invariant-loop task₀ paint i₀ n task i = Linking task₀ task i
+abbrev invariant-loop-i : tie.invariant-loop-i
+invariant-loop-i task₀ paint i₀ n task i = Linking task₀ task i
 
-abbrev decreases-loop : tie.decreases-loop
-decreases-loop task₀ paint i₀ n task i = i
+abbrev decreases-loop-i : tie.decreases-loop-i
+decreases-loop-i task₀ paint i₀ n task i = i
 
-actions-requires : tie.Need-actions-requires invariant-loop decreases-loop
-actions-requires c κs = search rules
+actions-i-requires : tie.Need-actions-i-requires invariant-loop-i decreases-loop-i
+actions-i-requires c κs = search rules
 
-variables-requires : tie.Need-variables-requires invariant-loop decreases-loop
-variables-requires c κs = search rules
+variables-n-requires : tie.Need-variables-n-requires invariant-loop-i decreases-loop-i
+variables-n-requires c κs = search rules
 
-mul-unlink : tie.Need-overflow-mul-unlink invariant-loop decreases-loop
-mul-unlink c = search rules
+overflow_mul-n : tie.Need-overflow_mul-n invariant-loop-i decreases-loop-i
+overflow_mul-n c = search rules
 
-unlink-requires : tie.Need-unlink-requires invariant-loop decreases-loop
-unlink-requires c κs = let v = c.before in let p = v.before.before.before.before.before.requires in rw v.variables.ensures p.loaded.heads
+unlink-requires : tie.Need-unlink-requires invariant-loop-i decreases-loop-i
+unlink-requires c κs = let p = c.requires in rw c.variables-n.ensures p.loaded.heads
 
-loop-holds : tie.Need-loop-init invariant-loop decreases-loop
-loop-holds c =
-    let u = c.before.before in
-    let v = u.before.before in
-    let a = v.before.before in
-    let p = a.before.before.before.requires in
-    linking_start _ _ _ p _ u.unlink.ensures _ v.variables.ensures a.actions.ensures
+loop-i-init : tie.Need-loop-i-init invariant-loop-i decreases-loop-i
+loop-i-init c =
+    let p = c.requires in
+    linking_start _ _ _ p _ c.unlink.ensures _ c.variables-n.ensures c.actions-i.ensures
 
-sub-i : tie.Need-overflow-sub-i invariant-loop decreases-loop
-sub-i c = search rules
+overflow_sub-i : tie.Need-overflow_sub-i invariant-loop-i decreases-loop-i
+overflow_sub-i c = search rules
 
-link-requires : tie.Need-link-requires invariant-loop decreases-loop
+link-requires : tie.Need-link-requires invariant-loop-i decreases-loop-i
 link-requires c κs =
-    let l = c.before.before in
-    let u = l.before.before.before in
-    let v = u.before.before in
-    let a = v.before.before in
-    let p = a.before.before.before.requires in
-    (linking_loaded _ _ _ p _ u.unlink.ensures _ _ l.loop.invariant, linking_below _ _ _ p _ u.unlink.ensures _ _ l.loop.invariant (omega arith))
+    let p = c.requires in
+    (linking_loaded _ _ _ p _ c.unlink.ensures _ _ c.loop-i.invariant, linking_below _ _ _ p _ c.unlink.ensures _ _ c.loop-i.invariant (omega arith))
 
-loop-less : tie.Need-loop-smaller invariant-loop decreases-loop
-loop-less c = search rules
+loop-i-smaller : tie.Need-loop-i-smaller invariant-loop-i decreases-loop-i
+loop-i-smaller c = search rules
 
-loop-again : tie.Need-loop-preserved invariant-loop decreases-loop
-loop-again c =
-    let l = c.before.before.before.before.before in
-    let u = l.before.before.before in
-    let v = u.before.before in
-    let a = v.before.before in
-    let p = a.before.before.before.requires in
-    linking_back _ _ _ p _ u.unlink.ensures _ _ l.loop.invariant (omega arith) _ c.before.before.link.ensures
+loop-i-preserved : tie.Need-loop-i-preserved invariant-loop-i decreases-loop-i
+loop-i-preserved c =
+    let p = c.requires in
+    linking_back _ _ _ p _ c.unlink.ensures _ _ c.loop-i.invariant (omega arith) _ c.link.ensures
 
-same_length : tie.Need-same-length invariant-loop decreases-loop
-same_length c =
-    let l = c.before in
-    let u = l.before.before.before in
-    let v = u.before.before in
-    let a = v.before.before in
-    let p = a.before.before.before.requires in
-    linking_long _ _ _ p _ u.unlink.ensures _ _ l.loop.invariant
+shape_of-task : tie.Need-shape_of-task invariant-loop-i decreases-loop-i
+shape_of-task c =
+    let p = c.requires in
+    linking_long _ _ _ p _ c.unlink.ensures _ _ c.loop-i.invariant
 
-returns : tie.Need-returns invariant-loop decreases-loop
+returns : tie.Need-returns invariant-loop-i decreases-loop-i
 returns c =
-    let l = c.before in
-    let u = l.before.before.before in
-    let v = u.before.before in
-    let a = v.before.before in
-    let p = a.before.before.before.requires in
-    linking_end _ _ _ p _ u.unlink.ensures _ _ l.loop.invariant (omega arith)
+    let p = c.requires in
+    linking_end _ _ _ p _ c.unlink.ensures _ _ c.loop-i.invariant (omega arith)
 
-pub link-all-spec : {M : Type 1} → statement M
-link-all-spec =
-    tie.close
-    (tie.spec
-    invariant-loop
-    decreases-loop
-    actions-requires
-    variables-requires
-    mul-unlink
-    unlink-requires
-    loop-holds
-    sub-i
-    link-requires
-    loop-less
-    loop-again
-    same_length
-    returns)
+pub link_all_spec : {M : Type 1} → statement M
+link_all_spec = tie.close (tie.spec invariant-loop-i decreases-loop-i actions-i-requires variables-n-requires overflow_mul-n unlink-requires loop-i-init overflow_sub-i link-requires loop-i-smaller loop-i-preserved shape_of-task returns)

@@ -10,72 +10,51 @@ use borrow.Author.Rules.{rules}
 use Rattle.painting.proofs.lowest_by.Statement.{statement}
 use Rattle.painting.proofs.lowest_by.Tie as tie
 
-abbrev invariant-loop : tie.invariant-loop
-invariant-loop task paint marks₀ n kept₀ last₀ i₀ marks kept last i = (length marks ≡ length marks₀) × Scanning (task_in task) n marks kept i
+abbrev invariant-loop-i : tie.invariant-loop-i
+invariant-loop-i task paint marks₀ n kept₀ last₀ i₀ marks kept last i = (length marks ≡ length marks₀) × Scanning (task_in task) n marks kept i
 
-abbrev decreases-loop : tie.decreases-loop
-decreases-loop task paint marks₀ n kept₀ last₀ i₀ marks kept last i = n - i
+abbrev decreases-loop-i : tie.decreases-loop-i
+decreases-loop-i task paint marks₀ n kept₀ last₀ i₀ marks kept last i = n - i
 
-abbrev loop-of : tie.After-is-lacking invariant-loop decreases-loop → tie.At-loop invariant-loop decreases-loop
-loop-of c = c.before.before.before.before.before
+abbrev loop_of : tie.After-is_lacking invariant-loop-i decreases-loop-i → tie.At-loop-i invariant-loop-i decreases-loop-i
+loop_of c = c.before.before.before.before.before
 
-actions-requires : tie.Need-actions-requires invariant-loop decreases-loop
-actions-requires c κs = search rules
+actions-n-requires : tie.Need-actions-n-requires invariant-loop-i decreases-loop-i
+actions-n-requires c κs = search rules
 
-array-write-last : tie.Need-array-write-last invariant-loop decreases-loop
-array-write-last c = search rules
+bounds-last-1024 : tie.Need-bounds-last-1024 invariant-loop-i decreases-loop-i
+bounds-last-1024 c = search rules
 
-loop-holds : tie.Need-loop-init invariant-loop decreases-loop
-loop-holds c = (refl, scanning_start _ _ c.actions.ensures _ _ (ready_start _ _ c.before.before.before.requires.2))
+loop-i-init : tie.Need-loop-i-init invariant-loop-i decreases-loop-i
+loop-i-init c = (refl, scanning_start _ _ c.actions-n.ensures _ _ (ready_start _ _ c.requires.2))
 
-is-lacking-requires : tie.Need-is-lacking-requires invariant-loop decreases-loop
-is-lacking-requires c κs =
-    let l = c.before.before.before.before in
-    let a = l.before in
-    let p = a.before.before.before.requires in
-    (p.0, p.1, omega (arith, a.actions.ensures), l.loop.invariant.1.ready)
+is_lacking-requires : tie.Need-is_lacking-requires invariant-loop-i decreases-loop-i
+is_lacking-requires c κs =
+    let p = c.requires in
+    (p.0, p.1, omega (arith, c.actions-n.ensures), c.loop-i.invariant.1.ready)
 
-same_length : tie.Need-same-length invariant-loop decreases-loop
-same_length c = let l = loop-of c.before.before.before in omega (arith, l.loop.inv.0)
+shape_of-marks-then-is_lacking : tie.Need-shape_of-marks-then-is_lacking invariant-loop-i decreases-loop-i
+shape_of-marks-then-is_lacking c = omega (arith, c.loop-i.invariant.0)
 
-returns : tie.Need-returns invariant-loop decreases-loop
-returns c =
-    let r = c.before.before.before in
-    let l = loop-of r in
-    scanning_hit _ _ l.before.actions.ensures _ _ _ l.loop.inv.1 _ r.is-lacking.ensures.0 (omega arith) c.if1.true
+returns-then-is_lacking : tie.Need-returns-then-is_lacking invariant-loop-i decreases-loop-i
+returns-then-is_lacking c =
+    scanning_hit _ _ c.actions-n.ensures _ _ _ c.loop-i.invariant.1 _ c.is_lacking.ensures.0 (omega arith) c.if-is_lacking.true
 
-add-i : tie.Need-overflow-add-i invariant-loop decreases-loop
-add-i c = search rules
+overflow_add-i : tie.Need-overflow_add-i invariant-loop-i decreases-loop-i
+overflow_add-i c = search rules
 
-loop-less : tie.Need-loop-smaller invariant-loop decreases-loop
-loop-less c = search rules
+loop-i-smaller : tie.Need-loop-i-smaller invariant-loop-i decreases-loop-i
+loop-i-smaller c = search rules
 
-loop-again : tie.Need-loop-preserved invariant-loop decreases-loop
-loop-again c =
-    let r = c.before.before.before in
-    let l = loop-of r in
-    (omega (arith, l.loop.inv.0), scanning_turn _ _ l.before.actions.ensures _ _ _ l.loop.inv.1 _ r.is-lacking.ensures.0 (omega arith) c.if1.false _ _ r.is-lacking.ensures.1)
+loop-i-preserved : tie.Need-loop-i-preserved invariant-loop-i decreases-loop-i
+loop-i-preserved c =
+    (omega (arith, c.loop-i.invariant.0), scanning_turn _ _ c.actions-n.ensures _ _ _ c.loop-i.invariant.1 _ c.is_lacking.ensures.0 (omega arith) c.if-is_lacking.false _ _ c.is_lacking.ensures.1)
 
-same-length-2 : tie.Need-same-length-2 invariant-loop decreases-loop
-same-length-2 c = c.before.loop.invariant.0
+shape_of-marks : tie.Need-shape_of-marks invariant-loop-i decreases-loop-i
+shape_of-marks c = c.loop-i.invariant.0
 
-returns-2 : tie.Need-returns-2 invariant-loop decreases-loop
-returns-2 c = let l = c.before in scanning_end _ _ l.before.actions.ensures _ _ _ l.loop.invariant.1 (omega arith)
+returns : tie.Need-returns invariant-loop-i decreases-loop-i
+returns c = scanning_end _ _ c.actions-n.ensures _ _ _ c.loop-i.invariant.1 (omega arith)
 
-pub lowest-by-spec : {M : Type 1} → statement M
-lowest-by-spec =
-    tie.close
-    (tie.spec
-    invariant-loop
-    decreases-loop
-    actions-requires
-    array-write-last
-    loop-holds
-    is-lacking-requires
-    same_length
-    returns
-    add-i
-    loop-less
-    loop-again
-    same-length-2
-    returns-2)
+pub lowest_by_spec : {M : Type 1} → statement M
+lowest_by_spec = tie.close (tie.spec invariant-loop-i decreases-loop-i actions-n-requires bounds-last-1024 loop-i-init is_lacking-requires shape_of-marks-then-is_lacking returns-then-is_lacking overflow_add-i loop-i-smaller loop-i-preserved shape_of-marks returns)

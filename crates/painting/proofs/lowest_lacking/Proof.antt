@@ -7,38 +7,27 @@ use Rattle.painting.proofs.lowest_lacking.Tie as tie
 variables-requires : tie.Need-variables-requires
 variables-requires c κs = search rules
 
-slice-aggregate-lowest-by : tie.Need-slice-aggregate-lowest-by
-slice-aggregate-lowest-by c = search rules
+slice_bounds-lowest_by-end : tie.Need-slice_bounds-lowest_by-end
+slice_bounds-lowest_by-end c = search rules
 
-lowest-by-requires : tie.Need-lowest-by-requires
-lowest-by-requires c κs =
-    let x = c.before in
-    let v = x.before in
-    let p = v.before.before.requires in
-    (p.0, p.1, unmarked_start _ 1024 (omega (arith, v.variables.ensures, x.if1.true)))
+lowest_by-requires : tie.Need-lowest_by-requires
+lowest_by-requires c κs =
+    let p = c.requires in
+    (p.0, p.1, unmarked_start _ 1024 (omega (arith, c.variables.ensures, c.if-variables-le16.true)))
+
+returns-then-variables-le16 : tie.Need-returns-then-variables-le16
+returns-then-variables-le16 c = search rules
+
+slice_bounds-lowest_by-end-2 : tie.Need-slice_bounds-lowest_by-end-2
+slice_bounds-lowest_by-end-2 c = search rules
+
+lowest_by-requires-2 : tie.Need-lowest_by-requires-2
+lowest_by-requires-2 c κs =
+    let p = c.requires in
+    (p.0, p.1, unmarked_start _ 4096 (omega (arith, p.0.loaded.formed.variables_max)))
 
 returns : tie.Need-returns
 returns c = search rules
 
-slice-aggregate-lowest-by-2 : tie.Need-slice-aggregate-lowest-by-2
-slice-aggregate-lowest-by-2 c = search rules
-
-lowest-by-requires-2 : tie.Need-lowest-by-requires-2
-lowest-by-requires-2 c κs =
-    let p = c.before.before.before.before.requires in
-    (p.0, p.1, unmarked_start _ 4096 (omega (arith, p.0.loaded.formed.variables_max)))
-
-returns-2 : tie.Need-returns-2
-returns-2 c = search rules
-
-pub lowest-lacking-spec : {M : Type 1} → statement M
-lowest-lacking-spec =
-    tie.close
-    (tie.spec
-    variables-requires
-    slice-aggregate-lowest-by
-    lowest-by-requires
-    returns
-    slice-aggregate-lowest-by-2
-    lowest-by-requires-2
-    returns-2)
+pub lowest_lacking_spec : {M : Type 1} → statement M
+lowest_lacking_spec = tie.close (tie.spec variables-requires slice_bounds-lowest_by-end lowest_by-requires returns-then-variables-le16 slice_bounds-lowest_by-end-2 lowest_by-requires-2 returns)

@@ -12,79 +12,57 @@ use borrow.Author.Rules.{rules}
 use Rattle.painting.proofs.move_of.Statement.{statement}
 use Rattle.painting.proofs.move_of.Tie as tie
 
-abbrev invariant-loop : tie.invariant-loop
-invariant-loop task i paint end k₀ k = Walking ℕ (move_without paint (act (task_in task) i).pre) (act (task_in task) i).eff task end k
+abbrev invariant-loop-k : tie.invariant-loop-k
+invariant-loop-k task i paint end k₀ k = Walking ℕ (move_without paint (act (task_in task) i).pre) (act (task_in task) i).eff task end k
 
-abbrev decreases-loop : tie.decreases-loop
-decreases-loop task i paint end k₀ k = end - k
+abbrev decreases-loop-k : tie.decreases-loop-k
+decreases-loop-k task i paint end k₀ k = end - k
 
-eff-end-requires : tie.Need-eff-end-requires invariant-loop decreases-loop
-eff-end-requires c κs = search rules
+eff_end-end-requires : tie.Need-eff_end-end-requires invariant-loop-k decreases-loop-k
+eff_end-end-requires c κs = search rules
 
-eff-start-requires : tie.Need-eff-start-requires invariant-loop decreases-loop
-eff-start-requires c κs = search rules
+eff_start-k-requires : tie.Need-eff_start-k-requires invariant-loop-k decreases-loop-k
+eff_start-k-requires c κs = search rules
 
-loop-holds : tie.Need-loop-init invariant-loop decreases-loop
-loop-holds c =
-    let e = c.before in
-    let p = e.before.before.requires in
-    let a = c.eff-start.ensures in
-    let b = e.eff-end.ensures in
+loop-k-init : tie.Need-loop-k-init invariant-loop-k decreases-loop-k
+loop-k-init c =
+    let p = c.requires in
+    let a = c.eff_start-k.ensures in
+    let b = c.eff_end-end.ensures in
     walking_start _ _ _ _ _ _ (eff_within _ p.0 _ p.1 _ _ a b) (rw (a, b) (eff_facts _ p.0 _ p.1))
 
-mul_wide : tie.Need-overflow-mul-wide invariant-loop decreases-loop
-mul_wide c = search rules
+offset_bounds-task-k : tie.Need-offset_bounds-task-k invariant-loop-k decreases-loop-k
+offset_bounds-task-k c = search rules
 
-shared-slice-read-wide : tie.Need-shared-slice-read-wide invariant-loop decreases-loop
-shared-slice-read-wide c = let l = c.before.before in omega (arith, l.loop.invariant.facts.within)
+bounds-task-k : tie.Need-bounds-task-k invariant-loop-k decreases-loop-k
+bounds-task-k c = omega (arith, c.loop-k.invariant.facts.within)
 
-wide-requires : tie.Need-wide-requires invariant-loop decreases-loop
-wide-requires c κs = search rules
+wide-f-requires : tie.Need-wide-f-requires invariant-loop-k decreases-loop-k
+wide-f-requires c κs = search rules
 
-changes-requires : tie.Need-changes-requires invariant-loop decreases-loop
+changes-requires : tie.Need-changes-requires invariant-loop-k decreases-loop-k
 changes-requires c κs =
-    let l = c.before.before.before in
-    let p = l.before.before.before.before.requires in
-    (p.0, p.1, walking_small _ _ _ _ _ _ l.loop.invariant (omega arith) _ c.wide.ensures)
+    let p = c.requires in
+    (p.0, p.1, walking_small _ _ _ _ _ _ c.loop-k.invariant (omega arith) _ c.wide-f.ensures)
 
-returns : tie.Need-returns invariant-loop decreases-loop
+returns-then-changes : tie.Need-returns-then-changes invariant-loop-k decreases-loop-k
 unfolding reduced_effects
-returns c =
-    let w = c.before.before in
-    let l = w.before.before.before in
-    walking_hit _ _ _ _ _ _ l.loop.invariant (omega arith) _ w.wide.ensures _ (λ fs. move_hit _ _ _ fs (sym c.before.changes.ensures ∙ c.if1.true))
+returns-then-changes c =
+    walking_hit _ _ _ _ _ _ c.loop-k.invariant (omega arith) _ c.wide-f.ensures _ (λ fs. move_hit _ _ _ fs (sym c.changes.ensures ∙ c.if-changes.true))
 
-add-k : tie.Need-overflow-add-k invariant-loop decreases-loop
-add-k c = search rules
+overflow_add-k : tie.Need-overflow_add-k invariant-loop-k decreases-loop-k
+overflow_add-k c = search rules
 
-loop-less : tie.Need-loop-smaller invariant-loop decreases-loop
-loop-less c = search rules
+loop-k-smaller : tie.Need-loop-k-smaller invariant-loop-k decreases-loop-k
+loop-k-smaller c = search rules
 
-loop-again : tie.Need-loop-preserved invariant-loop decreases-loop
-loop-again c =
-    let w = c.before.before in
-    let l = w.before.before.before in
-    walking_turn _ _ _ _ _ _ l.loop.invariant (omega arith) _ w.wide.ensures (λ fs. move_skip _ _ _ fs (sym c.before.changes.ensures ∙ c.if1.false))
+loop-k-preserved : tie.Need-loop-k-preserved invariant-loop-k decreases-loop-k
+loop-k-preserved c =
+    walking_turn _ _ _ _ _ _ c.loop-k.invariant (omega arith) _ c.wide-f.ensures (λ fs. move_skip _ _ _ fs (sym c.changes.ensures ∙ c.if-changes.false))
 
-returns-2 : tie.Need-returns-2 invariant-loop decreases-loop
+returns : tie.Need-returns invariant-loop-k decreases-loop-k
 unfolding reduced_effects
-returns-2 c = walking_end _ _ _ _ _ _ c.before.loop.invariant (omega arith) _ (move_none _ _)
+returns c = walking_end _ _ _ _ _ _ c.loop-k.invariant (omega arith) _ (move_none _ _)
 
-pub move-of-spec : {M : Type 1} → statement M
-move-of-spec =
-    tie.close
-    (tie.spec
-    invariant-loop
-    decreases-loop
-    eff-end-requires
-    eff-start-requires
-    loop-holds
-    mul_wide
-    shared-slice-read-wide
-    wide-requires
-    changes-requires
-    returns
-    add-k
-    loop-less
-    loop-again
-    returns-2)
+pub move_of_spec : {M : Type 1} → statement M
+move_of_spec = tie.close (tie.spec invariant-loop-k decreases-loop-k eff_end-end-requires eff_start-k-requires loop-k-init offset_bounds-task-k bounds-task-k wide-f-requires changes-requires returns-then-changes overflow_add-k loop-k-smaller loop-k-preserved returns)

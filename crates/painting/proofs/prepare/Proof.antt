@@ -5,59 +5,41 @@ use borrow.Author.Rules.{rules}
 use Rattle.painting.proofs.prepare.Statement.{statement}
 use Rattle.painting.proofs.prepare.Tie as tie
 
-painted-requires : tie.Need-painted-requires
-painted-requires c κs = search rules
+painted-paint-requires : tie.Need-painted-paint-requires
+painted-paint-requires c κs = search rules
 
-graph-requires : tie.Need-graph-requires
-graph-requires c κs = search rules
+graph-rows-requires : tie.Need-graph-rows-requires
+graph-rows-requires c κs = search rules
 
 cycle-requires : tie.Need-cycle-requires
 cycle-requires c κs = search rules
 
-refused-at-requires : tie.Need-refused-at-requires
-refused-at-requires c κs = let p = c.before.before.before.before.before.before.before.requires in cyclic_below _ p.formed _ c.cycle.ensures
+refused_at-seven-requires : tie.Need-refused_at-seven-requires
+refused_at-seven-requires c κs = let p = c.requires in cyclic_below _ p.formed _ c.cycle.ensures
 
-enum_told : tie.Need-enum-told
-enum_told c = search rules
+enum_told-1 : tie.Need-enum_told-1
+enum_told-1 c = search rules
 
-enum-told-2 : tie.Need-enum-told-2
-enum-told-2 c = search rules
+enum_told-in_default : tie.Need-enum_told-in_default
+enum_told-in_default c = search rules
 
-same_length : tie.Need-same-length
-same_length c = search rules
+shape_of-task-in_default : tie.Need-shape_of-task-in_default
+shape_of-task-in_default c = search rules
+
+returns-in_default : tie.Need-returns-in_default
+returns-in_default c = readied_seven _ _ _ _ c.refused_at-seven.ensures c.cycle.ensures (ap check_of c.in_default.is)
+
+prepare_acyclic-requires : tie.Need-prepare_acyclic-requires
+prepare_acyclic-requires c κs =
+    let p = c.requires in
+    let y = seven_passes _ _ _ c.refused_at-seven.ensures c.cycle.ensures (ap check_of c.in-Accepted.is) in
+    (record { loaded = p; colours = c.painted-paint.ensures; acyclic = y }, c.graph-rows.ensures)
+
+shape_of-task : tie.Need-shape_of-task
+shape_of-task c = search rules
 
 returns : tie.Need-returns
-returns c = let r = c.before.before in readied_seven _ _ _ _ r.refused-at.ensures r.before.cycle.ensures (ap check_of c.enum-told2.given.1)
+returns c = search rules
 
-prepare-acyclic-requires : tie.Need-prepare-acyclic-requires
-prepare-acyclic-requires c κs =
-    let e = c.before.before in
-    let r = e.before.before in
-    let k = r.before in
-    let g = k.before.before in
-    let t = g.before.before in
-    let p = t.before.before.before.requires in
-    let y = seven_passes _ _ _ r.refused-at.ensures k.cycle.ensures (ap check_of e.enum_told.given.1) in
-    (record { loaded = p; colours = t.painted.ensures; acyclic = y }, g.graph.ensures)
-
-same-length-2 : tie.Need-same-length-2
-same-length-2 c = search rules
-
-returns-2 : tie.Need-returns-2
-returns-2 c = search rules
-
-pub prepare-spec : {M : Type 1} → statement M
-prepare-spec =
-    tie.close
-    (tie.spec
-    painted-requires
-    graph-requires
-    cycle-requires
-    refused-at-requires
-    enum_told
-    enum-told-2
-    same_length
-    returns
-    prepare-acyclic-requires
-    same-length-2
-    returns-2)
+pub prepare_spec : {M : Type 1} → statement M
+prepare_spec = tie.close (tie.spec painted-paint-requires graph-rows-requires cycle-requires refused_at-seven-requires enum_told-1 enum_told-in_default shape_of-task-in_default returns-in_default prepare_acyclic-requires shape_of-task returns)

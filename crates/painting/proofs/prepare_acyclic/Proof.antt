@@ -3,48 +3,32 @@ use borrow.Author.Rules.{rules}
 use Rattle.painting.proofs.prepare_acyclic.Statement.{statement}
 use Rattle.painting.proofs.prepare_acyclic.Tie as tie
 
-link-all-requires : tie.Need-link-all-requires
-link-all-requires c κs = search rules
+link_all-requires : tie.Need-link_all-requires
+link_all-requires c κs = search rules
 
-write-order-requires : tie.Need-write-order-requires
-write-order-requires c κs =
-    let k = c.before.before.before in
-    let p = k.before.before.before.requires in
-    let A = linked_acyclic _ _ _ p.0 k.link-all.ensures in
-    (A.loaded, linked_rows _ _ _ p.0 k.link-all.ensures _ p.1, A.colours)
+write_order-requires : tie.Need-write_order-requires
+write_order-requires c κs =
+    let p = c.requires in
+    let A = linked_acyclic _ _ _ p.0 c.link_all.ensures in
+    (A.loaded, linked_rows _ _ _ p.0 c.link_all.ensures _ p.1, A.colours)
 
-lowest-lacking-requires : tie.Need-lowest-lacking-requires
-lowest-lacking-requires c κs =
-    let w = c.before.before.before in
-    let k = w.before.before.before.before in
-    let p = k.before.before.before.requires in
-    (readied_acyclic _ _ _ _ p.0 k.link-all.ensures w.write-order.ensures, readied_chained _ _ _ _ p.0 k.link-all.ensures w.write-order.ensures)
+lowest_lacking-requires : tie.Need-lowest_lacking-requires
+lowest_lacking-requires c κs =
+    let p = c.requires in
+    (readied_acyclic _ _ _ _ p.0 c.link_all.ensures c.write_order.ensures, readied_chained _ _ _ _ p.0 c.link_all.ensures c.write_order.ensures)
 
-refused-at-requires : tie.Need-refused-at-requires
-refused-at-requires c κs =
-    let w = c.before.before.before.before in
-    let k = w.before.before.before.before in
-    let p = k.before.before.before.requires in
-    unreturned_below _ (readied_acyclic _ _ _ _ p.0 k.link-all.ensures w.write-order.ensures).loaded.formed _ c.lowest-lacking.ensures
+refused_at-requires : tie.Need-refused_at-requires
+refused_at-requires c κs =
+    let p = c.requires in
+    unreturned_below _ (readied_acyclic _ _ _ _ p.0 c.link_all.ensures c.write_order.ensures).loaded.formed _ c.lowest_lacking.ensures
 
-same_length : tie.Need-same-length
-same_length c = search rules
+shape_of-task : tie.Need-shape_of-task
+shape_of-task c = search rules
 
 returns : tie.Need-returns
 returns c =
-    let e = c.before in
-    let w = e.before.before.before.before in
-    let k = w.before.before.before.before in
-    let p = k.before.before.before.requires in
-    readied_eight _ _ _ _ p.0 k.link-all.ensures w.write-order.ensures _ _ c.refused-at.ensures e.lowest-lacking.ensures
+    let p = c.requires in
+    readied_eight _ _ _ _ p.0 c.link_all.ensures c.write_order.ensures _ _ c.refused_at.ensures c.lowest_lacking.ensures
 
-pub prepare-acyclic-spec : {M : Type 1} → statement M
-prepare-acyclic-spec =
-    tie.close
-    (tie.spec
-    link-all-requires
-    write-order-requires
-    lowest-lacking-requires
-    refused-at-requires
-    same_length
-    returns)
+pub prepare_acyclic_spec : {M : Type 1} → statement M
+prepare_acyclic_spec = tie.close (tie.spec link_all-requires write_order-requires lowest_lacking-requires refused_at-requires shape_of-task returns)

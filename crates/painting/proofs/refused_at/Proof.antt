@@ -5,22 +5,22 @@ use mathlib.Core.Path.{ap, refl}
 use Rattle.painting.proofs.refused_at.Statement.{statement}
 use Rattle.painting.proofs.refused_at.Tie as tie
 
-enum-known-found : tie.Need-enum-known-found
-enum-known-found c = omega arith
+enum_known-found : tie.Need-enum_known-found
+enum_known-found c = omega arith
 
-enum_told : tie.Need-enum-told
-enum_told c = omega arith
+enum_told-1 : tie.Need-enum_told-1
+enum_told-1 c = omega arith
+
+returns-in_default : tie.Need-returns-in_default
+unfolding refuse_at
+returns-in_default c = rw (ap found_of c.in_default.is) refl
+
+overflow_cast-result : tie.Need-overflow_cast-result
+overflow_cast-result c = omega (arith, c.requires _ (ap found_of c.in-At.is))
 
 returns : tie.Need-returns
 unfolding refuse_at
-returns c = rw (ap found_of c.enum_told.given.1) refl
+returns c = rw (ap found_of c.in-At.is) refl
 
-cast-t4 : tie.Need-overflow-cast-t4
-cast-t4 c = omega (arith, c.before.before.before.requires _ (ap found_of c.before.found.given.1))
-
-returns-2 : tie.Need-returns-2
-unfolding refuse_at
-returns-2 c = rw (ap found_of c.before.found.given.1) refl
-
-pub refused-at-spec : {M : Type 1} → statement M
-refused-at-spec = tie.close (tie.spec enum-known-found enum_told returns cast-t4 returns-2)
+pub refused_at_spec : {M : Type 1} → statement M
+refused_at_spec = tie.close (tie.spec enum_known-found enum_told-1 returns-in_default overflow_cast-result returns)

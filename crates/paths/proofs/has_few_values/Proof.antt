@@ -10,52 +10,39 @@ use Rattle.paths.proofs.Memos.{values_many, values_few}
 use Rattle.paths.proofs.has_few_values.Statement.{statement}
 use Rattle.paths.proofs.has_few_values.Tie as tie
 
-abbrev invariant-loop : tie.invariant-loop
-invariant-loop task n v₀ v = (n ≡ variables (task_in task)) × (v ≤ n) × ((u : ℕ) → u < v → count (task_in task) u ≤ 15)
+abbrev invariant-loop-v : tie.invariant-loop-v
+invariant-loop-v task n v₀ v = (n ≡ variables (task_in task)) × (v ≤ n) × ((u : ℕ) → u < v → count (task_in task) u ≤ 15)
 
-abbrev decreases-loop : tie.decreases-loop
-decreases-loop task n v₀ v = n - v
+abbrev decreases-loop-v : tie.decreases-loop-v
+decreases-loop-v task n v₀ v = n - v
 
-variables-requires : tie.Need-variables-requires invariant-loop decreases-loop
-variables-requires c κs = search rules
+variables-n-requires : tie.Need-variables-n-requires invariant-loop-v decreases-loop-v
+variables-n-requires c κs = search rules
 
-loop-holds : tie.Need-loop-init invariant-loop decreases-loop
-loop-holds c = (c.variables.ensures, omega arith, λ u h. absurd (omega arith))
+loop-v-init : tie.Need-loop-v-init invariant-loop-v decreases-loop-v
+loop-v-init c = (c.variables-n.ensures, omega arith, λ u h. absurd (omega arith))
 
-count-requires : tie.Need-count-requires invariant-loop decreases-loop
+count-requires : tie.Need-count-requires invariant-loop-v decreases-loop-v
 count-requires c κs = search rules
 
-returns : tie.Need-returns invariant-loop decreases-loop
-returns c = let h = c.before.before.before in values_many _ h.loop.v (omega (arith, h.loop.invariant.0)) (omega (arith, c.before.count.ensures))
+returns-then-count-gt15 : tie.Need-returns-then-count-gt15 invariant-loop-v decreases-loop-v
+returns-then-count-gt15 c = values_many _ c.loop-v.v (omega (arith, c.loop-v.invariant.0)) (omega (arith, c.count.ensures))
 
-add-v : tie.Need-overflow-add-v invariant-loop decreases-loop
-add-v c = search rules
+overflow_add-v : tie.Need-overflow_add-v invariant-loop-v decreases-loop-v
+overflow_add-v c = search rules
 
-loop-less : tie.Need-loop-smaller invariant-loop decreases-loop
-loop-less c = search rules
+loop-v-smaller : tie.Need-loop-v-smaller invariant-loop-v decreases-loop-v
+loop-v-smaller c = search rules
 
-loop-again : tie.Need-loop-preserved invariant-loop decreases-loop
-loop-again c =
-    let h = c.before.before.before in
-    let i = h.loop.invariant in
-    let t = task_in h.before.before.before.args.task.now in
-    let go : (u : ℕ) → Dec (u ≡ h.loop.v) → u < h.loop.v + 1 → count t u ≤ 15 = λ u. elim [ yes q ↦ λ b. rw q (omega (arith, c.before.count.ensures)) | no q ↦ λ b. i.2 u (omega arith) ] in
-    (i.0, omega arith, λ u b. go u (ℕ_discrete u h.loop.v) b)
+loop-v-preserved : tie.Need-loop-v-preserved invariant-loop-v decreases-loop-v
+loop-v-preserved c =
+    let i = c.loop-v.invariant in
+    let t = task_in c.args.task.now in
+    let go : (u : ℕ) → Dec (u ≡ c.loop-v.v) → u < c.loop-v.v + 1 → count t u ≤ 15 = λ u. elim [ yes q ↦ λ b. rw q (omega (arith, c.count.ensures)) | no q ↦ λ b. i.2 u (omega arith) ] in
+    (i.0, omega arith, λ u b. go u (ℕ_discrete u c.loop-v.v) b)
 
-returns-2 : tie.Need-returns-2 invariant-loop decreases-loop
-returns-2 c = let i = c.before.loop.invariant in values_few _ (λ v h. i.2 v (omega (arith, i.0, i.1)))
+returns : tie.Need-returns invariant-loop-v decreases-loop-v
+returns c = let i = c.loop-v.invariant in values_few _ (λ v h. i.2 v (omega (arith, i.0, i.1)))
 
-pub has-few-values-spec : {M : Type 1} → statement M
-has-few-values-spec =
-    tie.close
-    (tie.spec
-    invariant-loop
-    decreases-loop
-    variables-requires
-    loop-holds
-    count-requires
-    returns
-    add-v
-    loop-less
-    loop-again
-    returns-2)
+pub has_few_values_spec : {M : Type 1} → statement M
+has_few_values_spec = tie.close (tie.spec invariant-loop-v decreases-loop-v variables-n-requires loop-v-init count-requires returns-then-count-gt15 overflow_add-v loop-v-smaller loop-v-preserved returns)

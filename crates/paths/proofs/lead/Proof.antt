@@ -7,36 +7,26 @@ use Rattle.paths.proofs.lead.Tie as tie
 member-requires : tie.Need-member-requires
 member-requires c κs = search rules
 
-add-result : tie.Need-overflow-add-result
-add-result c = search rules
+overflow_add-result : tie.Need-overflow_add-result
+overflow_add-result c = search rules
 
-cast-result : tie.Need-overflow-cast-result
-cast-result c = search rules
+overflow_cast-result : tie.Need-overflow_cast-result
+overflow_cast-result c = search rules
 
-cast-result-2 : tie.Need-overflow-cast-result-2
-cast-result-2 c = search rules
+overflow_cast-result-then-l-eq-UNREACHED : tie.Need-overflow_cast-result-then-l-eq-UNREACHED
+overflow_cast-result-then-l-eq-UNREACHED c = search rules
 
-cast-result-3 : tie.Need-overflow-cast-result-3
-cast-result-3 c = search rules
+overflow_cast-result-else-l-eq-UNREACHED : tie.Need-overflow_cast-result-else-l-eq-UNREACHED
+overflow_cast-result-else-l-eq-UNREACHED c = search rules
 
-returns : tie.Need-returns
-returns c = lead_open _ _ _ (sym c.before.member.ensures ∙ c.if1.true)
+returns-then-member : tie.Need-returns-then-member
+returns-then-member c = lead_open _ _ _ (sym c.member.ensures ∙ c.if-member.true)
 
-returns-2 : tie.Need-returns-2
-returns-2 c = lead_none _ _ _ (sym c.before.before.member.ensures ∙ c.before.if1.false) c.if2.true
+returns-then-l-eq-UNREACHED : tie.Need-returns-then-l-eq-UNREACHED
+returns-then-l-eq-UNREACHED c = lead_none _ _ _ (sym c.member.ensures ∙ c.if-member.false) c.if-l-eq-UNREACHED.true
 
-returns-3 : tie.Need-returns-3
-returns-3 c = lead_some _ _ _ (sym c.before.before.member.ensures ∙ c.before.if1.false) c.if2.false
+returns-else-l-eq-UNREACHED : tie.Need-returns-else-l-eq-UNREACHED
+returns-else-l-eq-UNREACHED c = lead_some _ _ _ (sym c.member.ensures ∙ c.if-member.false) c.if-l-eq-UNREACHED.false
 
-pub lead-spec : {M : Type 1} → statement M
-lead-spec =
-    tie.close
-    (tie.spec
-    member-requires
-    add-result
-    cast-result
-    cast-result-2
-    cast-result-3
-    returns
-    returns-2
-    returns-3)
+pub lead_spec : {M : Type 1} → statement M
+lead_spec = tie.close (tie.spec member-requires overflow_add-result overflow_cast-result overflow_cast-result-then-l-eq-UNREACHED overflow_cast-result-else-l-eq-UNREACHED returns-then-member returns-then-l-eq-UNREACHED returns-else-l-eq-UNREACHED)

@@ -8,49 +8,34 @@ use Rattle.paths.specs.Paths.{Covers}
 use Rattle.paths.proofs.needs.Statement.{statement}
 use Rattle.paths.proofs.needs.Tie as tie
 
-abbrev invariant-loop : tie.invariant-loop
-invariant-loop task n set₀ i₀ set i = (i ≤ n) × Covers (task_in task) i set
+abbrev invariant-loop-i : tie.invariant-loop-i
+invariant-loop-i task n set₀ i₀ set i = (i ≤ n) × Covers (task_in task) i set
 
-abbrev decreases-loop : tie.decreases-loop
-decreases-loop task n set₀ i₀ set i = n - i
+abbrev decreases-loop-i : tie.decreases-loop-i
+decreases-loop-i task n set₀ i₀ set i = n - i
 
-actions-requires : tie.Need-actions-requires invariant-loop decreases-loop
-actions-requires c κs = search rules
+actions-n-requires : tie.Need-actions-n-requires invariant-loop-i decreases-loop-i
+actions-n-requires c κs = search rules
 
-loop-holds : tie.Need-loop-init invariant-loop decreases-loop
-loop-holds c = (omega arith, λ j v h q. absurd (omega arith))
+loop-i-init : tie.Need-loop-i-init invariant-loop-i decreases-loop-i
+loop-i-init c = (omega arith, λ j v h q. absurd (omega arith))
 
-with-moves-requires : tie.Need-with-moves-requires invariant-loop decreases-loop
-with-moves-requires c κs =
-    let h = c.before in
-    let s = h.before.before.before in
-    (s.requires, omega (arith, h.before.actions.ensures), h.loop.invariant.1)
+with_moves-set-requires : tie.Need-with_moves-set-requires invariant-loop-i decreases-loop-i
+with_moves-set-requires c κs =
+    (c.requires, omega (arith, c.actions-n.ensures), c.loop-i.invariant.1)
 
-add-i : tie.Need-overflow-add-i invariant-loop decreases-loop
-add-i c = search rules
+overflow_add-i : tie.Need-overflow_add-i invariant-loop-i decreases-loop-i
+overflow_add-i c = search rules
 
-loop-less : tie.Need-loop-smaller invariant-loop decreases-loop
-loop-less c = search rules
+loop-i-smaller : tie.Need-loop-i-smaller invariant-loop-i decreases-loop-i
+loop-i-smaller c = search rules
 
-loop-again : tie.Need-loop-preserved invariant-loop decreases-loop
-loop-again c = (omega arith, c.with-moves.ensures)
+loop-i-preserved : tie.Need-loop-i-preserved invariant-loop-i decreases-loop-i
+loop-i-preserved c = (omega arith, c.with_moves-set.ensures)
 
-returns : tie.Need-returns invariant-loop decreases-loop
+returns : tie.Need-returns invariant-loop-i decreases-loop-i
 returns c =
-    let h = c.before in
-    let s = h.before.before.before in
-    subst (λ (k : ℕ). Covers (task_in s.args.task.now) k h.loop.set) (omega (arith, h.before.actions.ensures, h.loop.invariant.0)) h.loop.invariant.1
+    subst (λ (k : ℕ). Covers (task_in c.args.task.now) k c.loop-i.set) (omega (arith, c.actions-n.ensures, c.loop-i.invariant.0)) c.loop-i.invariant.1
 
-pub needs-spec : {M : Type 1} → statement M
-needs-spec =
-    tie.close
-    (tie.spec
-    invariant-loop
-    decreases-loop
-    actions-requires
-    loop-holds
-    with-moves-requires
-    add-i
-    loop-less
-    loop-again
-    returns)
+pub needs_spec : {M : Type 1} → statement M
+needs_spec = tie.close (tie.spec invariant-loop-i decreases-loop-i actions-n-requires loop-i-init with_moves-set-requires overflow_add-i loop-i-smaller loop-i-preserved returns)

@@ -18,198 +18,154 @@ use Rattle.paths.proofs.Walking.{Walking, Move, walking_start, walking_move, wal
 use Rattle.paths.proofs.path.Statement.{statement}
 use Rattle.paths.proofs.path.Tie as tie
 
-abbrev invariant-loop : tie.invariant-loop
-invariant-loop task ever memo v c d list₀ at k x₀ e₀ l₀ list x e l = Walking (task_in task) (sets_of ever) v d c at list₀ list x e l × (lead_in memo k x ≢ unknown x)
+abbrev invariant-loop-l : tie.invariant-loop-l
+invariant-loop-l task ever memo v c d list₀ at k x₀ e₀ l₀ list x e l = Walking (task_in task) (sets_of ever) v d c at list₀ list x e l × (lead_in memo k x ≢ unknown x)
 
-abbrev decreases-loop : tie.decreases-loop
-decreases-loop task ever memo v c d list₀ at k x₀ e₀ l₀ list x e l = length (paths_of (task_in task) (sets_of ever) v x d)
+abbrev decreases-loop-l : tie.decreases-loop-l
+decreases-loop-l task ever memo v c d list₀ at k x₀ e₀ l₀ list x e l = length (paths_of (task_in task) (sets_of ever) v x d)
 
 -- the points of the code: where the slot is known, where the lead from c is, where the loop begins
-abbrev begin-of : tie.After-slot invariant-loop decreases-loop → tie.Start invariant-loop decreases-loop
-begin-of s = s.before.before.before.before
+abbrev begin_of : tie.After-slot-k invariant-loop-l decreases-loop-l → tie.Start invariant-loop-l decreases-loop-l
+begin_of c = c.before.before.before.before
 
-abbrev start_of : tie.After-prepare invariant-loop decreases-loop → tie.Start invariant-loop decreases-loop
-start_of f = begin-of f.before.before
+abbrev start_of : tie.After-prepare invariant-loop-l decreases-loop-l → tie.Start invariant-loop-l decreases-loop-l
+start_of c = c.before.before.before.before.before.before
 
-abbrev found_at : tie.At-loop invariant-loop decreases-loop → tie.After-prepare invariant-loop decreases-loop
-found_at h = h.before.before.before.before.before
+abbrev found_at : tie.At-loop-l invariant-loop-l decreases-loop-l → tie.After-prepare invariant-loop-l decreases-loop-l
+found_at c = c.before.before.before.before.before
 
-formed : (s : tie.Start invariant-loop decreases-loop) → Formed (task_in s.args.task.now)
+formed : (s : tie.Start invariant-loop-l decreases-loop-l) → Formed (task_in s.args.task.now)
 formed s = s.requires.0.0.loaded.formed
 
-small : (s : tie.Start invariant-loop decreases-loop) (x : ℕ) → x < count (task_in s.args.task.now) s.args.v → x < 64
+small : (s : tie.Start invariant-loop-l decreases-loop-l) (x : ℕ) → x < count (task_in s.args.task.now) s.args.v → x < 64
 small s x b = omega (arith, (formed s).count_max s.args.v)
 
 -- the memo, the slot and the leads in it
-abbrev memo-of : tie.After-prepare invariant-loop decreases-loop → List ℕ
-memo-of f = f.prepare.new.1.1.0
+abbrev memo_of : tie.After-prepare invariant-loop-l decreases-loop-l → List ℕ
+memo_of f = f.prepare.new.memo
 
-abbrev slot_of : tie.After-prepare invariant-loop decreases-loop → ℕ
-slot_of f = f.before.before.slot.result
+abbrev slot_of : tie.After-prepare invariant-loop-l decreases-loop-l → ℕ
+slot_of f = f.slot-k.result
 
-slotted : (f : tie.After-prepare invariant-loop decreases-loop) → slot_of f < 64
-slotted f = let a = (start_of f).args in omega (arith, f.before.before.slot.ensures, slot_below a.v a.d)
+slotted : (f : tie.After-prepare invariant-loop-l decreases-loop-l) → slot_of f < 64
+slotted f = let a = f.args in omega (arith, f.slot-k.ensures, slot_below a.v a.d)
 
-inside : (f : tie.After-prepare invariant-loop decreases-loop) (x : ℕ) → let a = (start_of f).args in x < count (task_in a.task.now) a.v → 64 * (x + 1) + slot_of f < length (memo-of f)
+inside : (f : tie.After-prepare invariant-loop-l decreases-loop-l) (x : ℕ) → let a = f.args in x < count (task_in a.task.now) a.v → 64 * (x + 1) + slot_of f < length (memo_of f)
 inside f x b =
-    let s = start_of f in
-    omega (arith, f.prepare.ensures.0.long, memo_lead (task_in s.args.task.now) s.args.v x (slot_of f) s.pre.0.1 b ((formed s).count_max s.args.v) (slotted f))
+    omega (arith, f.prepare.ensures.0.long, memo_lead (task_in f.args.task.now) f.args.v x (slot_of f) f.requires.0.1 b ((formed f.before.before.before.before.before.before).count_max f.args.v) (slotted f))
 
-leads : (f : tie.After-prepare invariant-loop decreases-loop) → let a = (start_of f).args in
-    Leads (task_in a.task.now) (sets_of a.ever.now) a.v a.d (lead_in (memo-of f) (slot_of f)) × (lead_in (memo-of f) (slot_of f) a.c ≢ unknown a.c)
+leads : (f : tie.After-prepare invariant-loop-l decreases-loop-l) → let a = f.args in
+    Leads (task_in a.task.now) (sets_of a.ever.now) a.v a.d (lead_in (memo_of f) (slot_of f)) × (lead_in (memo_of f) (slot_of f) a.c ≢ unknown a.c)
 leads f =
-    let s = start_of f in
     let e = f.prepare.ensures in
-    leading_leads (memo-of f) s.args.v s.args.c s.args.d (slot_of f) f.before.before.slot.ensures _ _ e.0 s.pre.0.1 (small s s.args.d s.pre.1.1) e.1
+    leading_leads (memo_of f) f.args.v f.args.c f.args.d (slot_of f) f.slot-k.ensures _ _ e.0 f.requires.0.1 (small f.before.before.before.before.before.before f.args.d f.requires.1.1) e.1
 
 -- the next move
-moved : (h : tie.At-loop invariant-loop decreases-loop) → (h.loop.l % 64 ≡ h.loop.x → ⊥)
-    → let s = start_of (found_at h) in Move (task_in s.args.task.now) (formed s) (sets_of s.args.ever.now) s.args.v s.args.d h.loop.x h.loop.l
-moved h ne = walking_move _ (formed (start_of (found_at h))) _ _ _ _ _ _ _ _ _ _ h.loop.invariant.0 ne
+moved : (h : tie.At-loop-l invariant-loop-l decreases-loop-l) → (h.loop-l.l % 64 ≡ h.loop-l.x → ⊥)
+    → Move (task_in h.args.task.now) (formed h.before.before.before.before.before.before.before.before.before.before.before) (sets_of h.args.ever.now) h.args.v h.args.d h.loop-l.x h.loop-l.l
+moved h ne = walking_move _ (formed h.before.before.before.before.before.before.before.before.before.before.before) _ _ _ _ _ _ _ _ _ _ h.loop-l.invariant.0 ne
 
-known_next : (h : tie.At-loop invariant-loop decreases-loop) → lead_in (memo-of (found_at h)) (slot_of (found_at h)) (h.loop.l % 64) ≢ unknown (h.loop.l % 64)
+known_next : (h : tie.At-loop-l invariant-loop-l decreases-loop-l) → lead_in (memo_of h.before.before.before.before.before) (slot_of h.before.before.before.before.before) (h.loop-l.l % 64) ≢ unknown (h.loop-l.l % 64)
 known_next h =
-    let W = h.loop.invariant.0 in
-    let f = found_at h in
-    subst (λ (l : ℕ). lead_in (memo-of f) (slot_of f) (l % 64) ≢ unknown (l % 64)) (sym W.is_lead) ((leads f).0 h.loop.x W.inside h.loop.invariant.1).1
+    let W = h.loop-l.invariant.0 in
+    subst (λ (l : ℕ). lead_in (memo_of h.before.before.before.before.before) (slot_of h.before.before.before.before.before) (l % 64) ≢ unknown (l % 64)) (sym W.is_lead) ((leads h.before.before.before.before.before).0 h.loop-l.x W.inside h.loop-l.invariant.1).1
 
-slot-requires : tie.Need-slot-requires invariant-loop decreases-loop
-slot-requires c κs =
-    let s = c.before.before.before in
-    (omega (arith, black_inside _ _ s.requires.0.1, (formed s).variables_max), small s s.args.d s.requires.1.1)
+slot-k-requires : tie.Need-slot-k-requires invariant-loop-l decreases-loop-l
+slot-k-requires c κs =
+    (omega (arith, black_inside _ _ c.requires.0.1, (formed c.before.before.before).variables_max), small c.before.before.before c.args.d c.requires.1.1)
 
-prepare-requires : tie.Need-prepare-requires invariant-loop decreases-loop
-prepare-requires c κs = let p = (begin-of c.before).pre in ((p.0.0, p.0.1, p.1.0, p.1.1), (c.before.slot.ensures, p.0.2))
+prepare-requires : tie.Need-prepare-requires invariant-loop-l decreases-loop-l
+prepare-requires c κs = let p = c.requires in ((p.0.0, p.0.1, p.1.0, p.1.1), (c.slot-k.ensures, p.0.2))
 
 -- the place of the first lead
-first-place : (f : tie.After-prepare invariant-loop decreases-loop) → ((start_of f).args.c < 64) × (slot_of f < 64)
-first-place f = let s = start_of f in (small s s.args.c s.pre.1.0, slotted f)
+first_place : (f : tie.After-prepare invariant-loop-l decreases-loop-l) → (f.args.c < 64) × (slot_of f < 64)
+first_place f = (small f.before.before.before.before.before.before f.args.c f.requires.1.0, slotted f)
 
-add_wide : tie.Need-overflow-add-wide invariant-loop decreases-loop
-add_wide c = let r = first-place c.before.before in record { fits = omega (arith, r) }
+overflow_add-x : tie.Need-overflow_add-x invariant-loop-l decreases-loop-l
+overflow_add-x c = let r = first_place c.before.before in record { fits = omega (arith, r) }
 
-mul_wide : tie.Need-overflow-mul-wide invariant-loop decreases-loop
-mul_wide c = let r = first-place c.before.before in record { fits = omega (arith, r) }
+overflow_mul-x : tie.Need-overflow_mul-x invariant-loop-l decreases-loop-l
+overflow_mul-x c = let r = first_place c.before.before in record { fits = omega (arith, r) }
 
-add-wide-2 : tie.Need-overflow-add-wide-2 invariant-loop decreases-loop
-add-wide-2 c = let r = first-place c.before.before in record { fits = omega (arith, r) }
+overflow_add-x-2 : tie.Need-overflow_add-x-2 invariant-loop-l decreases-loop-l
+overflow_add-x-2 c = let r = first_place c.before.before in record { fits = omega (arith, r) }
 
-mul-wide-2 : tie.Need-overflow-mul-wide-2 invariant-loop decreases-loop
-mul-wide-2 c = let r = first-place c.before.before in record { fits = omega (arith, r) }
+offset_bounds-memo-x : tie.Need-offset_bounds-memo-x invariant-loop-l decreases-loop-l
+offset_bounds-memo-x c = let r = first_place c.before.before in record { fits = omega (arith, r) }
 
-slice-read-wide : tie.Need-slice-read-wide invariant-loop decreases-loop
-slice-read-wide c = let f = c.before.before.before in inside f (start_of f).args.c (start_of f).requires.1.0
+bounds-memo-x : tie.Need-bounds-memo-x invariant-loop-l decreases-loop-l
+bounds-memo-x c = inside c.before.before.before c.args.c c.requires.1.0
 
-wide-requires : tie.Need-wide-requires invariant-loop decreases-loop
-wide-requires c κs = tt
+wide-l-requires : tie.Need-wide-l-requires invariant-loop-l decreases-loop-l
+wide-l-requires c κs = tt
 
-loop-holds : tie.Need-loop-init invariant-loop decreases-loop
-loop-holds c =
-    let f = c.before.before.before.before in
-    let p = (start_of f).requires.1 in
-    (walking_start _ (formed (start_of f)) _ _ _ _ _ _ _ p.2 p.0 (c.wide.ensures ∙ ((leads f).0 (start_of f).args.c p.0 (leads f).1).0), (leads f).1)
+loop-l-init : tie.Need-loop-l-init invariant-loop-l decreases-loop-l
+loop-l-init c =
+    let p = c.requires.1 in
+    (walking_start _ (formed c.before.before.before.before.before.before.before.before.before.before) _ _ _ _ _ _ _ p.2 p.0 (c.wide-l.ensures ∙ ((leads c.before.before.before.before).0 c.args.c p.0 (leads c.before.before.before.before).1).0), (leads c.before.before.before.before).1)
 
-same_length : tie.Need-same-length invariant-loop decreases-loop
-same_length c = let f = found_at c.before.before in f.prepare.ensures.0.long ∙ sym (start_of f).pre.0.2.long
+shape_of-memo-then-e-list : tie.Need-shape_of-memo-then-e-list invariant-loop-l decreases-loop-l
+shape_of-memo-then-e-list c = c.prepare.ensures.0.long ∙ sym c.requires.0.2.long
 
-same-length-2 : tie.Need-same-length-2 invariant-loop decreases-loop
-same-length-2 c = c.before.before.loop.invariant.0.long
+shape_of-list-then-e-list : tie.Need-shape_of-list-then-e-list invariant-loop-l decreases-loop-l
+shape_of-list-then-e-list c = c.loop-l.invariant.0.long
 
-returns : tie.Need-returns invariant-loop decreases-loop
-returns c =
-    let h = c.before.before in
-    let f = found_at h in
-    (walking_long _ (formed (start_of f)) _ _ _ _ _ _ _ _ _ _ h.loop.invariant.0 (λ q. omega (arith, q)) (omega (arith, h.loop.invariant.0.long)), f.prepare.ensures.0)
+returns-then-e-list : tie.Need-returns-then-e-list invariant-loop-l decreases-loop-l
+returns-then-e-list c =
+    (walking_long _ (formed c.before.before.before.before.before.before.before.before.before.before.before.before.before) _ _ _ _ _ _ _ _ _ _ c.loop-l.invariant.0 (λ q. omega (arith, q)) (omega (arith, c.loop-l.invariant.0.long)), c.prepare.ensures.0)
 
-cast-list : tie.Need-overflow-cast-list invariant-loop decreases-loop
-cast-list c =
-    let h = c.before.before in
-    let m = (moved h (λ q. omega (arith, q))).below in record { fits = omega (arith, m, (formed (start_of (found_at h))).actions_max) }
+overflow_cast-list : tie.Need-overflow_cast-list invariant-loop-l decreases-loop-l
+overflow_cast-list c =
+    let m = (moved c.before.before (λ q. omega (arith, q))).below in record { fits = omega (arith, m, (formed c.before.before.before.before.before.before.before.before.before.before.before.before.before).actions_max) }
 
-mul-list : tie.Need-overflow-mul-list invariant-loop decreases-loop
-mul-list c = search rules
+offset_bounds-list-e : tie.Need-offset_bounds-list-e invariant-loop-l decreases-loop-l
+offset_bounds-list-e c = search rules
 
-slice-write-list : tie.Need-slice-write-list invariant-loop decreases-loop
-slice-write-list c = omega arith
+bounds-list-e : tie.Need-bounds-list-e invariant-loop-l decreases-loop-l
+bounds-list-e c = omega arith
 
-add-e : tie.Need-overflow-add-e invariant-loop decreases-loop
-add-e c = search rules
+overflow_add-e : tie.Need-overflow_add-e invariant-loop-l decreases-loop-l
+overflow_add-e c = search rules
 
-add-wide-3 : tie.Need-overflow-add-wide-3 invariant-loop decreases-loop
-add-wide-3 c = search rules
+overflow_add-x-in-loop-l : tie.Need-overflow_add-x-in-loop-l invariant-loop-l decreases-loop-l
+overflow_add-x-in-loop-l c = search rules
 
-mul-wide-3 : tie.Need-overflow-mul-wide-3 invariant-loop decreases-loop
-mul-wide-3 c = search rules
+overflow_mul-x-in-loop-l : tie.Need-overflow_mul-x-in-loop-l invariant-loop-l decreases-loop-l
+overflow_mul-x-in-loop-l c = search rules
 
-add-wide-4 : tie.Need-overflow-add-wide-4 invariant-loop decreases-loop
-add-wide-4 c = let k = slotted (found_at c.before.before) in record { fits = omega (arith, k) }
+overflow_add-x-in-loop-l-2 : tie.Need-overflow_add-x-in-loop-l-2 invariant-loop-l decreases-loop-l
+overflow_add-x-in-loop-l-2 c = let k = slotted c.before.before.before.before.before.before.before in record { fits = omega (arith, k) }
 
-mul-wide-4 : tie.Need-overflow-mul-wide-4 invariant-loop decreases-loop
-mul-wide-4 c = let k = slotted (found_at c.before.before) in record { fits = omega (arith, k) }
+offset_bounds-memo-x-in-loop-l : tie.Need-offset_bounds-memo-x-in-loop-l invariant-loop-l decreases-loop-l
+offset_bounds-memo-x-in-loop-l c = let k = slotted c.before.before.before.before.before.before.before in record { fits = omega (arith, k) }
 
-slice-read-wide-2 : tie.Need-slice-read-wide-2 invariant-loop decreases-loop
-slice-read-wide-2 c = let h = c.before.before.before in inside (found_at h) (h.loop.l % 64) (moved h (λ q. omega (arith, q))).there
+bounds-memo-x-in-loop-l : tie.Need-bounds-memo-x-in-loop-l invariant-loop-l decreases-loop-l
+bounds-memo-x-in-loop-l c = inside c.before.before.before.before.before.before.before.before (c.loop-l.l % 64) (moved c.before.before.before (λ q. omega (arith, q))).there
 
-wide-requires-2 : tie.Need-wide-requires-2 invariant-loop decreases-loop
-wide-requires-2 c κs = tt
+wide-l-requires-in-loop-l : tie.Need-wide-l-requires-in-loop-l invariant-loop-l decreases-loop-l
+wide-l-requires-in-loop-l c κs = tt
 
-loop-less : tie.Need-loop-smaller invariant-loop decreases-loop
-loop-less c =
-    let h = c.before.before.before.before in
-    walking_less _ (formed (start_of (found_at h))) _ _ _ _ _ _ _ _ _ _ h.loop.invariant.0 (λ q. omega (arith, q))
+loop-l-smaller : tie.Need-loop-l-smaller invariant-loop-l decreases-loop-l
+loop-l-smaller c =
+    walking_less _ (formed c.before.before.before.before.before.before.before.before.before.before.before.before.before.before.before) _ _ _ _ _ _ _ _ _ _ c.loop-l.invariant.0 (λ q. omega (arith, q))
 
-loop-again : tie.Need-loop-preserved invariant-loop decreases-loop
-loop-again c =
-    let h = c.before.before.before.before in
-    let f = found_at h in
-    let b = (moved h (λ q. omega (arith, q))).there in (
-      walking_turn _ (formed (start_of f)) _ _ _ _ _ _ _ _ _ _ h.loop.invariant.0 (λ q. omega (arith, q)) (omega (arith, h.loop.invariant.0.long)) _
-          (c.wide2.ensures ∙ ((leads f).0 (h.loop.l % 64) b (known_next h)).0),
-      known_next h,
+loop-l-preserved : tie.Need-loop-l-preserved invariant-loop-l decreases-loop-l
+loop-l-preserved c =
+    let b = (moved c.before.before.before.before (λ q. omega (arith, q))).there in (
+      walking_turn _ (formed c.before.before.before.before.before.before.before.before.before.before.before.before.before.before.before) _ _ _ _ _ _ _ _ _ _ c.loop-l.invariant.0 (λ q. omega (arith, q)) (omega (arith, c.loop-l.invariant.0.long)) _
+          (c.wide-l-in-loop-l.ensures ∙ ((leads c.before.before.before.before.before.before.before.before.before).0 (c.loop-l.l % 64) b (known_next c.before.before.before.before)).0),
+      known_next c.before.before.before.before,
     )
 
-same-length-3 : tie.Need-same-length-3 invariant-loop decreases-loop
-same-length-3 c = let f = found_at c.before in f.prepare.ensures.0.long ∙ sym (start_of f).pre.0.2.long
+shape_of-memo : tie.Need-shape_of-memo invariant-loop-l decreases-loop-l
+shape_of-memo c = c.prepare.ensures.0.long ∙ sym c.requires.0.2.long
 
-same-length-4 : tie.Need-same-length-4 invariant-loop decreases-loop
-same-length-4 c = c.before.loop.invariant.0.long
+shape_of-list : tie.Need-shape_of-list invariant-loop-l decreases-loop-l
+shape_of-list c = c.loop-l.invariant.0.long
 
-returns-2 : tie.Need-returns-2 invariant-loop decreases-loop
-returns-2 c =
-    let h = c.before in
-    let f = found_at h in
-    (walking_end _ (formed (start_of f)) _ _ _ _ _ _ _ _ _ _ h.loop.invariant.0 (omega arith), f.prepare.ensures.0)
+returns : tie.Need-returns invariant-loop-l decreases-loop-l
+returns c =
+    (walking_end _ (formed c.before.before.before.before.before.before.before.before.before.before.before.before) _ _ _ _ _ _ _ _ _ _ c.loop-l.invariant.0 (omega arith), c.prepare.ensures.0)
 
-pub path-spec : {M : Type 1} → statement M
-path-spec =
-    tie.close
-    (tie.spec
-    invariant-loop
-    decreases-loop
-    slot-requires
-    prepare-requires
-    add_wide
-    mul_wide
-    add-wide-2
-    mul-wide-2
-    slice-read-wide
-    wide-requires
-    loop-holds
-    same_length
-    same-length-2
-    returns
-    cast-list
-    mul-list
-    slice-write-list
-    add-e
-    add-wide-3
-    mul-wide-3
-    add-wide-4
-    mul-wide-4
-    slice-read-wide-2
-    wide-requires-2
-    loop-less
-    loop-again
-    same-length-3
-    same-length-4
-    returns-2)
+pub path_spec : {M : Type 1} → statement M
+path_spec = tie.close (tie.spec invariant-loop-l decreases-loop-l slot-k-requires prepare-requires overflow_add-x overflow_mul-x overflow_add-x-2 offset_bounds-memo-x bounds-memo-x wide-l-requires loop-l-init shape_of-memo-then-e-list shape_of-list-then-e-list returns-then-e-list overflow_cast-list offset_bounds-list-e bounds-list-e overflow_add-e overflow_add-x-in-loop-l overflow_mul-x-in-loop-l overflow_add-x-in-loop-l-2 offset_bounds-memo-x-in-loop-l bounds-memo-x-in-loop-l wide-l-requires-in-loop-l loop-l-smaller loop-l-preserved shape_of-memo shape_of-list returns)

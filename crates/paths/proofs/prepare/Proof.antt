@@ -36,74 +36,55 @@ small s =
 abbrev start_of : tie.After-wide → tie.Start
 start_of c = c.before.before.before.before
 
-mul_wide : tie.Need-overflow-mul-wide
-mul_wide c = let r = small c.before.before in omega (arith, r.slotted)
+offset_bounds-memo-k : tie.Need-offset_bounds-memo-k
+offset_bounds-memo-k c = let r = small c.before.before in omega (arith, r.slotted)
 
-slice-read-wide : tie.Need-slice-read-wide
-slice-read-wide c = (small c.before.before.before).mark-in
+bounds-memo-k : tie.Need-bounds-memo-k
+bounds-memo-k c = (small c.before.before.before).mark-in
 
 wide-requires : tie.Need-wide-requires
 wide-requires c κs = search rules
 
-add-begun : tie.Need-overflow-add-begun
-add-begun c = let r = small (start_of c) in omega (arith, r.variable)
+overflow_add-begun : tie.Need-overflow_add-begun
+overflow_add-begun c = let r = small c.before.before.before.before in omega (arith, r.variable)
 
-add_wide : tie.Need-overflow-add-wide
-add_wide c = let r = small (start_of c.before) in omega (arith, r.from)
+overflow_add-c : tie.Need-overflow_add-c
+overflow_add-c c = let r = small c.before.before.before.before.before in omega (arith, r.from)
 
-mul-wide-2 : tie.Need-overflow-mul-wide-2
-mul-wide-2 c = let r = small (start_of c.before) in omega (arith, r.from)
+overflow_mul-c : tie.Need-overflow_mul-c
+overflow_mul-c c = let r = small c.before.before.before.before.before in omega (arith, r.from)
 
-add-wide-2 : tie.Need-overflow-add-wide-2
-add-wide-2 c = let r = small (start_of c.before) in omega (arith, r.from, r.slotted)
+overflow_add-c-then-begun : tie.Need-overflow_add-c-then-begun
+overflow_add-c-then-begun c = let r = small c.before.before.before.before.before in omega (arith, r.from, r.slotted)
 
-mul-wide-3 : tie.Need-overflow-mul-wide-3
-mul-wide-3 c = let r = small (start_of c.before) in omega (arith, r.from, r.slotted)
+offset_bounds-memo-c : tie.Need-offset_bounds-memo-c
+offset_bounds-memo-c c = let r = small c.before.before.before.before.before in omega (arith, r.from, r.slotted)
 
-slice-read-wide-2 : tie.Need-slice-read-wide-2
-slice-read-wide-2 c = (small (start_of c.before.before)).lead-in
+bounds-memo-c : tie.Need-bounds-memo-c
+bounds-memo-c c = (small c.before.before.before.before.before.before).lead-in
 
-wide-requires-2 : tie.Need-wide-requires-2
-wide-requires-2 c κs = search rules
+wide-requires-then-begun : tie.Need-wide-requires-then-begun
+wide-requires-then-begun c κs = search rules
 
-add-if2 : tie.Need-overflow-add-if2
-add-if2 c = let r = small (start_of c.before.before.before) in omega (arith, r.from)
+overflow_add-c-then-begun-2 : tie.Need-overflow_add-c-then-begun-2
+overflow_add-c-then-begun-2 c = let r = small c.before.before.before.before.before.before.before in omega (arith, r.from)
 
-returns : tie.Need-returns
-returns c =
-    let t = c.before.before.before in
-    let s = start_of t.before in
-    let mark = sym t.before.wide.ensures ∙ eqb-true _ _ t.if1.true in (
-      s.pre.1.1,
-      leading s.args.memo.now s.args.v s.args.c s.args.d s.args.k s.pre.1.0 mark
-          (λ q. eqb-false _ _ (not-true _ c.if2.true) (c.before.wide2.ensures ∙ q)),
+returns-then-wide-c : tie.Need-returns-then-wide-c
+returns-then-wide-c c =
+    let mark = sym c.wide.ensures ∙ c.if-begun.true in (
+      c.requires.1.1,
+      leading c.args.memo.now c.args.v c.args.c c.args.d c.args.k c.requires.1.0 mark
+          (λ q. c.if-wide-c.true (c.wide-then-begun.ensures ∙ q)),
     )
 
 towards-requires : tie.Need-towards-requires
-towards-requires c κs = let s = start_of c.before.before in (s.pre.0, s.pre.1)
+towards-requires c κs = (c.requires.0, c.requires.1)
 
-same_length : tie.Need-same-length
-same_length c = search rules
+shape_of-memo : tie.Need-shape_of-memo
+shape_of-memo c = search rules
 
-returns-2 : tie.Need-returns-2
-returns-2 c = c.before.before.towards.ensures
+returns : tie.Need-returns
+returns c = c.towards.ensures
 
-pub prepare-spec : {M : Type 1} → statement M
-prepare-spec =
-    tie.close
-    (tie.spec
-    mul_wide
-    slice-read-wide
-    wide-requires
-    add-begun
-    add_wide
-    mul-wide-2
-    add-wide-2
-    mul-wide-3
-    slice-read-wide-2
-    wide-requires-2
-    add-if2
-    returns
-    towards-requires
-    same_length
-    returns-2)
+pub prepare_spec : {M : Type 1} → statement M
+prepare_spec = tie.close (tie.spec offset_bounds-memo-k bounds-memo-k wide-requires overflow_add-begun overflow_add-c overflow_mul-c overflow_add-c-then-begun offset_bounds-memo-c bounds-memo-c wide-requires-then-begun overflow_add-c-then-begun-2 returns-then-wide-c towards-requires shape_of-memo returns)

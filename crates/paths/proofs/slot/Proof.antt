@@ -4,15 +4,15 @@ use Rattle.paths.specs.Paths.{slot}
 use Rattle.paths.proofs.slot.Statement.{statement}
 use Rattle.paths.proofs.slot.Tie as tie
 
-mul-result : tie.Need-overflow-mul-result
-mul-result c = search rules
+overflow_mul-result : tie.Need-overflow_mul-result
+overflow_mul-result c = search rules
 
-add-result : tie.Need-overflow-add-result
-add-result c = search rules
+overflow_add-result : tie.Need-overflow_add-result
+overflow_add-result c = search rules
 
 returns : tie.Need-returns
 unfolding slot
 returns c = refl
 
-pub slot-spec : {M : Type 1} → statement M
-slot-spec = tie.close (tie.spec mul-result add-result returns)
+pub slot_spec : {M : Type 1} → statement M
+slot_spec = tie.close (tie.spec overflow_mul-result overflow_add-result returns)

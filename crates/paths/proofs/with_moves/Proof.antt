@@ -5,21 +5,19 @@ use Rattle.paths.proofs.Needing.{covers_black, covers_red}
 use Rattle.paths.proofs.with_moves.Statement.{statement}
 use Rattle.paths.proofs.with_moves.Tie as tie
 
-sets-black-requires : tie.Need-sets-black-requires
-sets-black-requires c κs = search rules
+sets_black-requires : tie.Need-sets_black-requires
+sets_black-requires c κs = search rules
 
-with-needs-requires : tie.Need-with-needs-requires
-with-needs-requires c κs = search rules
+with_needs-requires : tie.Need-with_needs-requires
+with_needs-requires c κs = search rules
+
+returns-then-sets_black : tie.Need-returns-then-sets_black
+returns-then-sets_black c =
+    covers_black (task_in c.args.task.now) c.args.i c.args.set _ c.requires.2 c.with_needs.ensures
 
 returns : tie.Need-returns
 returns c =
-    let s = c.before.before.before.before in
-    covers_black (task_in s.args.task.now) s.args.i s.args.set _ s.requires.2 c.with-needs.ensures
+    covers_red (task_in c.args.task.now) c.args.i c.args.set 0 c.requires.2 (sym c.sets_black.ensures ∙ c.if-sets_black.false)
 
-returns-2 : tie.Need-returns-2
-returns-2 c =
-    let s = c.before.before.before in
-    covers_red (task_in s.args.task.now) s.args.i s.args.set 0 s.requires.2 (sym c.before.sets-black.ensures ∙ c.if1.false)
-
-pub with-moves-spec : {M : Type 1} → statement M
-with-moves-spec = tie.close (tie.spec sets-black-requires with-needs-requires returns returns-2)
+pub with_moves_spec : {M : Type 1} → statement M
+with_moves_spec = tie.close (tie.spec sets_black-requires with_needs-requires returns-then-sets_black returns)

@@ -8,20 +8,20 @@ use Rattle.sets.proofs.Members.{in_set_empty}
 use Rattle.search.proofs.if_held.Statement.{statement}
 use Rattle.search.proofs.if_held.Tie as tie
 
-all-hold-requires : tie.Need-all-hold-requires
-all-hold-requires c κs = let F = c.before.requires in (F.rises, F.within, F.small)
+all_hold-requires : tie.Need-all_hold-requires
+all_hold-requires c κs = let F = c.requires in (F.rises, F.within, F.small)
 
-returns : tie.Need-returns
-returns c =
-    let a = c.before.before.before.args in
-    let yes : holds (sets_of a.ever.now) (facts_in a.facts.now a.from a.to) ≡ true = sym c.before.all_hold.ensures ∙ c.if1.true in
+returns-then-all_hold : tie.Need-returns-then-all_hold
+returns-then-all_hold c =
+    let a = c.args in
+    let yes : holds (sets_of a.ever.now) (facts_in a.facts.now a.from a.to) ≡ true = sym c.all_hold.ensures ∙ c.if-all_hold.true in
     λ x. rw yes (sym (and-true (in_set a.set x)))
 
-returns-2 : tie.Need-returns-2
-returns-2 c =
-    let a = c.before.before.before.args in
-    let no : holds (sets_of a.ever.now) (facts_in a.facts.now a.from a.to) ≡ false = sym c.before.all_hold.ensures ∙ c.if1.false in
+returns-else-all_hold : tie.Need-returns-else-all_hold
+returns-else-all_hold c =
+    let a = c.args in
+    let no : holds (sets_of a.ever.now) (facts_in a.facts.now a.from a.to) ≡ false = sym c.all_hold.ensures ∙ c.if-all_hold.false in
     λ x. rw (no, and-false (in_set a.set x)) (in_set_empty x)
 
-pub if-held-spec : {M : Type 1} → statement M
-if-held-spec = tie.close (tie.spec all-hold-requires returns returns-2)
+pub if_held_spec : {M : Type 1} → statement M
+if_held_spec = tie.close (tie.spec all_hold-requires returns-then-all_hold returns-else-all_hold)

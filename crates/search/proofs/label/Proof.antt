@@ -11,40 +11,40 @@ use Rattle.search.specs.Search.{through}
 use Rattle.search.proofs.label.Statement.{statement}
 use Rattle.search.proofs.label.Tie as tie
 
-cost-is : (c : tie.After-cost) → let s = c.before.before in c.cost.result ≡ (act (task_in s.args.task.now) s.args.i).cost
+cost_is : (c : tie.After-cost-cost) → c.cost-cost.result ≡ (act (task_in c.args.task.now) c.args.i).cost
 unfolding action_in
-cost-is c = let s = c.before.before in c.cost.ensures ∙ sym (ap (λ (a : Action). a.cost) (task_in_act s.args.task.now s.args.i s.requires.1))
+cost_is c = c.cost-cost.ensures ∙ sym (ap (λ (a : Action). a.cost) (task_in_act c.args.task.now c.args.i c.requires.1))
 
-cost-requires : tie.Need-cost-requires
-cost-requires c κs = search rules
+cost-cost-requires : tie.Need-cost-cost-requires
+cost-cost-requires c κs = search rules
 
-small : (c : tie.After-cost) → c.cost.result < 65536
-small c = let s = c.before.before in rw (cost-is c) (s.requires.0.formed.cost_below s.args.i)
+small : (c : tie.After-cost-cost) → c.cost-cost.result < 65536
+small c = rw (cost_is c) (c.requires.0.formed.cost_below c.args.i)
 
-mul-result : tie.Need-overflow-mul-result
-mul-result c = record { fits = omega (arith, small c) }
+overflow_mul-result : tie.Need-overflow_mul-result
+overflow_mul-result c = record { fits = omega (arith, small c) }
 
-add-result : tie.Need-overflow-add-result
-add-result c = record { fits = omega (arith, small c, c.before.before.requires.2) }
+overflow_add-result : tie.Need-overflow_add-result
+overflow_add-result c = record { fits = omega (arith, small c, c.requires.2) }
 
-add-result-2 : tie.Need-overflow-add-result-2
-add-result-2 c = record { fits = omega (arith, small c, c.before.before.requires.2) }
+overflow_add-result-2 : tie.Need-overflow_add-result-2
+overflow_add-result-2 c = record { fits = omega (arith, small c, c.requires.2) }
 
-mul-result-2 : tie.Need-overflow-mul-result-2
-mul-result-2 c = record { fits = omega (arith, small c, c.before.before.requires.2) }
+overflow_mul-result-2 : tie.Need-overflow_mul-result-2
+overflow_mul-result-2 c = record { fits = omega (arith, small c, c.requires.2) }
 
-mul-result-3 : tie.Need-overflow-mul-result-3
-mul-result-3 c = let s = c.before.before in record { fits = omega (arith, s.requires.1, s.requires.0.formed.actions_max) }
+overflow_mul-result-3 : tie.Need-overflow_mul-result-3
+overflow_mul-result-3 c = record { fits = omega (arith, c.requires.1, c.requires.0.formed.actions_max) }
 
-add-result-3 : tie.Need-overflow-add-result-3
-add-result-3 c = let s = c.before.before in record { fits = omega (arith, s.requires.1, s.requires.3, s.requires.0.formed.actions_max) }
+overflow_add-result-3 : tie.Need-overflow_add-result-3
+overflow_add-result-3 c = record { fits = omega (arith, c.requires.1, c.requires.3, c.requires.0.formed.actions_max) }
 
-add-result-4 : tie.Need-overflow-add-result-4
-add-result-4 c = let s = c.before.before in record { fits = omega (arith, small c, s.requires.1, s.requires.2, s.requires.3, s.requires.0.formed.actions_max) }
+overflow_add-result-4 : tie.Need-overflow_add-result-4
+overflow_add-result-4 c = record { fits = omega (arith, small c, c.requires.1, c.requires.2, c.requires.3, c.requires.0.formed.actions_max) }
 
 returns : tie.Need-returns
 unfolding through
-returns c = rw (cost-is c) refl
+returns c = rw (cost_is c) refl
 
-pub label-spec : {M : Type 1} → statement M
-label-spec = tie.close (tie.spec cost-requires mul-result add-result add-result-2 mul-result-2 mul-result-3 add-result-3 add-result-4 returns)
+pub label_spec : {M : Type 1} → statement M
+label_spec = tie.close (tie.spec cost-cost-requires overflow_mul-result overflow_add-result overflow_add-result-2 overflow_mul-result-2 overflow_mul-result-3 overflow_add-result-3 overflow_add-result-4 returns)

@@ -12,106 +12,74 @@ use Rattle.search.proofs.Settling.{Settling, started, near_in, near_key, none_in
 use Rattle.search.proofs.settle.Statement.{statement}
 use Rattle.search.proofs.settle.Tie as tie
 
-abbrev invariant-loop : tie.invariant-loop
-invariant-loop task ever labels₀ v c d whole rest₀ front₀ x₀ labels rest front x = Settling (task_in task) (sets_of ever) v d labels rest front × Nearest labels front x
+abbrev invariant-loop-x : tie.invariant-loop-x
+invariant-loop-x task ever labels₀ v c d whole rest₀ front₀ x₀ labels rest front x = Settling (task_in task) (sets_of ever) v d labels rest front × Nearest labels front x
 
-abbrev decreases-loop : tie.decreases-loop
-decreases-loop task ever labels₀ v c d whole rest₀ front₀ x₀ labels rest front x = tally 64 (in_set rest)
+abbrev decreases-loop-x : tie.decreases-loop-x
+decreases-loop-x task ever labels₀ v c d whole rest₀ front₀ x₀ labels rest front x = tally 64 (in_set rest)
 
-abbrev start_of : tie.At-loop invariant-loop decreases-loop → tie.Start invariant-loop decreases-loop
-start_of h = h.before.before.before.before
+abbrev start_of : tie.At-loop-x invariant-loop-x decreases-loop-x → tie.Start invariant-loop-x decreases-loop-x
+start_of c = c.before.before.before.before.before
 
-formed : (s : tie.Start invariant-loop decreases-loop) → Formed (task_in s.args.task.now)
+formed : (s : tie.Start invariant-loop-x decreases-loop-x) → Formed (task_in s.args.task.now)
 formed s = s.requires.0.loaded.formed
 
-mul-labels : tie.Need-overflow-mul-labels invariant-loop decreases-loop
-mul-labels c = let s = c.before in record { fits = omega (arith, s.requires.2, (formed s).count_max s.args.v) }
+offset_bounds-labels-d : tie.Need-offset_bounds-labels-d invariant-loop-x decreases-loop-x
+offset_bounds-labels-d c = record { fits = omega (arith, c.requires.2, (formed c.before).count_max c.args.v) }
 
-element-write-labels : tie.Need-element-write-labels invariant-loop decreases-loop
-element-write-labels c = let s = c.before in omega (arith, s.requires.2, (formed s).count_max s.args.v)
+bounds-labels-d : tie.Need-bounds-labels-d invariant-loop-x decreases-loop-x
+bounds-labels-d c = omega (arith, c.requires.2, (formed c.before.before).count_max c.args.v)
 
-count-requires : tie.Need-count-requires invariant-loop decreases-loop
-count-requires c κs = let p = c.before.requires in (p.0.loaded, black_inside _ _ p.1)
+count-requires : tie.Need-count-requires invariant-loop-x decreases-loop-x
+count-requires c κs = let p = c.requires in (p.0.loaded, black_inside _ _ p.1)
 
-sub-rest : tie.Need-overflow-sub-rest invariant-loop decreases-loop
-sub-rest c = let s = c.before.before in omega (arith, c.count.ensures, (formed s).count_max s.args.v)
+overflow_sub-rest : tie.Need-overflow_sub-rest invariant-loop-x decreases-loop-x
+overflow_sub-rest c = omega (arith, c.count.ensures, (formed c.before.before.before).count_max c.args.v)
 
-shr-rest : tie.Need-overflow-shr-rest invariant-loop decreases-loop
-shr-rest c = let s = c.before.before in omega (arith, c.count.ensures, (formed s).count_min s.args.v)
+overflow_shr-rest : tie.Need-overflow_shr-rest invariant-loop-x decreases-loop-x
+overflow_shr-rest c = omega (arith, c.count.ensures, (formed c.before.before.before).count_min c.args.v)
 
-single-requires : tie.Need-single-requires invariant-loop decreases-loop
-single-requires c κs = let s = c.before.before in omega (arith, s.requires.2, (formed s).count_max s.args.v)
+single-front-requires : tie.Need-single-front-requires invariant-loop-x decreases-loop-x
+single-front-requires c κs = omega (arith, c.requires.2, (formed c.before.before.before).count_max c.args.v)
 
-loop-holds : tie.Need-loop-init invariant-loop decreases-loop
-loop-holds c = let s = c.before.before.before in rw s.requires.3 (started _ (formed s) _ _ _ _ _ s.requires.2 c.before.count.ensures c.single.ensures)
+loop-x-init : tie.Need-loop-x-init invariant-loop-x decreases-loop-x
+loop-x-init c = rw c.requires.3 (started _ (formed c.before.before.before.before) _ _ _ _ _ c.requires.2 c.count.ensures c.single-front.ensures)
 
-single-requires-2 : tie.Need-single-requires-2 invariant-loop decreases-loop
-single-requires-2 c κs = omega arith
+single-one-requires : tie.Need-single-one-requires invariant-loop-x decreases-loop-x
+single-one-requires c κs = omega arith
 
 -- what is known where x is the next to be settled
-abbrev loop-of : tie.After-single2 invariant-loop decreases-loop → tie.At-loop invariant-loop decreases-loop
-loop-of o = o.before.before
+abbrev loop_of : tie.After-single-one invariant-loop-x decreases-loop-x → tie.At-loop-x invariant-loop-x decreases-loop-x
+loop_of c = c.before.before
 
-returns : tie.Need-returns invariant-loop decreases-loop
+returns-then-not-whole : tie.Need-returns-then-not-whole invariant-loop-x decreases-loop-x
+returns-then-not-whole c =
+    let i = c.loop-x.invariant in
+    let r = settling_stop _ (formed c.before.before.before.before.before.before.before.before.before) _ _ _ c.requires.2 _ _ _ _ i.0 i.1 (omega arith) _ c.single-one.ensures in
+    (r.0, rw c.if-x-c.true at r.1)
+
+arrive-front-requires : tie.Need-arrive-front-requires invariant-loop-x decreases-loop-x
+arrive-front-requires c κs =
+    let i = c.loop-x.invariant in
+    let r = near_in _ (formed c.before.before.before.before.before.before.before.before.before) _ _ _ c.requires.2 _ _ _ _ i.0 i.1 (omega arith) in
+    ((c.requires.0, c.requires.1, i.0.long), (omega arith, near_key _ (formed c.before.before.before.before.before.before.before.before.before) _ _ _ c.requires.2 _ _ _ _ i.0 i.1 (omega arith), taken_out _ _ _ c.single-one.ensures r))
+
+nearest-x-requires : tie.Need-nearest-x-requires invariant-loop-x decreases-loop-x
+nearest-x-requires c κs = search rules
+
+loop-x-smaller : tie.Need-loop-x-smaller invariant-loop-x decreases-loop-x
+loop-x-smaller c =
+    let i = c.loop-x.invariant in
+    taken_fewer _ _ _ c.single-one.ensures (near_in _ (formed c.before.before.before.before.before.before.before.before.before.before.before) _ _ _ c.requires.2 _ _ _ _ i.0 i.1 (omega arith)) (omega arith)
+
+loop-x-preserved : tie.Need-loop-x-preserved invariant-loop-x decreases-loop-x
+loop-x-preserved c =
+    let i = c.loop-x.invariant in
+    (settling_turn _ (formed c.before.before.before.before.before.before.before.before.before.before.before) _ _ _ c.requires.2 _ _ _ _ i.0 i.1 (omega arith) _ c.single-one.ensures _ _ c.arrive-front.ensures, c.nearest-x.ensures)
+
+returns : tie.Need-returns invariant-loop-x decreases-loop-x
 returns c =
-    let o = c.before.before in
-    let h = loop-of o in
-    let s = start_of h in
-    let i = h.loop.inv in
-    let r = settling_stop _ (formed s) _ _ _ s.pre.2 _ _ _ _ i.0 i.1 (omega arith) _ o.single2.ensures in
-    (r.0, rw c.before.if1.true at r.1)
+    (settling_end _ (formed c.before.before.before.before.before.before) _ _ _ c.requires.2 _ _ _ _ c.loop-x.invariant.0 c.loop-x.invariant.1 (omega arith), none_in _)
 
-arrive-requires : tie.Need-arrive-requires invariant-loop decreases-loop
-arrive-requires c κs =
-    let o = c.before.before in
-    let h = loop-of o in
-    let s = start_of h in
-    let i = h.loop.inv in
-    let r = near_in _ (formed s) _ _ _ s.pre.2 _ _ _ _ i.0 i.1 (omega arith) in
-    ((s.pre.0, s.pre.1, i.0.long), (omega arith, near_key _ (formed s) _ _ _ s.pre.2 _ _ _ _ i.0 i.1 (omega arith), taken_out _ _ _ o.single2.ensures r))
-
-nearest-requires : tie.Need-nearest-requires invariant-loop decreases-loop
-nearest-requires c κs = search rules
-
-loop-less : tie.Need-loop-smaller invariant-loop decreases-loop
-loop-less c =
-    let o = c.before.before.before.before.before in
-    let h = loop-of o in
-    let s = start_of h in
-    let i = h.loop.inv in
-    taken_fewer _ _ _ o.single2.ensures (near_in _ (formed s) _ _ _ s.pre.2 _ _ _ _ i.0 i.1 (omega arith)) (omega arith)
-
-loop-again : tie.Need-loop-preserved invariant-loop decreases-loop
-loop-again c =
-    let o = c.before.before.before.before.before in
-    let h = loop-of o in
-    let s = start_of h in
-    let i = h.loop.inv in
-    (settling_turn _ (formed s) _ _ _ s.pre.2 _ _ _ _ i.0 i.1 (omega arith) _ o.single2.ensures _ _ c.before.before.arrive.ensures, c.nearest.ensures)
-
-returns-2 : tie.Need-returns-2 invariant-loop decreases-loop
-returns-2 c =
-    let h = c.before in
-    let s = start_of h in
-    (settling_end _ (formed s) _ _ _ s.pre.2 _ _ _ _ h.loop.invariant.0 h.loop.invariant.1 (omega arith), none_in _)
-
-pub settle-spec : {M : Type 1} → statement M
-settle-spec =
-    tie.close
-    (tie.spec
-    invariant-loop
-    decreases-loop
-    mul-labels
-    element-write-labels
-    count-requires
-    sub-rest
-    shr-rest
-    single-requires
-    loop-holds
-    single-requires-2
-    returns
-    arrive-requires
-    nearest-requires
-    loop-less
-    loop-again
-    returns-2)
+pub settle_spec : {M : Type 1} → statement M
+settle_spec = tie.close (tie.spec invariant-loop-x decreases-loop-x offset_bounds-labels-d bounds-labels-d count-requires overflow_sub-rest overflow_shr-rest single-front-requires loop-x-init single-one-requires returns-then-not-whole arrive-front-requires nearest-x-requires loop-x-smaller loop-x-preserved returns)

@@ -19,38 +19,37 @@ use Rattle.search.proofs.usable_sources.Statement.{statement}
 use Rattle.search.proofs.usable_sources.Tie as tie
 
 -- The preconditions before k are held and of other variables: what is held and asked in all is so from k on.
-abbrev invariant-loop : tie.invariant-loop
-invariant-loop ever task i v rest to k₀ k =
+abbrev invariant-loop-k : tie.invariant-loop-k
+invariant-loop-k ever task i v rest to k₀ k =
     (to ≡ eff_at task i) × (pre_at task i ≤ k) × (k ≤ to)
     × (holds (sets_of ever) (act (task_in task) i).pre ≡ holds (sets_of ever) (facts_in task k (eff_at task i)))
     × (look (act (task_in task) i).pre v ≡ look (facts_in task k (eff_at task i)) v)
 
-abbrev decreases-loop : tie.decreases-loop
-decreases-loop ever task i v rest to k₀ k = to - k
+abbrev decreases-loop-k : tie.decreases-loop-k
+decreases-loop-k ever task i v rest to k₀ k = to - k
 
-abbrev start : tie.At-loop invariant-loop decreases-loop → tie.Start invariant-loop decreases-loop
+abbrev start : tie.At-loop-k invariant-loop-k decreases-loop-k → tie.Start invariant-loop-k decreases-loop-k
 start c = c.before.before.before.before
 
-abbrev wide-to-head : tie.After-wide invariant-loop decreases-loop → tie.At-loop invariant-loop decreases-loop
-wide-to-head c = c.before.before.before
+abbrev wide_to_head : tie.After-wide-f invariant-loop-k decreases-loop-k → tie.At-loop-k invariant-loop-k decreases-loop-k
+wide_to_head c = c.before.before.before
 
-listed : (c : tie.At-loop invariant-loop decreases-loop) → Listed (start c).args.task.now (start c).args.i
-listed c = loaded_listed _ (start c).requires.0 _ (start c).requires.1
+listed : (c : tie.At-loop-k invariant-loop-k decreases-loop-k) → Listed c.args.task.now c.args.i
+listed c = loaded_listed _ c.requires.0 _ c.requires.1
 
-eff-start-requires : tie.Need-eff-start-requires invariant-loop decreases-loop
-eff-start-requires c κs = search rules
+eff_start-to-requires : tie.Need-eff_start-to-requires invariant-loop-k decreases-loop-k
+eff_start-to-requires c κs = search rules
 
-pre-start-requires : tie.Need-pre-start-requires invariant-loop decreases-loop
-pre-start-requires c κs = search rules
+pre_start-k-requires : tie.Need-pre_start-k-requires invariant-loop-k decreases-loop-k
+pre_start-k-requires c κs = search rules
 
-loop-holds : tie.Need-loop-init invariant-loop decreases-loop
+loop-k-init : tie.Need-loop-k-init invariant-loop-k decreases-loop-k
 unfolding action_in
-loop-holds c =
-    let s = c.before.before.before in
-    let a = s.args in
-    let L = loaded_listed _ s.requires.0 _ s.requires.1 in
-    let to = c.before.eff-start.ensures in
-    let from = c.pre-start.ensures in
+loop-k-init c =
+    let a = c.args in
+    let L = loaded_listed _ c.requires.0 _ c.requires.1 in
+    let to = c.eff_start-to.ensures in
+    let from = c.pre_start-k.ensures in
     let pre = sym (ap (λ (x : Action). x.pre) L.states) in (
       to,
       omega (arith, from),
@@ -60,127 +59,91 @@ loop-holds c =
     )
 
 -- the places of the preconditions are within the list, and the fact at each is small
-end : (c : tie.At-loop invariant-loop decreases-loop) → eff_at (start c).args.task.now (start c).args.i ≤ length (start c).args.task.now
+end : (c : tie.At-loop-k invariant-loop-k decreases-loop-k) → eff_at c.args.task.now c.args.i ≤ length c.args.task.now
 end c = let L = listed c in omega (arith, L.eff_below, L.end_below)
 
-mul_wide : tie.Need-overflow-mul-wide invariant-loop decreases-loop
-mul_wide c = record { fits = omega (arith, end c.before, c.before.loop.invariant.0) }
+offset_bounds-task-k : tie.Need-offset_bounds-task-k invariant-loop-k decreases-loop-k
+offset_bounds-task-k c = record { fits = omega (arith, end c.before, c.loop-k.invariant.0) }
 
-shared-slice-read-wide : tie.Need-shared-slice-read-wide invariant-loop decreases-loop
-shared-slice-read-wide c = omega (arith, end c.before.before, c.before.before.loop.invariant.0)
+bounds-task-k : tie.Need-bounds-task-k invariant-loop-k decreases-loop-k
+bounds-task-k c = omega (arith, end c.before.before, c.loop-k.invariant.0)
 
-wide-requires : tie.Need-wide-requires invariant-loop decreases-loop
-wide-requires c κs = search rules
+wide-f-requires : tie.Need-wide-f-requires invariant-loop-k decreases-loop-k
+wide-f-requires c κs = search rules
 
 -- the fact at k
-small : (c : tie.After-wide invariant-loop decreases-loop) → c.wide.result < 4096
+small : (c : tie.After-wide-f invariant-loop-k decreases-loop-k) → c.wide-f.result < 4096
 small c =
-    let head = wide-to-head c in
-    let L = listed head in
-    let I = head.loop.inv in
-    omega (arith, c.wide.ensures, L.small head.loop.k I.1 (omega (arith, I.0, L.eff_below)))
+    let L = listed c.before.before.before in
+    let I = c.loop-k.invariant in
+    omega (arith, c.wide-f.ensures, L.small c.loop-k.k I.1 (omega (arith, I.0, L.eff_below)))
 
-add-if-held : tie.Need-overflow-add-if-held invariant-loop decreases-loop
-add-if-held c = search rules
+overflow_add-k : tie.Need-overflow_add-k invariant-loop-k decreases-loop-k
+overflow_add-k c = search rules
 
-mul-if-held : tie.Need-overflow-mul-if-held invariant-loop decreases-loop
-mul-if-held c = record { fits = omega (arith, small c.before) }
+offset_bounds-ever-v : tie.Need-offset_bounds-ever-v invariant-loop-k decreases-loop-k
+offset_bounds-ever-v c = record { fits = omega (arith, small c.before) }
 
-element-copy-out-if-held : tie.Need-element-copy-out-if-held invariant-loop decreases-loop
-element-copy-out-if-held c = omega (arith, small c.before)
+bounds-ever-v : tie.Need-bounds-ever-v invariant-loop-k decreases-loop-k
+bounds-ever-v c = omega (arith, small c.before.before)
 
-single-requires : tie.Need-single-requires invariant-loop decreases-loop
+single-requires : tie.Need-single-requires invariant-loop-k decreases-loop-k
 single-requires c κs = search rules
 
-if-held-requires : tie.Need-if-held-requires invariant-loop decreases-loop
-if-held-requires c κs =
-    let head = wide-to-head c.before.before.before in
-    let L = listed head in
-    let I = head.loop.inv in
+if_held-requires : tie.Need-if_held-requires invariant-loop-k decreases-loop-k
+if_held-requires c κs =
+    let L = listed c.before.before.before.before.before.before.before in
+    let I = c.loop-k.invariant in
     record {
       rises = omega (arith, I.0);
-      within = omega (arith, I.0, end head);
+      within = omega (arith, I.0, end c.before.before.before.before.before.before.before);
       small = λ x p q. L.small x (omega (arith, I.1)) (omega (arith, I.0, L.eff_below));
     }
 
-returns : tie.Need-returns invariant-loop decreases-loop
-returns c =
-    let at-single = c.before in
-    let at-then1 = at-single.before.before in
-    let at_wide = at-then1.before in
-    let head = wide-to-head at_wide in
-    let a = (start head).args in
-    let I = head.loop.inv in
-    let l : head.loop.k < eff_at a.task.now a.i = omega (arith, I.0) in
-    usable_one (task_in a.task.now) (sets_of a.ever.now) a.i a.v a.rest _ (at_wide.wide.result % 64) _ _ _
-    (rw I.4 (look_here _ _ _ l (end head) _ _ at_wide.wide.ensures at-then1.if1.true)) (omega arith) at-single.single.ensures
-    (I.3 ∙ holds_next _ a.ever.now _ _ _ _ l (end head) at_wide.wide.ensures at-then1.if1.true) (rw I.0 at c.if-held.ensures)
+returns-then-f-v : tie.Need-returns-then-f-v invariant-loop-k decreases-loop-k
+returns-then-f-v c =
+    let a = c.args in
+    let I = c.loop-k.invariant in
+    let l : c.loop-k.k < eff_at a.task.now a.i = omega (arith, I.0) in
+    usable_one (task_in a.task.now) (sets_of a.ever.now) a.i a.v a.rest _ (c.wide-f.result % 64) _ _ _
+    (rw I.4 (look_here _ _ _ l (end c.before.before.before.before.before.before.before.before) _ _ c.wide-f.ensures c.if-f-v.true)) (omega arith) c.single.ensures
+    (I.3 ∙ holds_next _ a.ever.now _ _ _ _ l (end c.before.before.before.before.before.before.before.before) c.wide-f.ensures c.if-f-v.true) (rw I.0 at c.if_held.ensures)
 
-holds-requires : tie.Need-holds-requires invariant-loop decreases-loop
+holds-requires : tie.Need-holds-requires invariant-loop-k decreases-loop-k
 holds-requires c κs = small c.before
 
-returns-2 : tie.Need-returns-2 invariant-loop decreases-loop
-returns-2 c =
-    let at-holds = c.before in
-    let at_wide = at-holds.before.before in
-    let head = wide-to-head at_wide in
-    let a = (start head).args in
-    let I = head.loop.inv in
+returns-then-not-holds : tie.Need-returns-then-not-holds invariant-loop-k decreases-loop-k
+returns-then-not-holds c =
+    let a = c.args in
+    let I = c.loop-k.invariant in
     usable_no (task_in a.task.now) (sets_of a.ever.now) a.i a.v a.rest
-    (I.3 ∙ holds_fails _ _ _ (omega (arith, I.0)) (end head) (sets_of a.ever.now) _ at_wide.wide.ensures (sym at-holds.holds.ensures ∙ not-true _ c.if2.true))
+    (I.3 ∙ holds_fails _ _ _ (omega (arith, I.0)) (end c.before.before.before.before.before.before) (sets_of a.ever.now) _ c.wide-f.ensures (sym c.holds.ensures ∙ c.if-not-holds.true))
 
-add-k : tie.Need-overflow-add-k invariant-loop decreases-loop
-add-k c = search rules
+overflow_add-k-in-loop-k : tie.Need-overflow_add-k-in-loop-k invariant-loop-k decreases-loop-k
+overflow_add-k-in-loop-k c = search rules
 
-loop-less : tie.Need-loop-smaller invariant-loop decreases-loop
-loop-less c = search rules
+loop-k-smaller : tie.Need-loop-k-smaller invariant-loop-k decreases-loop-k
+loop-k-smaller c = search rules
 
-loop-again : tie.Need-loop-preserved invariant-loop decreases-loop
-loop-again c =
-    let at-holds = c.before in
-    let at-else1 = at-holds.before in
-    let at_wide = at-else1.before in
-    let head = wide-to-head at_wide in
-    let a = (start head).args in
-    let I = head.loop.inv in
-    let l : head.loop.k < eff_at a.task.now a.i = omega (arith, I.0) in (
+loop-k-preserved : tie.Need-loop-k-preserved invariant-loop-k decreases-loop-k
+loop-k-preserved c =
+    let a = c.args in
+    let I = c.loop-k.invariant in
+    let l : c.loop-k.k < eff_at a.task.now a.i = omega (arith, I.0) in (
       I.0,
       omega (arith, I.1),
       omega arith,
-      I.3 ∙ holds_passes _ _ _ l (end head) (sets_of a.ever.now) _ at_wide.wide.ensures (sym at-holds.holds.ensures ∙ not-false _ c.if2.false),
-      I.4 ∙ look_later _ _ _ l (end head) _ _ at_wide.wide.ensures at-else1.if1.false,
+      I.3 ∙ holds_passes _ _ _ l (end c.before.before.before.before.before.before) (sets_of a.ever.now) _ c.wide-f.ensures (sym c.holds.ensures ∙ c.if-not-holds.false),
+      I.4 ∙ look_later _ _ _ l (end c.before.before.before.before.before.before) _ _ c.wide-f.ensures c.if-f-v.false,
     )
 
-returns-3 : tie.Need-returns-3 invariant-loop decreases-loop
-returns-3 c =
-    let head = c.before in
-    let a = (start head).args in
-    let I = head.loop.invariant in
+returns : tie.Need-returns invariant-loop-k decreases-loop-k
+returns c =
+    let a = c.args in
+    let I = c.loop-k.invariant in
     let e = eff_at a.task.now a.i in
     usable_any (task_in a.task.now) (sets_of a.ever.now) a.i a.v a.rest 64 (rw I.4 (look_end _ _ e a.v (omega (arith, I.0)))) (omega arith)
     (I.3 ∙ holds_end (sets_of a.ever.now) _ _ e (omega (arith, I.0)))
 
-pub usable-sources-spec : {M : Type 1} → statement M
-usable-sources-spec =
-    tie.close
-    (tie.spec
-    invariant-loop
-    decreases-loop
-    eff-start-requires
-    pre-start-requires
-    loop-holds
-    mul_wide
-    shared-slice-read-wide
-    wide-requires
-    add-if-held
-    mul-if-held
-    element-copy-out-if-held
-    single-requires
-    if-held-requires
-    returns
-    holds-requires
-    returns-2
-    add-k
-    loop-less
-    loop-again
-    returns-3)
+pub usable_sources_spec : {M : Type 1} → statement M
+usable_sources_spec = tie.close (tie.spec invariant-loop-k decreases-loop-k eff_start-to-requires pre_start-k-requires loop-k-init offset_bounds-task-k bounds-task-k wide-f-requires overflow_add-k offset_bounds-ever-v bounds-ever-v single-requires if_held-requires returns-then-f-v holds-requires returns-then-not-holds overflow_add-k-in-loop-k loop-k-smaller loop-k-preserved returns)

@@ -24,7 +24,7 @@ abbrev start : tie.At-loop-j invariant-loop-j decreases-loop-j → tie.Start inv
 start c = c.before.before.before.before
 
 abbrev order_at : tie.At-loop-j invariant-loop-j decreases-loop-j → ℕ
-order_at c = get_or (start c).args.order.now c.loop.j 0
+order_at c = get_or (start c).args.order.now c.loop-j.j 0
 
 -- a rank below the number of actions names one
 below : (c : tie.In-loop-j invariant-loop-j decreases-loop-j) → c.loop-j.j < actions (task_in c.args.task.now)
