@@ -15,143 +15,116 @@ use Rattle.applying.proofs.Knowing.{known_none, known_held}
 use Rattle.execution.proofs.Tracing.{tracing_few, tracing_stop, tracing_end, applied, Following, following_start, following_turn, following_held, follows_painted, follows_real, follows_relaxed}
 use Rattle.execution.proofs.follow.Statement.{statement}
 use Rattle.execution.proofs.follow.Tie as tie
+use Rattle.execution.proofs.follow.Lts.{else-runs-k-via-then-runs-k+else-not-applies_red_black, else-runs-k-via-else-runs-k}
 
-abbrev invariant-loop : tie.invariant-loop
-invariant-loop task list paint s₀ known₀ k₀ runs₀ s known k runs =
+abbrev invariant-loop-k : tie.invariant-loop-k
+invariant-loop-k task list paint s₀ known₀ k₀ runs₀ s known k runs =
     Following (task_in task) list (sets_of s.sets) (values_of s.newest.values) k runs × Known (task_in task) (sets_of s.sets) known
 
-abbrev decreases-loop : tie.decreases-loop
-decreases-loop task list paint s₀ known₀ k₀ runs₀ s known k runs = length list - k
+abbrev decreases-loop-k : tie.decreases-loop-k
+decreases-loop-k task list paint s₀ known₀ k₀ runs₀ s known k runs = length list - k
 
-abbrev start_of : tie.In-loop invariant-loop decreases-loop → tie.Start invariant-loop decreases-loop
+abbrev start_of : tie.In-loop-k invariant-loop-k decreases-loop-k → tie.Start invariant-loop-k decreases-loop-k
 start_of c = c.before.before.before.before.before.before
 
-module _ (c : tie.In-loop invariant-loop decreases-loop) where
+module _ (c : tie.In-loop-k invariant-loop-k decreases-loop-k) where
   abbrev entry : ℕ
-  entry = get_or (start_of c).args.list.now c.before.loop.k 0
+  entry = get_or c.args.list.now c.loop-k.k 0
 
-  below : entry < actions (task_in (start_of c).args.task.now)
-  below = (start_of c).requires.entries c.before.loop.k (omega arith)
+  below : entry < actions (task_in c.args.task.now)
+  below = c.requires.entries c.loop-k.k (omega arith)
 
 -- the turn in which the action was counted
-abbrev turn-of : tie.After-further invariant-loop decreases-loop → tie.In-loop invariant-loop decreases-loop
-turn-of c = c.before.before.before.before
+abbrev turn_of : tie.After-further-runs invariant-loop-k decreases-loop-k → tie.In-loop-k invariant-loop-k decreases-loop-k
+turn_of c = c.before.before.before
 
 -- the action applies to the state shown by a painting
-module _ (c : tie.In-loop invariant-loop decreases-loop) where
+module _ (c : tie.In-loop-k invariant-loop-k decreases-loop-k) where
   abbrev seen : Mode → Bool
-  seen m = holds (red_black_of m (sets_of c.before.loop.s.sets) (values_of c.before.loop.s.newest.values)) (act (task_in (start_of c).args.task.now) (entry c)).pre
+  seen m = holds (red_black_of m (sets_of c.loop-k.s.sets) (values_of c.loop-k.s.newest.values)) (act (task_in c.args.task.now) (entry c)).pre
 
-  paints : mode_of c.before.before.before.painted.result ≡ black (task_in (start_of c).args.task.now)
-  paints = c.before.before.before.painted.ensures
+  paints : mode_of c.painted-paint.result ≡ black (task_in c.args.task.now)
+  paints = c.painted-paint.ensures
 
-goes : (j : tie.Joined1 invariant-loop decreases-loop) → let t = turn-of j.before in seen t (black (task_in (start_of t).args.task.now)) ≡ true
+goes : (j : tie.Joined-else-runs-k invariant-loop-k decreases-loop-k) → seen j.before.before.before.before (black (task_in j.args.task.now)) ≡ true
 goes j =
-    let t = turn-of j.before in
-    ⊎_elim (λ w. ap (seen t) (sym (paints t)) ∙ sym w.4.ensures ∙ not-false _ w.5.left)
-    (λ w. applied _ _ (start_of t).pre.loaded.formed _ _ _ _ t.before.loop.inv.0.traced (omega arith) _ refl _ j.before.further.ensures (omega (arith, w.left))) j.if1.branch
+    elim j.else-runs-k.branch [
+      | else-runs-k-via-then-runs-k+else-not-applies_red_black w ↦
+          ap (seen j.before.before.before.before) (sym (paints j.before.before.before.before)) ∙ sym w.applies_red_black.ensures ∙ w.if-not-applies_red_black.false
+      | else-runs-k-via-else-runs-k w ↦
+          applied _ _ j.requires.loaded.formed _ _ _ _ j.loop-k.invariant.0.traced (omega arith) _ refl _ j.further-runs.ensures (omega (arith, w.if-runs-k.false))
+    ]
 
-painted-requires : tie.Need-painted-requires invariant-loop decreases-loop
-painted-requires c κs = search rules
+painted-paint-requires : tie.Need-painted-paint-requires invariant-loop-k decreases-loop-k
+painted-paint-requires c κs = search rules
 
-initial-requires : tie.Need-initial-requires invariant-loop decreases-loop
-initial-requires c κs = search rules
+initial-s-requires : tie.Need-initial-s-requires invariant-loop-k decreases-loop-k
+initial-s-requires c κs = search rules
 
-loop-holds : tie.Need-loop-init invariant-loop decreases-loop
-loop-holds c = (following_start _ _ _ _ c.initial.ensures.0 c.initial.ensures.1, known_none _ _ _ refl)
+loop-k-init : tie.Need-loop-k-init invariant-loop-k decreases-loop-k
+loop-k-init c = (following_start _ _ _ _ c.initial-s.ensures.0 c.initial-s.ensures.1, known_none _ _ _ refl)
 
-mul-i : tie.Need-overflow-mul-i invariant-loop decreases-loop
-mul-i c = search rules
+offset_bounds-list-k : tie.Need-offset_bounds-list-k invariant-loop-k decreases-loop-k
+offset_bounds-list-k c = search rules
 
-shared-slice-read-i : tie.Need-shared-slice-read-i invariant-loop decreases-loop
-shared-slice-read-i c = search rules
+bounds-list-k : tie.Need-bounds-list-k invariant-loop-k decreases-loop-k
+bounds-list-k c = search rules
 
-cast-i : tie.Need-overflow-cast-i invariant-loop decreases-loop
-cast-i c = omega (arith, c.shared-slice-known3.given c.before.before.loop.k)
+overflow_cast-i : tie.Need-overflow_cast-i invariant-loop-k decreases-loop-k
+overflow_cast-i c = omega (arith, c.shared_slice_known-in-loop-k-1.given c.loop-k.k)
 
-further-requires : tie.Need-further-requires invariant-loop decreases-loop
-further-requires c κs =
-    let t = c.before.before.before in
-    let R = (start_of t).requires in
-    (R.loaded, below t, omega (arith, R.short, tracing_few _ _ _ _ _ _ t.before.loop.invariant.0.traced))
+further-runs-requires : tie.Need-further-runs-requires invariant-loop-k decreases-loop-k
+further-runs-requires c κs =
+    let R = c.requires in
+    (R.loaded, below c.before.before, omega (arith, R.short, tracing_few _ _ _ _ _ _ c.loop-k.invariant.0.traced))
 
-applies-red-black-requires : tie.Need-applies-red-black-requires invariant-loop decreases-loop
-applies-red-black-requires c κs = let t = turn-of c.before.before.before.before in ((start_of t).pre.loaded, below t)
+applies_red_black-requires : tie.Need-applies_red_black-requires invariant-loop-k decreases-loop-k
+applies_red_black-requires c κs = (c.requires.loaded, below c.before.before.before.before.before.before)
 
-add-k : tie.Need-overflow-add-k invariant-loop decreases-loop
-add-k c = search rules
+overflow_add-k : tie.Need-overflow_add-k invariant-loop-k decreases-loop-k
+overflow_add-k c = search rules
 
-knows-effects-requires : tie.Need-knows-effects-requires invariant-loop decreases-loop
-knows-effects-requires c κs = let t = turn-of c.before.before.before.before in ((start_of t).pre.loaded, below t, t.before.loop.inv.1)
+knows_effects-requires : tie.Need-knows_effects-requires invariant-loop-k decreases-loop-k
+knows_effects-requires c κs = (c.requires.loaded, below c.before.before.before.before.before.before, c.loop-k.invariant.1)
 
-step-requires : tie.Need-step-requires invariant-loop decreases-loop
-step-requires c κs = let t = turn-of c.before.before.before.before.before.before.before in ((start_of t).pre.loaded, below t)
+step-newest-requires : tie.Need-step-newest-requires invariant-loop-k decreases-loop-k
+step-newest-requires c κs = (c.requires.loaded, below c.before.before.before.before.before.before.before.before.before)
 
-loop-less : tie.Need-loop-smaller invariant-loop decreases-loop
-loop-less c = search rules
+loop-k-smaller-then-knows_effects : tie.Need-loop-k-smaller-then-knows_effects invariant-loop-k decreases-loop-k
+loop-k-smaller-then-knows_effects c = search rules
 
-loop-again : tie.Need-loop-preserved invariant-loop decreases-loop
-loop-again c =
-    let k = c.before.before.before in
-    let j = k.before.before.before.before in
-    let t = turn-of j.before in
-    let held = sym k.knows-effects.ensures.0 ∙ c.before.before.if3.true in (
-      following_held _ _ (start_of t).pre.loaded.formed _ _ _ _ t.before.loop.inv.0 (omega arith) _ refl _ _ j.before.further.ensures (goes j) held c.step.ensures,
-      known_held _ _ _ _ held k.knows-effects.ensures.1.0,
+loop-k-preserved-then-knows_effects : tie.Need-loop-k-preserved-then-knows_effects invariant-loop-k decreases-loop-k
+loop-k-preserved-then-knows_effects c =
+    let held = sym c.knows_effects.ensures.0 ∙ c.if-knows_effects.true in (
+      following_held _ _ c.requires.loaded.formed _ _ _ _ c.loop-k.invariant.0 (omega arith) _ refl _ _ c.further-runs.ensures (goes c.before.before.before.before.before.before) held c.step-newest.ensures,
+      known_held _ _ _ _ held c.knows_effects.ensures.1.0,
     )
 
-step-requires-2 : tie.Need-step-requires-2 invariant-loop decreases-loop
-step-requires-2 c κs = let t = turn-of c.before.before.before.before.before.before in ((start_of t).pre.loaded, below t)
+step-s-requires : tie.Need-step-s-requires invariant-loop-k decreases-loop-k
+step-s-requires c κs = (c.requires.loaded, below c.before.before.before.before.before.before.before.before)
 
-loop-less-2 : tie.Need-loop-smaller-2 invariant-loop decreases-loop
-loop-less-2 c = search rules
+loop-k-smaller : tie.Need-loop-k-smaller invariant-loop-k decreases-loop-k
+loop-k-smaller c = search rules
 
-loop-again-2 : tie.Need-loop-preserved-2 invariant-loop decreases-loop
-loop-again-2 c =
-    let k = c.before.before in
-    let j = k.before.before.before.before in
-    let t = turn-of j.before in
-    let E = c.step2.ensures in (
-      following_turn _ _ (start_of t).pre.loaded.formed _ _ _ _ t.before.loop.inv.0 (omega arith) _ refl _ _ _ j.before.further.ensures (goes j) E.0 E.1,
-      rw c.step2.ensures.0 k.knows-effects.ensures.1.0,
+loop-k-preserved : tie.Need-loop-k-preserved invariant-loop-k decreases-loop-k
+loop-k-preserved c =
+    let E = c.step-s.ensures in (
+      following_turn _ _ c.requires.loaded.formed _ _ _ _ c.loop-k.invariant.0 (omega arith) _ refl _ _ _ c.further-runs.ensures (goes c.before.before.before.before.before) E.0 E.1,
+      rw c.step-s.ensures.0 c.knows_effects.ensures.1.0,
     )
 
-returns : tie.Need-returns invariant-loop decreases-loop
-returns c =
-    let I = c.before.loop.invariant.0 in
+returns-after-loop-k : tie.Need-returns-after-loop-k invariant-loop-k decreases-loop-k
+returns-after-loop-k c =
+    let I = c.loop-k.invariant.0 in
     let e = tracing_end _ _ _ _ _ _ I.traced (omega arith) in
     record { painted = follows_painted _ _ _ _ _ _ I e.0; run_real = follows_real _ _ _ _ _ _ I e.0 _ e.1; relaxed' = follows_relaxed _ _ _ _ _ _ I e.0 }
 
-returns-2 : tie.Need-returns-2 invariant-loop decreases-loop
-returns-2 c =
-    let f = c.before.before.before.before.before.before in
-    let t = turn-of f in
-    let I = t.before.loop.inv.0 in
-    let fails = ap (seen t) (sym (paints t)) ∙ sym c.before.applies-red-black.ensures ∙ not-true _ c.if2.true in
-    let e = tracing_stop _ _ (start_of t).pre.loaded.formed _ _ _ _ I.traced (omega arith) _ refl _ f.further.ensures (omega arith) fails in
+returns-then-not-applies_red_black : tie.Need-returns-then-not-applies_red_black invariant-loop-k decreases-loop-k
+returns-then-not-applies_red_black c =
+    let I = c.loop-k.invariant.0 in
+    let fails = ap (seen c.before.before.before.before.before.before.before.before) (sym (paints c.before.before.before.before.before.before.before.before)) ∙ sym c.applies_red_black.ensures ∙ c.if-not-applies_red_black.true in
+    let e = tracing_stop _ _ c.requires.loaded.formed _ _ _ _ I.traced (omega arith) _ refl _ c.further-runs.ensures (omega arith) fails in
     record { painted = follows_painted _ _ _ _ _ _ I e.0; run_real = follows_real _ _ _ _ _ _ I e.0 _ e.1; relaxed' = follows_relaxed _ _ _ _ _ _ I e.0 }
 
-pub follow-spec : {M : Type 1} → statement M
-follow-spec =
-    tie.close
-    (tie.spec
-    invariant-loop
-    decreases-loop
-    painted-requires
-    initial-requires
-    loop-holds
-    mul-i
-    shared-slice-read-i
-    cast-i
-    further-requires
-    applies-red-black-requires
-    add-k
-    knows-effects-requires
-    step-requires
-    loop-less
-    loop-again
-    step-requires-2
-    loop-less-2
-    loop-again-2
-    returns
-    returns-2)
+pub follow_spec : {M : Type 1} → statement M
+follow_spec = tie.close (tie.spec invariant-loop-k decreases-loop-k painted-paint-requires initial-s-requires loop-k-init offset_bounds-list-k bounds-list-k overflow_cast-i further-runs-requires applies_red_black-requires overflow_add-k knows_effects-requires step-newest-requires loop-k-smaller-then-knows_effects loop-k-preserved-then-knows_effects step-s-requires loop-k-smaller loop-k-preserved returns-after-loop-k returns-then-not-applies_red_black)

@@ -4,59 +4,44 @@ use borrow.Author.Rules.{rules}
 use Rattle.forward.proofs.forward.Statement.{statement}
 use Rattle.forward.proofs.forward.Tie as tie
 
-room-for-requires : tie.Need-room-for-requires
-room-for-requires c κs = search rules
+room_for-size-requires : tie.Need-room_for-size-requires
+room_for-size-requires c κs = search rules
 
-slice-aggregate-forward-in : tie.Need-slice-aggregate-forward-in
-slice-aggregate-forward-in c = search rules
+slice_bounds-forward_in-end : tie.Need-slice_bounds-forward_in-end
+slice_bounds-forward_in-end c = search rules
 
-forward-in-requires : tie.Need-forward-in-requires
-forward-in-requires c κs = room_tiny _ _ c.before.before.before.room_for.ensures (omega arith)
+forward_in-requires : tie.Need-forward_in-requires
+forward_in-requires c κs = room_tiny _ _ c.room_for-size.ensures (omega arith)
 
-same_length : tie.Need-same-length
-same_length c = search rules
+shape_of-plan-then-size-le-TINY : tie.Need-shape_of-plan-then-size-le-TINY
+shape_of-plan-then-size-le-TINY c = search rules
+
+returns-then-size-le-TINY : tie.Need-returns-then-size-le-TINY
+returns-then-size-le-TINY c = search rules
+
+slice_bounds-forward_in-end-then-size-le-SHORT : tie.Need-slice_bounds-forward_in-end-then-size-le-SHORT
+slice_bounds-forward_in-end-then-size-le-SHORT c = search rules
+
+forward_in-requires-then-size-le-SHORT : tie.Need-forward_in-requires-then-size-le-SHORT
+forward_in-requires-then-size-le-SHORT c κs = room_short _ _ c.room_for-size.ensures (omega arith)
+
+shape_of-plan-then-size-le-SHORT : tie.Need-shape_of-plan-then-size-le-SHORT
+shape_of-plan-then-size-le-SHORT c = search rules
+
+returns-then-size-le-SHORT : tie.Need-returns-then-size-le-SHORT
+returns-then-size-le-SHORT c = search rules
+
+slice_bounds-forward_in-end-2 : tie.Need-slice_bounds-forward_in-end-2
+slice_bounds-forward_in-end-2 c = search rules
+
+forward_in-requires-2 : tie.Need-forward_in-requires-2
+forward_in-requires-2 c κs = room_long _
+
+shape_of-plan : tie.Need-shape_of-plan
+shape_of-plan c = search rules
 
 returns : tie.Need-returns
 returns c = search rules
 
-slice-aggregate-forward-in-2 : tie.Need-slice-aggregate-forward-in-2
-slice-aggregate-forward-in-2 c = search rules
-
-forward-in-requires-2 : tie.Need-forward-in-requires-2
-forward-in-requires-2 c κs = room_short _ _ c.before.before.before.before.room_for.ensures (omega arith)
-
-same-length-2 : tie.Need-same-length-2
-same-length-2 c = search rules
-
-returns-2 : tie.Need-returns-2
-returns-2 c = search rules
-
-slice-aggregate-forward-in-3 : tie.Need-slice-aggregate-forward-in-3
-slice-aggregate-forward-in-3 c = search rules
-
-forward-in-requires-3 : tie.Need-forward-in-requires-3
-forward-in-requires-3 c κs = room_long _
-
-same-length-3 : tie.Need-same-length-3
-same-length-3 c = search rules
-
-returns-3 : tie.Need-returns-3
-returns-3 c = search rules
-
-pub forward-spec : {M : Type 1} → statement M
-forward-spec =
-    tie.close
-    (tie.spec
-    room-for-requires
-    slice-aggregate-forward-in
-    forward-in-requires
-    same_length
-    returns
-    slice-aggregate-forward-in-2
-    forward-in-requires-2
-    same-length-2
-    returns-2
-    slice-aggregate-forward-in-3
-    forward-in-requires-3
-    same-length-3
-    returns-3)
+pub forward_spec : {M : Type 1} → statement M
+forward_spec = tie.close (tie.spec room_for-size-requires slice_bounds-forward_in-end forward_in-requires shape_of-plan-then-size-le-TINY returns-then-size-le-TINY slice_bounds-forward_in-end-then-size-le-SHORT forward_in-requires-then-size-le-SHORT shape_of-plan-then-size-le-SHORT returns-then-size-le-SHORT slice_bounds-forward_in-end-2 forward_in-requires-2 shape_of-plan returns)

@@ -8,70 +8,54 @@ use Rattle.forward.proofs.forward_in.Statement.{statement}
 use Rattle.forward.proofs.forward_in.Tie as tie
 
 -- the points of the code, from the last to the first
-abbrev start_of : tie.After-read → tie.Start
+abbrev start_of : tie.After-read-c → tie.Start
 start_of c = c.before.before.before.before.before
 
-abbrev read_of : tie.After-enum-told → tie.After-read
-read_of c = c.before.before.before.before
+abbrev read_of : tie.In_default → tie.After-read-c
+read_of c = c.before.before.before
 
-read-requires : tie.Need-read-requires
-read-requires c κs = search rules
+read-c-requires : tie.Need-read-c-requires
+read-c-requires c κs = search rules
 
-enum-known-c : tie.Need-enum-known-c
-enum-known-c c = search rules
+enum_known-c : tie.Need-enum_known-c
+enum_known-c c = search rules
 
-enum_told : tie.Need-enum-told
-enum_told c = search rules
+enum_told-1 : tie.Need-enum_told-1
+enum_told-1 c = search rules
 
-forward-loaded-requires : tie.Need-forward-loaded-requires
-forward-loaded-requires c κs = let told = c.before.before in let r = (read_of told).read.ensures in (r.1 (passed_by_lem _ _ told.enum_told.given.1 r.0)).loaded
+forward_loaded-requires : tie.Need-forward_loaded-requires
+forward_loaded-requires c κs = let r = c.read-c.ensures in (r.1 (passed_by_lem _ _ c.in_default.is r.0)).loaded
 
-same_length : tie.Need-same-length
-same_length c = search rules
+shape_of-task-in_default : tie.Need-shape_of-task-in_default
+shape_of-task-in_default c = search rules
 
-same-length-2 : tie.Need-same-length-2
-same-length-2 c = search rules
+shape_of-plan-in_default : tie.Need-shape_of-plan-in_default
+shape_of-plan-in_default c = search rules
 
-returns : tie.Need-returns
-returns c =
-    let told = c.before.before.before.before.before in
-    let a = (start_of (read_of told)).args in
-    let r = (read_of told).read.ensures in
-    let e = passed_by_lem _ _ told.enum_told.given.1 r.0 in
-    let d = c.before.before.forward-loaded.ensures in
+returns-in_default : tie.Need-returns-in_default
+returns-in_default c =
+    let a = c.args in
+    let r = c.read-c.ensures in
+    let e = passed_by_lem _ _ c.in_default.is r.0 in
+    let d = c.forward_loaded.ensures in
     let z = forward_accepts a.bytes.now (length a.plan.now) e _ (r.1 e).same in
     (d.0 ∙ z.0, d.1 ∙ z.1)
 
 blank-requires : tie.Need-blank-requires
 blank-requires c κs = search rules
 
-same-length-3 : tie.Need-same-length-3
-same-length-3 c = search rules
+shape_of-task : tie.Need-shape_of-task
+shape_of-task c = search rules
 
-same-length-4 : tie.Need-same-length-4
-same-length-4 c = search rules
+shape_of-plan : tie.Need-shape_of-plan
+shape_of-plan c = search rules
 
-returns-2 : tie.Need-returns-2
-returns-2 c =
-    let at_c = c.before.before.before.before.before in
-    let at_read = at_c.before.before.before.before in
-    let a = (start_of at_read).args in
-    let r = at_read.read.ensures.0 in
-    let z = forward_refused a.bytes.now (length a.plan.now) _ _ (ap check_of (sym at_c.c.given.1) ∙ r) in
-    (z.0, c.before.before.blank.ensures ∙ z.1)
+returns : tie.Need-returns
+returns c =
+    let a = c.args in
+    let r = c.read-c.ensures.0 in
+    let z = forward_refused a.bytes.now (length a.plan.now) _ _ (ap check_of (sym c.in-Refused.is) ∙ r) in
+    (z.0, c.blank.ensures ∙ z.1)
 
-pub forward-in-spec : {M : Type 1} → statement M
-forward-in-spec =
-    tie.close
-    (tie.spec
-    read-requires
-    enum-known-c
-    enum_told
-    forward-loaded-requires
-    same_length
-    same-length-2
-    returns
-    blank-requires
-    same-length-3
-    same-length-4
-    returns-2)
+pub forward_in_spec : {M : Type 1} → statement M
+forward_in_spec = tie.close (tie.spec read-c-requires enum_known-c enum_told-1 forward_loaded-requires shape_of-task-in_default shape_of-plan-in_default returns-in_default blank-requires shape_of-task shape_of-plan returns)

@@ -11,117 +11,87 @@ use borrow.Author.Rules.{rules}
 use Rattle.forward.proofs.forward_loaded.Statement.{statement}
 use Rattle.forward.proofs.forward_loaded.Tie as tie
 
-abbrev run-to-start : tie.After-run-forward → tie.Start
-run-to-start c = c.before.before.before.before
+abbrev run_to_start : tie.After-run_forward-ran → tie.Start
+run_to_start c = c.before.before.before.before
 
-abbrev reached-to-run : tie.After-reached → tie.After-run-forward
-reached-to-run c = c.before.before
+abbrev reached_to_run : tie.After-reached-reached → tie.After-run_forward-ran
+reached_to_run c = c.before.before
 
-abbrev else1-to-reached : tie.Else1 → tie.After-reached
-else1-to-reached c = c.before.before
+abbrev else1_to_reached : tie.Else-not-ran → tie.After-reached-reached
+else1_to_reached c = c.before.before
 
-run-forward-requires : tie.Need-run-forward-requires
-run-forward-requires c κs = search rules
+run_forward-ran-requires : tie.Need-run_forward-ran-requires
+run_forward-ran-requires c κs = search rules
 
-reached-requires : tie.Need-reached-requires
-reached-requires c κs = search rules
+reached-reached-requires : tie.Need-reached-reached-requires
+reached-reached-requires c κs = search rules
 
-reached-is : (c : tie.After-reached) → c.reached.result ≡ facts_reached (task_in (run-to-start (reached-to-run c)).args.task.now)
-reached-is c =
-    let at-run = reached-to-run c in
-    c.reached.ensures ∙ reached_facts _ (run-to-start at-run).pre.formed _ at-run.run-forward.ensures.state
+reached_is : (c : tie.After-reached-reached) → c.reached-reached.result ≡ facts_reached (task_in c.args.task.now)
+reached_is c =
+    c.reached-reached.ensures ∙ reached_facts _ c.requires.formed _ c.run_forward-ran.ensures.state
 
-cast-reached : tie.Need-overflow-cast-reached
-cast-reached c = record { fits = omega (arith, reached-is c, facts_reached_le _ (run-to-start (reached-to-run c)).requires.formed) }
+overflow_cast-reached : tie.Need-overflow_cast-reached
+overflow_cast-reached c = record { fits = omega (arith, reached_is c, facts_reached_le _ c.requires.formed) }
 
 blank-requires : tie.Need-blank-requires
 blank-requires c κs = search rules
 
-same_length : tie.Need-same-length
-same_length c = search rules
+shape_of-plan-then-not-ran : tie.Need-shape_of-plan-then-not-ran
+shape_of-plan-then-not-ran c = search rules
+
+returns-then-not-ran : tie.Need-returns-then-not-ran
+returns-then-not-ran c =
+    let a = c.args in
+    let z = forward_unsolved (task_in a.task.now) (length a.plan.now) _ c.run_forward-ran.ensures.solved _ (reached_is c.before.before.before.before.before.before) c.if-not-ran.true in
+    (z.0, c.blank.ensures ∙ z.1)
+
+slice_bounds-run-end : tie.Need-slice_bounds-run-end
+slice_bounds-run-end c = search rules
+
+slice_bounds-lay-end : tie.Need-slice_bounds-lay-end
+slice_bounds-lay-end c =
+    let R = c.run_forward-ran.ensures in
+    sym (length-take-le _ _ (omega (arith, R.few, R.long)))
+
+lay-laid-requires : tie.Need-lay-laid-requires
+lay-laid-requires c κs = search rules
+
+enum_known-laid : tie.Need-enum_known-laid
+enum_known-laid c = search rules
+
+enum_told-1 : tie.Need-enum_told-1
+enum_told-1 c = search rules
+
+overflow_cast-result : tie.Need-overflow_cast-result
+overflow_cast-result c = search rules
+
+shape_of-plan-in_default : tie.Need-shape_of-plan-in_default
+shape_of-plan-in_default c = search rules
+
+returns-in_default : tie.Need-returns-in_default
+returns-in_default c =
+    let R = c.run_forward-ran.ensures in
+    let a = c.args in
+    let t = task_in a.task.now in
+    let m = length a.plan.now in
+    let z = c.lay-laid.ensures in (
+      forward_whole t m _ R.solved _ (reached_is c.before.before.before.before.before.before.before.before) c.if-not-ran.false _ R.list _ R.steps (ap check_of (sym c.in_default.is) ∙ z.0),
+      z.1 ∙ forward_list_lem t m _ R.solved _ (reached_is c.before.before.before.before.before.before.before.before) c.if-not-ran.false _ R.list,
+    )
+
+shape_of-plan : tie.Need-shape_of-plan
+shape_of-plan c = search rules
 
 returns : tie.Need-returns
 returns c =
-    let at-then1 = c.before.before.before.before in
-    let at-reached = at-then1.before.before in
-    let at-run = reached-to-run at-reached in
-    let a = (run-to-start at-run).args in
-    let z = forward_unsolved (task_in a.task.now) (length a.plan.now) _ at-run.run-forward.ensures.solved _ (reached-is at-reached) at-then1.if1.true in
-    (z.0, c.before.before.blank.ensures ∙ z.1)
-
-array-share-prefix-run : tie.Need-array-share-prefix-run
-array-share-prefix-run c = search rules
-
-slice-aggregate-lay : tie.Need-slice-aggregate-lay
-slice-aggregate-lay c =
-    let R = c.before.before.before.before.before.run-forward.ensures in
-    sym (length-take-le _ _ (omega (arith, R.few, R.long)))
-
-lay-requires : tie.Need-lay-requires
-lay-requires c κs = search rules
-
-enum-known-laid : tie.Need-enum-known-laid
-enum-known-laid c = search rules
-
-enum_told : tie.Need-enum-told
-enum_told c = search rules
-
-cast-t21 : tie.Need-overflow-cast-t21
-cast-t21 c = search rules
-
-same-length-2 : tie.Need-same-length-2
-same-length-2 c = search rules
-
-returns-2 : tie.Need-returns-2
-returns-2 c =
-    let at-lay = c.before.before.before.before in
-    let at-else1 = at-lay.before.before.before in
-    let at-reached = else1-to-reached at-else1 in
-    let at-run = reached-to-run at-reached in
-    let R = at-run.run-forward.ensures in
-    let a = (run-to-start at-run).args in
+    let R = c.run_forward-ran.ensures in
+    let a = c.args in
     let t = task_in a.task.now in
     let m = length a.plan.now in
-    let z = at-lay.lay.ensures in (
-      forward_whole t m _ R.solved _ (reached-is at-reached) at-else1.if1.false _ R.list _ R.steps (ap check_of (sym c.enum_told.given.1) ∙ z.0),
-      z.1 ∙ forward_list_lem t m _ R.solved _ (reached-is at-reached) at-else1.if1.false _ R.list,
+    let z = c.lay-laid.ensures in (
+      forward_short t m _ R.solved _ (reached_is c.before.before.before.before.before.before.before.before) c.if-not-ran.false _ R.list _ _ (ap check_of (sym c.in-Refused.is) ∙ z.0),
+      z.1 ∙ forward_list_lem t m _ R.solved _ (reached_is c.before.before.before.before.before.before.before.before) c.if-not-ran.false _ R.list,
     )
 
-same-length-3 : tie.Need-same-length-3
-same-length-3 c = search rules
-
-returns-3 : tie.Need-returns-3
-returns-3 c =
-    let at-lay = c.before.before.before.before.before in
-    let at-else1 = at-lay.before.before.before in
-    let at-reached = else1-to-reached at-else1 in
-    let at-run = reached-to-run at-reached in
-    let R = at-run.run-forward.ensures in
-    let a = (run-to-start at-run).args in
-    let t = task_in a.task.now in
-    let m = length a.plan.now in
-    let z = at-lay.lay.ensures in (
-      forward_short t m _ R.solved _ (reached-is at-reached) at-else1.if1.false _ R.list _ _ (ap check_of (sym c.before.laid.given.1) ∙ z.0),
-      z.1 ∙ forward_list_lem t m _ R.solved _ (reached-is at-reached) at-else1.if1.false _ R.list,
-    )
-
-pub forward-loaded-spec : {M : Type 1} → statement M
-forward-loaded-spec =
-    tie.close
-    (tie.spec
-    run-forward-requires
-    reached-requires
-    cast-reached
-    blank-requires
-    same_length
-    returns
-    array-share-prefix-run
-    slice-aggregate-lay
-    lay-requires
-    enum-known-laid
-    enum_told
-    cast-t21
-    same-length-2
-    returns-2
-    same-length-3
-    returns-3)
+pub forward_loaded_spec : {M : Type 1} → statement M
+forward_loaded_spec = tie.close (tie.spec run_forward-ran-requires reached-reached-requires overflow_cast-reached blank-requires shape_of-plan-then-not-ran returns-then-not-ran slice_bounds-run-end slice_bounds-lay-end lay-laid-requires enum_known-laid enum_told-1 overflow_cast-result shape_of-plan-in_default returns-in_default shape_of-plan returns)

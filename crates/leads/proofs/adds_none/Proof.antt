@@ -14,99 +14,73 @@ use Rattle.leads.proofs.Holding.{met_fails, met_passes, met_end}
 use Rattle.leads.proofs.adds_none.Statement.{statement}
 use Rattle.leads.proofs.adds_none.Tie as tie
 
-abbrev invariant-loop : tie.invariant-loop
-invariant-loop task ever i set end k₀ k = (eff_at task i ≤ k) × (k ≤ end) × (end ≡ end_at task i)
+abbrev invariant-loop-k : tie.invariant-loop-k
+invariant-loop-k task ever i set end k₀ k = (eff_at task i ≤ k) × (k ≤ end) × (end ≡ end_at task i)
     × (black_met (mode_of set) (sets_of ever) (act (task_in task) i).eff ≡ black_met (mode_of set) (sets_of ever) (facts_in task k end))
 
-abbrev decreases-loop : tie.decreases-loop
-decreases-loop task ever i set end k₀ k = end - k
+abbrev decreases-loop-k : tie.decreases-loop-k
+decreases-loop-k task ever i set end k₀ k = end - k
 
-abbrev start_of : tie.At-loop invariant-loop decreases-loop → tie.Start invariant-loop decreases-loop
-start_of h = h.before.before.before.before
+abbrev start_of : tie.At-loop-k invariant-loop-k decreases-loop-k → tie.Start invariant-loop-k decreases-loop-k
+start_of c = c.before.before.before.before
 
-eff-end-requires : tie.Need-eff-end-requires invariant-loop decreases-loop
-eff-end-requires c κs = search rules
+eff_end-end-requires : tie.Need-eff_end-end-requires invariant-loop-k decreases-loop-k
+eff_end-end-requires c κs = search rules
 
-eff-start-requires : tie.Need-eff-start-requires invariant-loop decreases-loop
-eff-start-requires c κs = search rules
+eff_start-k-requires : tie.Need-eff_start-k-requires invariant-loop-k decreases-loop-k
+eff_start-k-requires c κs = search rules
 
-loop-holds : tie.Need-loop-init invariant-loop decreases-loop
-loop-holds c =
-    let s = c.before.before.before in
-    let a = s.args in
-    let R = s.requires.0.rows _ s.requires.1 in
-    let to = c.before.eff-end.ensures in (
-      omega (arith, c.eff-start.ensures),
-      omega (arith, c.eff-start.ensures, to, R.eff_below),
+loop-k-init : tie.Need-loop-k-init invariant-loop-k decreases-loop-k
+loop-k-init c =
+    let a = c.args in
+    let R = c.requires.0.rows _ c.requires.1 in
+    let to = c.eff_end-end.ensures in (
+      omega (arith, c.eff_start-k.ensures),
+      omega (arith, c.eff_start-k.ensures, to, R.eff_below),
       to,
-      sym (rw (c.eff-start.ensures, to) (ap (λ (fs : List Fact). black_met (mode_of a.set) (sets_of a.ever.now) fs) (eff_facts _ s.requires.0 _ s.requires.1))),
+      sym (rw (c.eff_start-k.ensures, to) (ap (λ (fs : List Fact). black_met (mode_of a.set) (sets_of a.ever.now) fs) (eff_facts _ c.requires.0 _ c.requires.1))),
     )
 
-mul_wide : tie.Need-overflow-mul-wide invariant-loop decreases-loop
-mul_wide c =
-    let s = start_of c.before in
-    omega (arith, (s.pre.0.rows _ s.pre.1).end_below, c.before.loop.invariant.2, s.good)
+offset_bounds-task-k : tie.Need-offset_bounds-task-k invariant-loop-k decreases-loop-k
+offset_bounds-task-k c =
+    omega (arith, (c.requires.0.rows _ c.requires.1).end_below, c.loop-k.invariant.2, c.well_formed)
 
-shared-slice-read-wide : tie.Need-shared-slice-read-wide invariant-loop decreases-loop
-shared-slice-read-wide c =
-    let h = c.before.before in
-    let s = start_of h in
-    omega (arith, (s.pre.0.rows _ s.pre.1).end_below, h.loop.invariant.2)
+bounds-task-k : tie.Need-bounds-task-k invariant-loop-k decreases-loop-k
+bounds-task-k c =
+    omega (arith, (c.requires.0.rows _ c.requires.1).end_below, c.loop-k.invariant.2)
 
-wide-requires : tie.Need-wide-requires invariant-loop decreases-loop
+wide-requires : tie.Need-wide-requires invariant-loop-k decreases-loop-k
 wide-requires c κs = search rules
 
-unheld-requires : tie.Need-unheld-requires invariant-loop decreases-loop
+unheld-requires : tie.Need-unheld-requires invariant-loop-k decreases-loop-k
 unheld-requires c κs =
-    let h = c.before.before.before in
-    let s = start_of h in
-    let i = h.loop.invariant in
-    omega (arith, c.wide.ensures, eff_inside _ s.pre.0 _ s.pre.1 h.loop.k i.0 (omega (arith, i.2)), s.pre.0.formed.variables_max)
+    let i = c.loop-k.invariant in
+    omega (arith, c.wide.ensures, eff_inside _ c.requires.0 _ c.requires.1 c.loop-k.k i.0 (omega (arith, i.2)), c.requires.0.formed.variables_max)
 
-returns : tie.Need-returns invariant-loop decreases-loop
-returns c =
-    let h = c.before.before.before.before.before in
-    let s = start_of h in
-    let i = h.loop.invariant in
-    let to = (s.pre.0.rows _ s.pre.1).end_below in
-    sym (i.3 ∙ met_fails _ _ _ (omega arith) (omega (arith, i.2, to)) _ _ _ c.before.before.wide.ensures (sym c.before.unheld.ensures ∙ c.if1.true))
+returns-then-unheld : tie.Need-returns-then-unheld invariant-loop-k decreases-loop-k
+returns-then-unheld c =
+    let i = c.loop-k.invariant in
+    let to = (c.requires.0.rows _ c.requires.1).end_below in
+    sym (i.3 ∙ met_fails _ _ _ (omega arith) (omega (arith, i.2, to)) _ _ _ c.wide.ensures (sym c.unheld.ensures ∙ c.if-unheld.true))
 
-add-k : tie.Need-overflow-add-k invariant-loop decreases-loop
-add-k c = search rules
+overflow_add-k : tie.Need-overflow_add-k invariant-loop-k decreases-loop-k
+overflow_add-k c = search rules
 
-loop-less : tie.Need-loop-smaller invariant-loop decreases-loop
-loop-less c = search rules
+loop-k-smaller : tie.Need-loop-k-smaller invariant-loop-k decreases-loop-k
+loop-k-smaller c = search rules
 
-loop-again : tie.Need-loop-preserved invariant-loop decreases-loop
-loop-again c =
-    let h = c.before.before.before.before.before in
-    let s = start_of h in
-    let i = h.loop.invariant in
-    let to = (s.pre.0.rows _ s.pre.1).end_below in (
+loop-k-preserved : tie.Need-loop-k-preserved invariant-loop-k decreases-loop-k
+loop-k-preserved c =
+    let i = c.loop-k.invariant in
+    let to = (c.requires.0.rows _ c.requires.1).end_below in (
       omega (arith, i.0),
       omega arith,
       i.2,
-      i.3 ∙ met_passes _ _ _ (omega arith) (omega (arith, i.2, to)) _ _ _ c.before.before.wide.ensures (sym c.before.unheld.ensures ∙ c.if1.false),
+      i.3 ∙ met_passes _ _ _ (omega arith) (omega (arith, i.2, to)) _ _ _ c.wide.ensures (sym c.unheld.ensures ∙ c.if-unheld.false),
     )
 
-returns-2 : tie.Need-returns-2 invariant-loop decreases-loop
-returns-2 c = let i = c.before.loop.invariant in sym (i.3 ∙ met_end _ _ _ _ _ (omega (arith, i.1)))
+returns : tie.Need-returns invariant-loop-k decreases-loop-k
+returns c = let i = c.loop-k.invariant in sym (i.3 ∙ met_end _ _ _ _ _ (omega (arith, i.1)))
 
-pub adds-none-spec : {M : Type 1} → statement M
-adds-none-spec =
-    tie.close
-    (tie.spec
-    invariant-loop
-    decreases-loop
-    eff-end-requires
-    eff-start-requires
-    loop-holds
-    mul_wide
-    shared-slice-read-wide
-    wide-requires
-    unheld-requires
-    returns
-    add-k
-    loop-less
-    loop-again
-    returns-2)
+pub adds_none_spec : {M : Type 1} → statement M
+adds_none_spec = tie.close (tie.spec invariant-loop-k decreases-loop-k eff_end-end-requires eff_start-k-requires loop-k-init offset_bounds-task-k bounds-task-k wide-requires unheld-requires returns-then-unheld overflow_add-k loop-k-smaller loop-k-preserved returns)

@@ -8,47 +8,35 @@ use Rattle.leads.proofs.Forgetting.{Forgetting, forgetting_turn}
 use Rattle.leads.proofs.forget.Statement.{statement}
 use Rattle.leads.proofs.forget.Tie as tie
 
-abbrev invariant-loop : tie.invariant-loop
-invariant-loop memo₀ k₀ memo k = Forgetting (length memo₀) memo k × (k ≤ 64)
+abbrev invariant-loop-k : tie.invariant-loop-k
+invariant-loop-k memo₀ k₀ memo k = Forgetting (length memo₀) memo k × (k ≤ 64)
 
-abbrev decreases-loop : tie.decreases-loop
-decreases-loop memo₀ k₀ memo k = 64 - k
+abbrev decreases-loop-k : tie.decreases-loop-k
+decreases-loop-k memo₀ k₀ memo k = 64 - k
 
-loop-holds : tie.Need-loop-init invariant-loop decreases-loop
-loop-holds c = (record { long = refl; done = λ x b. absurd (omega arith) }, omega arith)
+loop-k-init : tie.Need-loop-k-init invariant-loop-k decreases-loop-k
+loop-k-init c = (record { long = refl; done = λ x b. absurd (omega arith) }, omega arith)
 
-mul-memo : tie.Need-overflow-mul-memo invariant-loop decreases-loop
-mul-memo c = search rules
+offset_bounds-memo-k : tie.Need-offset_bounds-memo-k invariant-loop-k decreases-loop-k
+offset_bounds-memo-k c = search rules
 
-slice-write-memo : tie.Need-slice-write-memo invariant-loop decreases-loop
-slice-write-memo c = omega (arith, c.before.loop.invariant.0.long, c.before.before.requires)
+bounds-memo-k : tie.Need-bounds-memo-k invariant-loop-k decreases-loop-k
+bounds-memo-k c = omega (arith, c.loop-k.invariant.0.long, c.requires)
 
-add-k : tie.Need-overflow-add-k invariant-loop decreases-loop
-add-k c = search rules
+overflow_add-k : tie.Need-overflow_add-k invariant-loop-k decreases-loop-k
+overflow_add-k c = search rules
 
-loop-less : tie.Need-loop-smaller invariant-loop decreases-loop
-loop-less c = search rules
+loop-k-smaller : tie.Need-loop-k-smaller invariant-loop-k decreases-loop-k
+loop-k-smaller c = search rules
 
-loop-again : tie.Need-loop-preserved invariant-loop decreases-loop
-loop-again c = (forgetting_turn _ _ _ c.before.loop.invariant.0 (omega (arith, c.before.before.requires)), omega arith)
+loop-k-preserved : tie.Need-loop-k-preserved invariant-loop-k decreases-loop-k
+loop-k-preserved c = (forgetting_turn _ _ _ c.loop-k.invariant.0 (omega (arith, c.requires)), omega arith)
 
-same_length : tie.Need-same-length invariant-loop decreases-loop
-same_length c = c.before.loop.invariant.0.long
+shape_of-memo : tie.Need-shape_of-memo invariant-loop-k decreases-loop-k
+shape_of-memo c = c.loop-k.invariant.0.long
 
-returns : tie.Need-returns invariant-loop decreases-loop
-returns c = λ d b. c.before.loop.invariant.0.done d (omega arith)
+returns : tie.Need-returns invariant-loop-k decreases-loop-k
+returns c = λ d b. c.loop-k.invariant.0.done d (omega arith)
 
-pub forget-spec : {M : Type 1} → statement M
-forget-spec =
-    tie.close
-    (tie.spec
-    invariant-loop
-    decreases-loop
-    loop-holds
-    mul-memo
-    slice-write-memo
-    add-k
-    loop-less
-    loop-again
-    same_length
-    returns)
+pub forget_spec : {M : Type 1} → statement M
+forget_spec = tie.close (tie.spec invariant-loop-k decreases-loop-k loop-k-init offset_bounds-memo-k bounds-memo-k overflow_add-k loop-k-smaller loop-k-preserved shape_of-memo returns)

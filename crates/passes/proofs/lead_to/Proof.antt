@@ -7,40 +7,35 @@ use Rattle.asking.proofs.Putting.{lead_there, not_there, lead_some}
 use Rattle.passes.proofs.lead_to.Statement.{statement}
 use Rattle.passes.proofs.lead_to.Tie as tie
 
-abbrev start_of : tie.After-is-there → tie.Start
+abbrev start_of : tie.After-is_there → tie.Start
 start_of c = c.before.before.before.before
 
-is-there-requires : tie.Need-is-there-requires
-is-there-requires c κs = search rules
+is_there-requires : tie.Need-is_there-requires
+is_there-requires c κs = search rules
 
-returns : tie.Need-returns
-returns c =
-    let k = c.before in
-    let s = start_of k in
-    let a = s.args in
+returns-then-is_there : tie.Need-returns-then-is_there
+returns-then-is_there c =
+    let a = c.args in
     let stays = path_none (task_in a.task.now) (sets_of a.ever.now) a.v a.c a.d in
-    (lead_there a.c a.d _ k.is-there.ensures (paths_of (task_in a.task.now) (sets_of a.ever.now) a.v) stays a.list.now a.at c.if1.true s.pre.1.2, s.pre.0.2)
+    (lead_there a.c a.d _ c.is_there.ensures (paths_of (task_in a.task.now) (sets_of a.ever.now) a.v) stays a.list.now a.at c.if-is_there.true c.requires.1.2, c.requires.0.2)
 
 path-requires : tie.Need-path-requires
 path-requires c κs =
-    let e = c.before.before in
-    let p = (start_of e.before).requires in
-    (p.0, (p.1.0, p.1.1 (not_there _ _ _ e.before.is-there.ensures e.if1.false), p.1.2))
+    let p = c.requires in
+    (p.0, (p.1.0, p.1.1 (not_there _ _ _ c.is_there.ensures c.if-is_there.false), p.1.2))
 
-same_length : tie.Need-same-length
-same_length c = search rules
+shape_of-memo : tie.Need-shape_of-memo
+shape_of-memo c = search rules
 
-same-length-2 : tie.Need-same-length-2
-same-length-2 c = search rules
+shape_of-list : tie.Need-shape_of-list
+shape_of-list c = search rules
 
-returns-2 : tie.Need-returns-2
-returns-2 c =
-    let found = c.before.before.before.before in
-    let e = found.before.before.before in
-    let a = (start_of e.before).args in
-    let E = found.path.ensures in
-    let asks = not_there _ _ _ e.before.is-there.ensures e.if1.false in
-    (lead_some (paths_of (task_in a.task.now) (sets_of a.ever.now) a.v) a.c a.d a.list.now _ a.at found.path.result asks E.0, E.1)
+returns : tie.Need-returns
+returns c =
+    let a = c.args in
+    let E = c.path.ensures in
+    let asks = not_there _ _ _ c.is_there.ensures c.if-is_there.false in
+    (lead_some (paths_of (task_in a.task.now) (sets_of a.ever.now) a.v) a.c a.d a.list.now _ a.at c.path.result asks E.0, E.1)
 
-pub lead-to-spec : {M : Type 1} → statement M
-lead-to-spec = tie.close (tie.spec is-there-requires returns path-requires same_length same-length-2 returns-2)
+pub lead_to_spec : {M : Type 1} → statement M
+lead_to_spec = tie.close (tie.spec is_there-requires returns-then-is_there path-requires shape_of-memo shape_of-list returns)

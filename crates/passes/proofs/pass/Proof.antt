@@ -22,237 +22,181 @@ use Rattle.passes.proofs.Passing.{Passing, passing_start, passing_entry, passing
 use Rattle.passes.proofs.pass.Statement.{statement}
 use Rattle.passes.proofs.pass.Tie as tie
 
-abbrev invariant-loop : tie.invariant-loop
-invariant-loop task ever memo₀ f want plan₀ at v c₀ e₀ k₀ j₀ memo plan c e k j =
+abbrev invariant-loop-j : tie.invariant-loop-j
+invariant-loop-j task ever memo₀ f want plan₀ at v c₀ e₀ k₀ j₀ memo plan c e k j =
     let t = task_in task in
     let w = facts_of want in
     Passing t (sets_of ever) v w (served t (sets_of ever) f (drop at plan₀) w) plan₀ plan memo c e j × Tally t v w (pass_searches (act t) v (drop at plan₀) w) plan k j
 
-abbrev decreases-loop : tie.decreases-loop
-decreases-loop task ever memo₀ f want plan₀ at v c₀ e₀ k₀ j₀ memo plan c e k j = length plan₀ - j
+abbrev decreases-loop-j : tie.decreases-loop-j
+decreases-loop-j task ever memo₀ f want plan₀ at v c₀ e₀ k₀ j₀ memo plan c e k j = length plan₀ - j
 
 -- the points of a turn, from the last to the first
-abbrev plan-of : tie.After-known-told invariant-loop decreases-loop → tie.After-plan invariant-loop decreases-loop
-plan-of c = c.before.before.before.before
+abbrev plan_of : tie.In-Upto invariant-loop-j decreases-loop-j → tie.After-plan-1 invariant-loop-j decreases-loop-j
+plan_of c = c.before.before
 
-abbrev lead-of : tie.After-plan invariant-loop decreases-loop → tie.After-lead-to invariant-loop decreases-loop
-lead-of c = c.before.before.before
+abbrev lead_of : tie.After-plan-1 invariant-loop-j decreases-loop-j → tie.After-lead_to-w invariant-loop-j decreases-loop-j
+lead_of c = c.before.before.before
 
-abbrev need-of : tie.After-lead-to invariant-loop decreases-loop → tie.After-need invariant-loop decreases-loop
-need-of c = c.before.before.before
+abbrev need_of : tie.After-lead_to-w invariant-loop-j decreases-loop-j → tie.After-need-d invariant-loop-j decreases-loop-j
+need_of c = c.before.before.before
 
-abbrev in-of : tie.After-need invariant-loop decreases-loop → tie.In-loop invariant-loop decreases-loop
-in-of c = c.before.before.before
+abbrev in_of : tie.After-need-d invariant-loop-j decreases-loop-j → tie.In-loop-j invariant-loop-j decreases-loop-j
+in_of c = c.before.before.before
 
-abbrev start_of : tie.At-loop invariant-loop decreases-loop → tie.Start invariant-loop decreases-loop
-start_of h = h.before.before.before.before.before
+abbrev start_of : tie.At-loop-j invariant-loop-j decreases-loop-j → tie.Start invariant-loop-j decreases-loop-j
+start_of c = c.before.before.before.before.before
 
 -- the points behind the loop
-abbrev last_of : tie.After-asked-for2 invariant-loop decreases-loop → tie.After-lead-to2 invariant-loop decreases-loop
+abbrev last_of : tie.After-asked_for invariant-loop-j decreases-loop-j → tie.After-lead_to-w-2 invariant-loop-j decreases-loop-j
 last_of c = c.before.before.before.before.before
 
-abbrev asked_of : tie.After-lead-to2 invariant-loop decreases-loop → tie.After-asked invariant-loop decreases-loop
+abbrev asked_of : tie.After-lead_to-w-2 invariant-loop-j decreases-loop-j → tie.After-asked-d invariant-loop-j decreases-loop-j
 asked_of c = c.before.before.before
 
-abbrev head_of : tie.After-lead-to2 invariant-loop decreases-loop → tie.At-loop invariant-loop decreases-loop
-head_of c = (asked_of c).before.before
+abbrev head_of : tie.After-lead_to-w-2 invariant-loop-j decreases-loop-j → tie.At-loop-j invariant-loop-j decreases-loop-j
+head_of c = c.before.before.before.before.before
 
-formed : (s : tie.Start invariant-loop decreases-loop) → Formed (task_in s.args.task.now)
+formed : (s : tie.Start invariant-loop-j decreases-loop-j) → Formed (task_in s.args.task.now)
 formed s = s.requires.0.0.loaded.formed
 
-before-length : (c : tie.In-loop invariant-loop decreases-loop) → c.before.loop.j ≤ length c.before.loop.plan
-before-length c = omega (arith, c.loop-test.true)
+before_length : (c : tie.In-loop-j invariant-loop-j decreases-loop-j) → c.loop-j.j ≤ length c.loop-j.plan
+before_length c = omega (arith, c.loop-j-test.true)
 
-abbrev left_by : tie.After-lead-to invariant-loop decreases-loop → List ℕ
-left_by c = c.lead-to.new.1.1.1.1.1.1.0
+abbrev left_by : tie.After-lead_to-w invariant-loop-j decreases-loop-j → List ℕ
+left_by c = c.lead_to-w.new.list
 
-led : (c : tie.After-plan invariant-loop decreases-loop) → let l = lead-of c in let n = need-of l in let h = (in-of n).before in let a = (start_of h).args in let i = h.loop in
+led : (c : tie.After-plan-1 invariant-loop-j decreases-loop-j) → let a = c.args in let i = c.loop-j in
     let t = task_in a.task.now in let K = sets_of a.ever.now in let w = facts_of a.want.now in
-    Led t K (a.f / 64) w (served t K a.f (drop a.at a.plan.now) w) a.plan.now i.plan i.memo i.c i.e i.j n.need.result (left_by l) l.lead-to.result
+    Led t K (a.f / 64) w (served t K a.f (drop a.at a.plan.now) w) a.plan.now i.plan i.memo i.c i.e i.j c.need-d.result (left_by c.before.before.before) c.lead_to-w.result
 led c =
-    let l = lead-of c in
-    let n = need-of l in
-    let b = in-of n in
     record {
-      start = b.before.loop.inv.0;
-      here = b.loop-test.taken;
-      asks = asked_as _ _ _ _ _ n.before.wide.ensures n.need.ensures;
-      long = c.plan.given.0;
-      put = l.lead-to.ensures.0;
+      start = c.loop-j.invariant.0;
+      here = c.loop-j-test.true;
+      asks = asked_as _ _ _ _ _ c.wide.ensures c.need-d.ensures;
+      long = c.plan-1.given.0;
+      put = c.lead_to-w.ensures.0;
     }
 
-abbrev turn-of : tie.After-known-told invariant-loop decreases-loop → tie.In-loop invariant-loop decreases-loop
-turn-of c = in-of (need-of (lead-of (plan-of c)))
+abbrev turn_of : tie.In-Upto invariant-loop-j decreases-loop-j → tie.In-loop-j invariant-loop-j decreases-loop-j
+turn_of c = c.before.before.before.before.before.before.before.before.before.before.before
 
 -- the entry's place is within the list
-stored : (c : tie.After-known-told invariant-loop decreases-loop) → let h = (turn-of c).before in c.before.w.given.0.0 < length (left_by (lead-of (plan-of c)) ++ drop h.loop.j h.loop.plan)
+stored : (c : tie.In-Upto invariant-loop-j decreases-loop-j) → c.in-Upto.x < length (left_by c.before.before.before.before.before ++ drop c.loop-j.j c.loop-j.plan)
 stored c =
-    let l = led (plan-of c) in
-    omega (arith, led_fits l _ c.before.w.given.1, led_length l, l.here, l.start.long)
+    let l = led c.before.before in
+    omega (arith, led_fits l _ c.in-Upto.is, led_length l, l.here, l.start.long)
 
-loop-holds : tie.Need-loop-init invariant-loop decreases-loop
-loop-holds c =
-    let p = c.before.before.before.before.requires in
+loop-j-init : tie.Need-loop-j-init invariant-loop-j decreases-loop-j
+loop-j-init c =
+    let p = c.requires in
     (passing_start _ _ _ _ _ _ _ _ p.1.0.0 p.1.1.0 p.1.1.1 p.0.2, tally_start)
 
-mul-i : tie.Need-overflow-mul-i invariant-loop decreases-loop
-mul-i c = search rules
+offset_bounds-plan-j : tie.Need-offset_bounds-plan-j invariant-loop-j decreases-loop-j
+offset_bounds-plan-j c = search rules
 
-slice-read-i : tie.Need-slice-read-i invariant-loop decreases-loop
-slice-read-i c = search rules
+bounds-plan-j : tie.Need-bounds-plan-j invariant-loop-j decreases-loop-j
+bounds-plan-j c = search rules
 
-wide-requires : tie.Need-wide-requires invariant-loop decreases-loop
+wide-requires : tie.Need-wide-requires invariant-loop-j decreases-loop-j
 wide-requires c κs = search rules
 
-need-requires : tie.Need-need-requires invariant-loop decreases-loop
-need-requires c κs =
-    let b = c.before.before in
-    ((start_of b.before).pre.0.0.loaded, omega (arith, passing_entry b.before.loop.invariant.0 b.loop-test.true, c.wide.ensures))
+need-d-requires : tie.Need-need-d-requires invariant-loop-j decreases-loop-j
+need-d-requires c κs =
+    (c.requires.0.0.loaded, omega (arith, passing_entry c.loop-j.invariant.0 c.loop-j-test.true, c.wide.ensures))
 
-slice-relend-prefix-lead-to : tie.Need-slice-relend-prefix-lead-to invariant-loop decreases-loop
-slice-relend-prefix-lead-to c = before-length (in-of c.before)
+slice_bounds-lead_to-end : tie.Need-slice_bounds-lead_to-end invariant-loop-j decreases-loop-j
+slice_bounds-lead_to-end c = before_length c.before.before.before.before
 
-slice-aggregate-lead-to : tie.Need-slice-aggregate-lead-to invariant-loop decreases-loop
-slice-aggregate-lead-to c = sym (length-take-le _ _ (before-length (in-of c.before.before)))
+slice_bounds-lead_to-end-in-loop-j : tie.Need-slice_bounds-lead_to-end-in-loop-j invariant-loop-j decreases-loop-j
+slice_bounds-lead_to-end-in-loop-j c = sym (length-take-le _ _ (before_length c.before.before.before.before.before))
 
-lead-to-requires : tie.Need-lead-to-requires invariant-loop decreases-loop
-lead-to-requires c κs =
-    let n = c.before.before in
-    let h = (in-of n).before in
-    let s = start_of h in
-    let i = h.loop.inv.0 in
-    let fits = asked_fits _ _ (pre_fitting _ (formed s) _) _ _ n.need.ensures in
-    ((s.pre.0.0, s.pre.0.1, i.rows), (i.inside, fits, omega (arith, i.within, length-take-le h.loop.j h.loop.plan (before-length (in-of n)))))
+lead_to-w-requires : tie.Need-lead_to-w-requires invariant-loop-j decreases-loop-j
+lead_to-w-requires c κs =
+    let i = c.loop-j.invariant.0 in
+    let fits = asked_fits _ _ (pre_fitting _ (formed c.before.before.before.before.before.before.before.before.before.before.before) _) _ _ c.need-d.ensures in
+    ((c.requires.0.0, c.requires.0.1, i.rows), (i.inside, fits, omega (arith, i.within, length-take-le c.loop-j.j c.loop-j.plan (before_length c.before.before.before.before.before))))
 
-enum-known-w : tie.Need-enum-known-w invariant-loop decreases-loop
-enum-known-w c = search rules
+enum_known-w : tie.Need-enum_known-w invariant-loop-j decreases-loop-j
+enum_known-w c = search rules
 
-enum_told : tie.Need-enum-told invariant-loop decreases-loop
-enum_told c = search rules
+enum_told-1 : tie.Need-enum_told-1 invariant-loop-j decreases-loop-j
+enum_told-1 c = search rules
 
-same_length : tie.Need-same-length invariant-loop decreases-loop
-same_length c =
-    let l = lead-of c.before.before.before in
-    l.lead-to.ensures.1.long ∙ sym (start_of (in-of (need-of l)).before).pre.0.2.long
+shape_of-memo-in_default : tie.Need-shape_of-memo-in_default invariant-loop-j decreases-loop-j
+shape_of-memo-in_default c =
+    c.lead_to-w.ensures.1.long ∙ sym c.requires.0.2.long
 
-same-length-2 : tie.Need-same-length-2 invariant-loop decreases-loop
-same-length-2 c = led_length (led c.before.before.before)
+shape_of-plan-in_default : tie.Need-shape_of-plan-in_default invariant-loop-j decreases-loop-j
+shape_of-plan-in_default c = led_length (led c.before.before)
 
-returns : tie.Need-returns invariant-loop decreases-loop
-returns c =
-    let l = c.before.before.before in
-    (led_long (led l) c.enum_told.given.1, ((lead-of l).lead-to.ensures.1, tt))
+returns-in_default : tie.Need-returns-in_default invariant-loop-j decreases-loop-j
+returns-in_default c =
+    (led_long (led c.before.before) c.in_default.is, (c.lead_to-w.ensures.1, tt))
 
-mul-plan : tie.Need-overflow-mul-plan invariant-loop decreases-loop
-mul-plan c = omega (arith, stored c, (start_of (turn-of c).before).good)
+offset_bounds-plan-x : tie.Need-offset_bounds-plan-x invariant-loop-j decreases-loop-j
+offset_bounds-plan-x c = omega (arith, stored c, c.well_formed)
 
-slice-write-plan : tie.Need-slice-write-plan invariant-loop decreases-loop
-slice-write-plan c = omega (arith, stored c)
+bounds-plan-x : tie.Need-bounds-plan-x invariant-loop-j decreases-loop-j
+bounds-plan-x c = omega (arith, stored c)
 
-add-e : tie.Need-overflow-add-e invariant-loop decreases-loop
-add-e c = omega (arith, stored c, (start_of (turn-of c).before).good)
+overflow_add-e : tie.Need-overflow_add-e invariant-loop-j decreases-loop-j
+overflow_add-e c = omega (arith, stored c, c.well_formed)
 
-next-value-requires : tie.Need-next-value-requires invariant-loop decreases-loop
-next-value-requires c κs = search rules
+next_value-c-requires : tie.Need-next_value-c-requires invariant-loop-j decreases-loop-j
+next_value-c-requires c κs = search rules
 
-asked-for-requires : tie.Need-asked-for-requires invariant-loop decreases-loop
-asked-for-requires c κs = search rules
+asked_for-searches-requires : tie.Need-asked_for-searches-requires invariant-loop-j decreases-loop-j
+asked_for-searches-requires c κs = search rules
 
-add-searches : tie.Need-overflow-add-searches invariant-loop decreases-loop
-add-searches c =
-    let b = turn-of c.before.before in
-    let h = b.before in
-    let one = asked_for_one (asked_by (need-of (lead-of (plan-of c.before.before))).need.result) in
-    omega (arith, h.loop.inv.1.few, c.asked-for.ensures, one, b.loop-test.taken, h.loop.inv.0.long, (start_of h).good)
+overflow_add-searches : tie.Need-overflow_add-searches invariant-loop-j decreases-loop-j
+overflow_add-searches c =
+    let one = asked_for_one (asked_by c.need-d.result) in
+    omega (arith, c.loop-j.invariant.1.few, c.asked_for-searches.ensures, one, c.loop-j-test.true, c.loop-j.invariant.0.long, c.well_formed)
 
-add-j : tie.Need-overflow-add-j invariant-loop decreases-loop
-add-j c = let b = turn-of c.before.before in omega (arith, b.loop-test.taken, b.before.loop.inv.0.long, (start_of b.before).good)
+overflow_add-j : tie.Need-overflow_add-j invariant-loop-j decreases-loop-j
+overflow_add-j c = omega (arith, c.loop-j-test.true, c.loop-j.invariant.0.long, c.well_formed)
 
-loop-less : tie.Need-loop-smaller invariant-loop decreases-loop
-loop-less c = let b = turn-of c.before.before in omega (arith, b.loop-test.taken, b.before.loop.inv.0.long)
+loop-j-smaller : tie.Need-loop-j-smaller invariant-loop-j decreases-loop-j
+loop-j-smaller c = omega (arith, c.loop-j-test.true, c.loop-j.invariant.0.long)
 
-loop-again : tie.Need-loop-preserved invariant-loop decreases-loop
-loop-again c =
-    let k = c.before.before in
-    let l = plan-of k in
-    let h = (in-of (need-of (lead-of l))).before in (
-      led_turn (led l) _ k.before.w.given.1 (formed (start_of h)) _ _ (lead-of l).lead-to.ensures.1 c.before.next-value.ensures,
-      led_tally (led l) _ k.before.w.given.1 _ _ h.loop.inv.1 _ c.asked-for.ensures,
+loop-j-preserved : tie.Need-loop-j-preserved invariant-loop-j decreases-loop-j
+loop-j-preserved c =
+    (
+      led_turn (led c.before.before.before.before) _ c.in-Upto.is (formed c.before.before.before.before.before.before.before.before.before.before.before.before.before.before.before.before.before.before.before) _ _ c.lead_to-w.ensures.1 c.next_value-c.ensures,
+      led_tally (led c.before.before.before.before) _ c.in-Upto.is _ _ c.loop-j.invariant.1 _ c.asked_for-searches.ensures,
     )
 
-asked-requires : tie.Need-asked-requires invariant-loop decreases-loop
-asked-requires c κs = search rules
+asked-d-requires : tie.Need-asked-d-requires invariant-loop-j decreases-loop-j
+asked-d-requires c κs = search rules
 
-lead-to-requires-2 : tie.Need-lead-to-requires-2 invariant-loop decreases-loop
-lead-to-requires-2 c κs =
-    let n = c.before.before in
-    let h = n.before.before in
-    let s = start_of h in
-    let i = h.loop.invariant.0 in
-    ((s.pre.0.0, s.pre.0.1, i.rows), (i.inside, asked_fits _ _ s.pre.1.0.1 _ _ n.asked.ensures, omega (arith, i.within, i.at, i.long)))
+lead_to-w-requires-2 : tie.Need-lead_to-w-requires-2 invariant-loop-j decreases-loop-j
+lead_to-w-requires-2 c κs =
+    let i = c.loop-j.invariant.0 in
+    ((c.requires.0.0, c.requires.0.1, i.rows), (i.inside, asked_fits _ _ c.requires.1.0.1 _ _ c.asked-d.ensures, omega (arith, i.within, i.at, i.long)))
 
-asked-for-requires-2 : tie.Need-asked-for-requires-2 invariant-loop decreases-loop
-asked-for-requires-2 c κs = search rules
+asked_for-requires : tie.Need-asked_for-requires invariant-loop-j decreases-loop-j
+asked_for-requires c κs = search rules
 
-add-with-searches : tie.Need-overflow-add-with-searches invariant-loop decreases-loop
-add-with-searches c =
-    let h = head_of (last_of c) in
-    omega (arith, h.loop.inv.1.few, h.loop.inv.0.at, c.asked-for2.ensures, asked_for_one (asked_by (asked_of (last_of c)).asked.result), (start_of h).good)
+overflow_add-searches-2 : tie.Need-overflow_add-searches-2 invariant-loop-j decreases-loop-j
+overflow_add-searches-2 c =
+    omega (arith, c.loop-j.invariant.1.few, c.loop-j.invariant.0.at, c.asked_for.ensures, asked_for_one (asked_by c.asked-d.result), c.well_formed)
 
-with-searches-requires : tie.Need-with-searches-requires invariant-loop decreases-loop
-with-searches-requires c κs = search rules
+with_searches-requires : tie.Need-with_searches-requires invariant-loop-j decreases-loop-j
+with_searches-requires c κs = search rules
 
-same-length-3 : tie.Need-same-length-3 invariant-loop decreases-loop
-same-length-3 c =
-    let l = last_of c.before in
-    l.lead-to2.ensures.1.long ∙ sym (start_of (head_of l)).pre.0.2.long
+shape_of-memo : tie.Need-shape_of-memo invariant-loop-j decreases-loop-j
+shape_of-memo c =
+    c.lead_to-w-2.ensures.1.long ∙ sym c.requires.0.2.long
 
-same-length-4 : tie.Need-same-length-4 invariant-loop decreases-loop
-same-length-4 c = c.before.before.before.plan2.given ∙ (head_of (last_of c.before)).loop.inv.0.long
+shape_of-plan : tie.Need-shape_of-plan invariant-loop-j decreases-loop-j
+shape_of-plan c = c.plan-2-1.given ∙ c.loop-j.invariant.0.long
 
-returns-2 : tie.Need-returns-2 invariant-loop decreases-loop
-returns-2 c =
-    let k = c.before in
-    let l = last_of k in
-    let n = asked_of l in
-    let h = head_of l in
-    let put = passing_end h.loop.inv.0 n.before.loop-test.left _ n.asked.ensures _ l.lead-to2.result l.lead-to2.ensures.0 in
-    let sum = tally_end h.loop.inv.0 n.before.loop-test.left _ n.asked.ensures _ _ h.loop.inv.1 _ k.asked-for2.ensures in
-    (inserted_put _ _ _ _ l.lead-to2.result _ _ c.with-searches.ensures put, (l.lead-to2.ensures.1, inserted_counts _ l.lead-to2.result _ _ c.with-searches.ensures sum))
+returns : tie.Need-returns invariant-loop-j decreases-loop-j
+returns c =
+    let put = passing_end c.loop-j.invariant.0 c.loop-j-test.false _ c.asked-d.ensures _ c.lead_to-w-2.result c.lead_to-w-2.ensures.0 in
+    let sum = tally_end c.loop-j.invariant.0 c.loop-j-test.false _ c.asked-d.ensures _ _ c.loop-j.invariant.1 _ c.asked_for.ensures in
+    (inserted_put _ _ _ _ c.lead_to-w-2.result _ _ c.with_searches.ensures put, (c.lead_to-w-2.ensures.1, inserted_counts _ c.lead_to-w-2.result _ _ c.with_searches.ensures sum))
 
 pub pass_spec : {M : Type 1} → statement M
-pass_spec =
-    tie.close
-    (tie.spec
-    invariant-loop
-    decreases-loop
-    loop-holds
-    mul-i
-    slice-read-i
-    wide-requires
-    need-requires
-    slice-relend-prefix-lead-to
-    slice-aggregate-lead-to
-    lead-to-requires
-    enum-known-w
-    enum_told
-    same_length
-    same-length-2
-    returns
-    mul-plan
-    slice-write-plan
-    add-e
-    next-value-requires
-    asked-for-requires
-    add-searches
-    add-j
-    loop-less
-    loop-again
-    asked-requires
-    lead-to-requires-2
-    asked-for-requires-2
-    add-with-searches
-    with-searches-requires
-    same-length-3
-    same-length-4
-    returns-2)
+pass_spec = tie.close (tie.spec invariant-loop-j decreases-loop-j loop-j-init offset_bounds-plan-j bounds-plan-j wide-requires need-d-requires slice_bounds-lead_to-end slice_bounds-lead_to-end-in-loop-j lead_to-w-requires enum_known-w enum_told-1 shape_of-memo-in_default shape_of-plan-in_default returns-in_default offset_bounds-plan-x bounds-plan-x overflow_add-e next_value-c-requires asked_for-searches-requires overflow_add-searches overflow_add-j loop-j-smaller loop-j-preserved asked-d-requires lead_to-w-requires-2 asked_for-requires overflow_add-searches-2 with_searches-requires shape_of-memo shape_of-plan returns)

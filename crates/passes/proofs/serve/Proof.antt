@@ -22,150 +22,118 @@ use Rattle.passes.proofs.serve.Statement.{statement}
 use Rattle.passes.proofs.serve.Tie as tie
 
 abbrev start_of : tie.After-idle → tie.Start
-start_of c = c.before.before.before.before.before.before
+start_of c = c.before.before.before.before.before
 
-abbrev idle-of : tie.After-plan2 → tie.After-idle
-idle-of c = c.before.before.before.before
+abbrev idle_of : tie.After-plan-2-1 → tie.After-idle
+idle_of c = c.before.before.before.before
 
 idle-requires : tie.Need-idle-requires
 idle-requires c κs = search rules
 
-asked-requires : tie.Need-asked-requires
-asked-requires c κs = search rules
+asked-d-requires : tie.Need-asked-d-requires
+asked-d-requires c κs = search rules
 
 -- the path behind the list, where no entry needs the variable
-abbrev asked_of : tie.After-is-there → tie.After-asked
+abbrev asked_of : tie.After-is_there → tie.After-asked-d
 asked_of c = c.before
 
-abbrev begin-of : tie.After-is-there → tie.Start
-begin-of c = start_of (asked_of c).before.before
+abbrev begin_of : tie.After-is_there → tie.Start
+begin_of c = c.before.before.before.before.before.before.before.before
 
-is-there-requires : tie.Need-is-there-requires
-is-there-requires c κs = search rules
+is_there-requires : tie.Need-is_there-requires
+is_there-requires c κs = search rules
 
-idle-there : (k : tie.After-is-there) → let a = (begin-of k).args in unasked (task_in a.task.now) (a.f / 64) (take a.e a.plan.now) ≡ true
-idle-there k = let t = (asked_of k).before in sym t.before.idle.ensures ∙ t.if1.taken
+idle_there : (k : tie.After-is_there) → let a = k.args in unasked (task_in a.task.now) (a.f / 64) (take a.e a.plan.now) ≡ true
+idle_there k = sym k.idle.ensures ∙ k.if-idle.true
 
-put-behind : (k : tie.After-is-there) (plan : List ℕ) (w : Written) → let a = (begin-of k).args in
-    Put a.plan.now plan a.e (toward (paths_of (task_in a.task.now) (sets_of a.ever.now) (a.f / 64)) (a.f % 64) (asked_by (asked_of k).asked.result)) w
+put_behind : (k : tie.After-is_there) (plan : List ℕ) (w : Written) → let a = k.args in
+    Put a.plan.now plan a.e (toward (paths_of (task_in a.task.now) (sets_of a.ever.now) (a.f / 64)) (a.f % 64) (asked_by k.asked-d.result)) w
     → Put a.plan.now plan 0 (served_in a.task.now a.ever.now a.f (take a.e a.plan.now) a.want.now) w
-put-behind k plan w p =
-    let s = begin-of k in
-    let a = s.args in
-    served_behind (task_in a.task.now) (sets_of a.ever.now) (a.f / 64) (a.f % 64) a.plan.now a.e (facts_of a.want.now) s.pre.1.1.0 (idle-there k) _
-    (asked_of k).asked.ensures _ w p
+put_behind k plan w p =
+    let a = k.args in
+    served_behind (task_in a.task.now) (sets_of a.ever.now) (a.f / 64) (a.f % 64) a.plan.now a.e (facts_of a.want.now) k.requires.1.1.0 (idle_there k) _
+    k.asked-d.ensures _ w p
 
-counts_behind : (k : tie.After-is-there) → let a = (begin-of k).args in asked_for (asked_by (asked_of k).asked.result)
+counts_behind : (k : tie.After-is_there) → let a = k.args in asked_for (asked_by k.asked-d.result)
     ≡ pass_searches (act (task_in a.task.now)) (a.f / 64) (take a.e a.plan.now) (facts_of a.want.now)
 counts_behind k =
-    let a = (begin-of k).args in
-    served_counts (task_in a.task.now) (a.f / 64) _ (facts_of a.want.now) (idle-there k) _ (asked_of k).asked.ensures
+    let a = k.args in
+    served_counts (task_in a.task.now) (a.f / 64) _ (facts_of a.want.now) (idle_there k) _ k.asked-d.ensures
 
-same_length : tie.Need-same-length
-same_length c = search rules
+shape_of-plan-then-is_there : tie.Need-shape_of-plan-then-is_there
+shape_of-plan-then-is_there c = search rules
 
-returns : tie.Need-returns
-returns c =
-    let t = c.before.before in
-    let k = t.before in
-    let s = begin-of k in
-    let a = s.args in
+returns-then-is_there : tie.Need-returns-then-is_there
+returns-then-is_there c =
+    let a = c.args in
     let there =
-    lead_there (a.f % 64) (asked_of k).asked.result _ k.is-there.ensures (paths_of (task_in a.task.now) (sets_of a.ever.now) (a.f / 64))
-    (path_none (task_in a.task.now) (sets_of a.ever.now) (a.f / 64) (a.f % 64) (asked_of k).asked.result) a.plan.now a.e t.if2.true
-    s.pre.1.1.0 in (
-      inserted_put _ _ _ _ (Upto a.e) _ _ c.with-searches.ensures (put-behind k a.plan.now (Upto a.e) there),
-      (s.pre.0.2, inserted_counts _ (Upto a.e) _ _ c.with-searches.ensures (c.before.asked-for.ensures ∙ counts_behind k)),
+    lead_there (a.f % 64) c.asked-d.result _ c.is_there.ensures (paths_of (task_in a.task.now) (sets_of a.ever.now) (a.f / 64))
+    (path_none (task_in a.task.now) (sets_of a.ever.now) (a.f / 64) (a.f % 64) c.asked-d.result) a.plan.now a.e c.if-is_there.true
+    c.requires.1.1.0 in (
+      inserted_put _ _ _ _ (Upto a.e) _ _ c.with_searches.ensures (put_behind c.before.before.before a.plan.now (Upto a.e) there),
+      (c.requires.0.2, inserted_counts _ (Upto a.e) _ _ c.with_searches.ensures (c.asked_for.ensures ∙ counts_behind c.before.before.before)),
     )
 
-asked-for-requires : tie.Need-asked-for-requires
-asked-for-requires c κs = search rules
+asked_for-requires : tie.Need-asked_for-requires
+asked_for-requires c κs = search rules
 
-with-searches-requires : tie.Need-with-searches-requires
-with-searches-requires c κs = search rules
+with_searches-requires : tie.Need-with_searches-requires
+with_searches-requires c κs = search rules
 
-path-requires : tie.Need-path-requires
-path-requires c κs =
-    let e = c.before.before in
-    let k = e.before in
-    let p = (begin-of k).requires in
-    (p.0, (p.1.0.0, asked_fits _ _ p.1.0.1 _ _ (asked_of k).asked.ensures (not_there _ _ _ k.is-there.ensures e.if2.false), p.1.1.0))
+path-w-requires : tie.Need-path-w-requires
+path-w-requires c κs =
+    let p = c.requires in
+    (p.0, (p.1.0.0, asked_fits _ _ p.1.0.1 _ _ c.asked-d.ensures (not_there _ _ _ c.is_there.ensures c.if-is_there.false), p.1.1.0))
 
-asked-for-requires-2 : tie.Need-asked-for-requires-2
-asked-for-requires-2 c κs = search rules
+asked_for-requires-then-idle : tie.Need-asked_for-requires-then-idle
+asked_for-requires-then-idle c κs = search rules
 
-with-searches-requires-2 : tie.Need-with-searches-requires-2
-with-searches-requires-2 c κs = search rules
+with_searches-requires-then-idle : tie.Need-with_searches-requires-then-idle
+with_searches-requires-then-idle c κs = search rules
 
-same-length-2 : tie.Need-same-length-2
-same-length-2 c = search rules
+shape_of-memo-then-idle : tie.Need-shape_of-memo-then-idle
+shape_of-memo-then-idle c = search rules
 
-same-length-3 : tie.Need-same-length-3
-same-length-3 c = search rules
+shape_of-plan-then-idle : tie.Need-shape_of-plan-then-idle
+shape_of-plan-then-idle c = search rules
 
-returns-2 : tie.Need-returns-2
-returns-2 c =
-    let l = c.before.before.before.before.before.before in
-    let e = l.before.before.before in
-    let k = e.before in
-    let a = (begin-of k).args in
-    let E = l.path.ensures in
-    let plan = l.path.new.1.1.1.1.1.1.0 in
-    let asks = not_there _ _ _ k.is-there.ensures e.if2.false in
+returns-then-idle : tie.Need-returns-then-idle
+returns-then-idle c =
+    let a = c.args in
+    let E = c.path-w.ensures in
+    let plan = c.path-w.new.list in
+    let asks = not_there _ _ _ c.is_there.ensures c.if-is_there.false in
     let path = paths_of (task_in a.task.now) (sets_of a.ever.now) (a.f / 64) in
-    let led = lead_some path (a.f % 64) (asked_of k).asked.result a.plan.now plan a.e l.path.result asks E.0 in (
-      inserted_put _ _ _ _ l.path.result _ _ c.with-searches2.ensures (put-behind k plan l.path.result led),
-      (E.1, inserted_counts _ l.path.result _ _ c.with-searches2.ensures (c.before.asked-for2.ensures ∙ counts_behind k)),
+    let led = lead_some path (a.f % 64) c.asked-d.result a.plan.now plan a.e c.path-w.result asks E.0 in (
+      inserted_put _ _ _ _ c.path-w.result _ _ c.with_searches-then-idle.ensures (put_behind c.before.before.before.before.before.before.before.before.before.before plan c.path-w.result led),
+      (E.1, inserted_counts _ c.path-w.result _ _ c.with_searches-then-idle.ensures (c.asked_for-then-idle.ensures ∙ counts_behind c.before.before.before.before.before.before.before.before.before.before)),
     )
 
-to-end-requires : tie.Need-to-end-requires
-to-end-requires c κs = search rules
+to_end-at-requires : tie.Need-to_end-at-requires
+to_end-at-requires c κs = search rules
 
 pass-requires : tie.Need-pass-requires
 pass-requires c κs =
-    let d = c.before.before.before in
-    let p = (start_of (idle-of d)).requires in
-    let m = d.before.to-end.ensures in
-    (p.0, (p.1.0, (omega (arith, m.0, d.plan2.given), rw m.1 p.1.1.1)))
+    let p = c.requires in
+    let m = c.to_end-at.ensures in
+    (p.0, (p.1.0, (omega (arith, m.0, c.plan-2-1.given), rw m.1 p.1.1.1)))
 
-same-length-4 : tie.Need-same-length-4
-same-length-4 c = search rules
+shape_of-memo : tie.Need-shape_of-memo
+shape_of-memo c = search rules
 
-same-length-5 : tie.Need-same-length-5
-same-length-5 c = search rules
+shape_of-plan : tie.Need-shape_of-plan
+shape_of-plan c = search rules
 
-returns-3 : tie.Need-returns-3
-returns-3 c =
-    let r = c.before.before.before.before in
-    let d = r.before.before.before.before in
-    let a = (start_of (idle-of d)).args in (
-      served_moved (task_in a.task.now) (sets_of a.ever.now) (a.f / 64) (a.f % 64) a.plan.now a.e (facts_of a.want.now) _ d.before.to-end.result d.plan2.given
-          d.before.to-end.ensures.1 _ (written_in r.pass.result) r.pass.ensures.0,
+returns : tie.Need-returns
+returns c =
+    let a = c.args in (
+      served_moved (task_in a.task.now) (sets_of a.ever.now) (a.f / 64) (a.f % 64) a.plan.now a.e (facts_of a.want.now) _ c.to_end-at.result c.plan-2-1.given
+          c.to_end-at.ensures.1 _ (written_in c.pass.result) c.pass.ensures.0,
       (
-        r.pass.ensures.1.0,
-        subst (λ l. Searched (pass_searches (act (task_in a.task.now)) (a.f / 64) l (facts_of a.want.now)) r.pass.result) d.before.to-end.ensures.1 r.pass.ensures.1.1,
+        c.pass.ensures.1.0,
+        subst (λ l. Searched (pass_searches (act (task_in a.task.now)) (a.f / 64) l (facts_of a.want.now)) c.pass.result) c.to_end-at.ensures.1 c.pass.ensures.1.1,
       ),
     )
 
-pub serve-spec : {M : Type 1} → statement M
-serve-spec =
-    tie.close
-    (tie.spec
-    idle-requires
-    asked-requires
-    is-there-requires
-    asked-for-requires
-    with-searches-requires
-    same_length
-    returns
-    path-requires
-    asked-for-requires-2
-    with-searches-requires-2
-    same-length-2
-    same-length-3
-    returns-2
-    to-end-requires
-    pass-requires
-    same-length-4
-    same-length-5
-    returns-3)
+pub serve_spec : {M : Type 1} → statement M
+serve_spec = tie.close (tie.spec idle-requires asked-d-requires is_there-requires asked_for-requires with_searches-requires shape_of-plan-then-is_there returns-then-is_there path-w-requires asked_for-requires-then-idle with_searches-requires-then-idle shape_of-memo-then-idle shape_of-plan-then-idle returns-then-idle to_end-at-requires pass-requires shape_of-memo shape_of-plan returns)

@@ -11,109 +11,84 @@ use Rattle.relax.proofs.Answers.{relax_unsolved, relax_whole, relax_short, relax
 use Rattle.relax.proofs.relax_loaded.Statement.{statement}
 use Rattle.relax.proofs.relax_loaded.Tie as tie
 
-abbrev found-to-start : tie.After-relaxed-plan → tie.Start
-found-to-start c = c.before.before.before.before
+abbrev found_to_start : tie.After-relaxed_plan-k → tie.Start
+found_to_start c = c.before.before.before.before
 
-abbrev known-to-found : tie.After-known-told → tie.After-relaxed-plan
-known-to-found c = c.before.before.before
+abbrev known_to_found : tie.In-Value → tie.After-relaxed_plan-k
+known_to_found c = c.before
 
-relaxed-plan-requires : tie.Need-relaxed-plan-requires
-relaxed-plan-requires c κs = search rules
+relaxed_plan-k-requires : tie.Need-relaxed_plan-k-requires
+relaxed_plan-k-requires c κs = search rules
 
-enum-known-k : tie.Need-enum-known-k
-enum-known-k c = search rules
+enum_known-k : tie.Need-enum_known-k
+enum_known-k c = search rules
 
-enum_told : tie.Need-enum-told
-enum_told c = search rules
+enum_told-1 : tie.Need-enum_told-1
+enum_told-1 c = search rules
 
 blank-requires : tie.Need-blank-requires
 blank-requires c κs = search rules
 
-same_length : tie.Need-same-length
-same_length c = search rules
+shape_of-plan-in_default : tie.Need-shape_of-plan-in_default
+shape_of-plan-in_default c = search rules
 
-returns : tie.Need-returns
-returns c =
-    let at-blank = c.before.before in
-    let at-found = at-blank.before.before.before.before in
-    let a = (found-to-start at-found).args in
-    let e = at-blank.before.before.enum_told.given.1 in
+returns-in_default : tie.Need-returns-in_default
+returns-in_default c =
+    let a = c.args in
+    let e = c.in_default.is in
     let t = task_in a.task.now in
-    let z = relax_unsolved t (length a.plan.now) _ (subst (KeptOf t _) e at-found.relaxed-plan.ensures) in
-    (ap value_of e ∙ z.0, at-blank.blank.ensures ∙ z.1)
+    let z = relax_unsolved t (length a.plan.now) _ (subst (KeptOf t _) e c.relaxed_plan-k.ensures) in
+    (ap value_of e ∙ z.0, c.blank.ensures ∙ z.1)
 
-cast-count : tie.Need-overflow-cast-count
-cast-count c = search rules
+overflow_cast-count : tie.Need-overflow_cast-count
+overflow_cast-count c = search rules
 
-kept : (c : tie.After-known-told) → Found (task_in (found-to-start (known-to-found c)).args.task.now) (known-to-found c).relaxed-plan.new.1.0 c.before.k.given.0.0
+kept : (c : tie.In-Value) → Found (task_in c.args.task.now) c.relaxed_plan-k.new.plan c.in-Value.n
 kept c =
-    let at-found = known-to-found c in
-    subst (KeptOf (task_in (found-to-start at-found).args.task.now) at-found.relaxed-plan.last.1.0) c.before.k.given.1 at-found.relaxed-plan.ensures
+    subst (KeptOf (task_in c.args.task.now) c.relaxed_plan-k.new.plan) c.in-Value.is c.relaxed_plan-k.ensures
 
-array-share-prefix-found : tie.Need-array-share-prefix-found
-array-share-prefix-found c =
+slice_bounds-found-end : tie.Need-slice_bounds-found-end
+slice_bounds-found-end c =
     let F = (kept c).front in
-    subst (λ x. c.before.k.given.0.0 ≤ x) (sym F.long) F.few
+    subst (λ x. c.in-Value.n ≤ x) (sym F.long) F.few
 
-slice-aggregate-lay : tie.Need-slice-aggregate-lay
-slice-aggregate-lay c =
+slice_bounds-lay-end : tie.Need-slice_bounds-lay-end
+slice_bounds-lay-end c =
     let F = (kept c.before).front in
     sym (length-take-le _ _ (omega (arith, F.few, F.long)))
 
-lay-requires : tie.Need-lay-requires
-lay-requires c κs = search rules
+lay-laid-requires : tie.Need-lay-laid-requires
+lay-laid-requires c κs = search rules
 
-enum-known-laid : tie.Need-enum-known-laid
-enum-known-laid c = search rules
+enum_known-laid : tie.Need-enum_known-laid
+enum_known-laid c = search rules
 
-enum-told-2 : tie.Need-enum-told-2
-enum-told-2 c = search rules
+enum_told-in_default-laid : tie.Need-enum_told-in_default-laid
+enum_told-in_default-laid c = search rules
 
-same-length-2 : tie.Need-same-length-2
-same-length-2 c = search rules
+shape_of-plan-in_default-laid : tie.Need-shape_of-plan-in_default-laid
+shape_of-plan-in_default-laid c = search rules
 
-returns-2 : tie.Need-returns-2
-returns-2 c =
-    let at-lay = c.before.before.before.before in
-    let at-known = at-lay.before.before.before in
-    let a = (found-to-start (known-to-found at-known)).args in
+returns-in_default-laid : tie.Need-returns-in_default-laid
+returns-in_default-laid c =
+    let a = c.args in
     let t = task_in a.task.now in
     let m = length a.plan.now in
-    let F = kept at-known in
-    let z = at-lay.lay.ensures in
-    (relax_whole t m F _ F.front.list (ap check_of (sym c.enum-told2.given.1) ∙ z.0), z.1 ∙ relax_list_lem t m F _ F.front.list)
+    let F = kept c.before.before.before.before.before.before in
+    let z = c.lay-laid.ensures in
+    (relax_whole t m F _ F.front.list (ap check_of (sym c.in_default-laid.is) ∙ z.0), z.1 ∙ relax_list_lem t m F _ F.front.list)
 
-same-length-3 : tie.Need-same-length-3
-same-length-3 c = search rules
+shape_of-plan : tie.Need-shape_of-plan
+shape_of-plan c = search rules
 
-returns-3 : tie.Need-returns-3
-returns-3 c =
-    let at-lay = c.before.before.before.before.before in
-    let at-known = at-lay.before.before.before in
-    let a = (found-to-start (known-to-found at-known)).args in
+returns : tie.Need-returns
+returns c =
+    let a = c.args in
     let t = task_in a.task.now in
     let m = length a.plan.now in
-    let F = kept at-known in
-    let z = at-lay.lay.ensures in
-    (relax_short t m F _ F.front.list _ _ (ap check_of (sym c.before.laid.given.1) ∙ z.0), z.1 ∙ relax_list_lem t m F _ F.front.list)
+    let F = kept c.before.before.before.before.before.before in
+    let z = c.lay-laid.ensures in
+    (relax_short t m F _ F.front.list _ _ (ap check_of (sym c.in-Refused.is) ∙ z.0), z.1 ∙ relax_list_lem t m F _ F.front.list)
 
-pub relax-loaded-spec : {M : Type 1} → statement M
-relax-loaded-spec =
-    tie.close
-    (tie.spec
-    relaxed-plan-requires
-    enum-known-k
-    enum_told
-    blank-requires
-    same_length
-    returns
-    cast-count
-    array-share-prefix-found
-    slice-aggregate-lay
-    lay-requires
-    enum-known-laid
-    enum-told-2
-    same-length-2
-    returns-2
-    same-length-3
-    returns-3)
+pub relax_loaded_spec : {M : Type 1} → statement M
+relax_loaded_spec = tie.close (tie.spec relaxed_plan-k-requires enum_known-k enum_told-1 blank-requires shape_of-plan-in_default returns-in_default overflow_cast-count slice_bounds-found-end slice_bounds-lay-end lay-laid-requires enum_known-laid enum_told-in_default-laid shape_of-plan-in_default-laid returns-in_default-laid shape_of-plan returns)

@@ -9,44 +9,34 @@ use Rattle.forward.proofs.Answers.{reached_facts}
 use Rattle.relax.proofs.relaxed_plan.Statement.{statement}
 use Rattle.relax.proofs.relaxed_plan.Tie as tie
 
-abbrev run-to-start : tie.After-run-forward → tie.Start
-run-to-start c = c.before.before.before
+abbrev run_to_start : tie.After-run_forward-ran → tie.Start
+run_to_start c = c.before.before.before
 
-abbrev reached-to-run : tie.After-reached → tie.After-run-forward
-reached-to-run c = c.before.before.before.before
+abbrev reached_to_run : tie.After-reached-reached → tie.After-run_forward-ran
+reached_to_run c = c.before.before.before.before
 
-run-forward-requires : tie.Need-run-forward-requires
-run-forward-requires c κs = search rules
+run_forward-ran-requires : tie.Need-run_forward-ran-requires
+run_forward-ran-requires c κs = search rules
 
-reached-requires : tie.Need-reached-requires
-reached-requires c κs = search rules
+reached-reached-requires : tie.Need-reached-reached-requires
+reached-reached-requires c κs = search rules
 
-reached-is : (c : tie.After-reached) → c.reached.result ≡ facts_reached (task_in (run-to-start (reached-to-run c)).args.task.now)
-reached-is c =
-    let at-run = reached-to-run c in
-    c.reached.ensures ∙ reached_facts _ (run-to-start at-run).pre.0.formed _ at-run.run-forward.ensures.state
+reached_is : (c : tie.After-reached-reached) → c.reached-reached.result ≡ facts_reached (task_in c.args.task.now)
+reached_is c =
+    c.reached-reached.ensures ∙ reached_facts _ c.requires.0.formed _ c.run_forward-ran.ensures.state
 
-cast-reached : tie.Need-overflow-cast-reached
-cast-reached c = record { fits = omega (arith, reached-is c, facts_reached_le _ (run-to-start (reached-to-run c)).requires.0.formed) }
+overflow_cast-reached : tie.Need-overflow_cast-reached
+overflow_cast-reached c = record { fits = omega (arith, reached_is c, facts_reached_le _ c.requires.0.formed) }
+
+returns-then-not-ran : tie.Need-returns-then-not-ran
+returns-then-not-ran c = record { unsolved = sym c.run_forward-ran.ensures.solved ∙ not-true _ c.if-not-ran.true; number' = refl; place' = reached_is c }
+
+keep_run-requires : tie.Need-keep_run-requires
+keep_run-requires c κs = search rules
 
 returns : tie.Need-returns
-returns c = record { unsolved = sym (reached-to-run c).run-forward.ensures.solved ∙ not-true _ c.before.if1.true; number' = refl; place' = reached-is c }
+returns c =
+    record { solved = sym c.run_forward-ran.ensures.solved ∙ not-false _ c.if-not-ran.false; front = c.keep_run.ensures }
 
-keep-run-requires : tie.Need-keep-run-requires
-keep-run-requires c κs = search rules
-
-returns-2 : tie.Need-returns-2
-returns-2 c =
-    let at-else1 = c.before.before.before in
-    record { solved = sym at-else1.before.before.before.run-forward.ensures.solved ∙ not-false _ at-else1.if1.false; front = c.keep_run.ensures }
-
-pub relaxed-plan-spec : {M : Type 1} → statement M
-relaxed-plan-spec =
-    tie.close
-    (tie.spec
-    run-forward-requires
-    reached-requires
-    cast-reached
-    returns
-    keep-run-requires
-    returns-2)
+pub relaxed_plan_spec : {M : Type 1} → statement M
+relaxed_plan_spec = tie.close (tie.spec run_forward-ran-requires reached-reached-requires overflow_cast-reached returns-then-not-ran keep_run-requires returns)

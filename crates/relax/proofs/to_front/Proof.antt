@@ -6,55 +6,41 @@ use Rattle.relax.proofs.Fronting.{Fronting, fronting_start, fronting_turn, front
 use Rattle.relax.proofs.to_front.Statement.{statement}
 use Rattle.relax.proofs.to_front.Tie as tie
 
-abbrev invariant-loop : tie.invariant-loop
-invariant-loop plan₀ from k₀ plan k = Fronting plan₀ from plan k
+abbrev invariant-loop-k : tie.invariant-loop-k
+invariant-loop-k plan₀ from k₀ plan k = Fronting plan₀ from plan k
 
-abbrev decreases-loop : tie.decreases-loop
-decreases-loop plan₀ from k₀ plan k = 1024 - k
+abbrev decreases-loop-k : tie.decreases-loop-k
+decreases-loop-k plan₀ from k₀ plan k = 1024 - k
 
-loop-holds : tie.Need-loop-init invariant-loop decreases-loop
-loop-holds c = fronting_start _ _ c.requires.0 c.requires.1
+loop-k-init : tie.Need-loop-k-init invariant-loop-k decreases-loop-k
+loop-k-init c = fronting_start _ _ c.requires.0 c.requires.1
 
-mul-plan : tie.Need-overflow-mul-plan invariant-loop decreases-loop
-mul-plan c = search rules
+offset_bounds-plan-k : tie.Need-offset_bounds-plan-k invariant-loop-k decreases-loop-k
+offset_bounds-plan-k c = search rules
 
-element-copy-out-plan : tie.Need-element-copy-out-plan invariant-loop decreases-loop
-element-copy-out-plan c = search rules
+bounds-plan-k : tie.Need-bounds-plan-k invariant-loop-k decreases-loop-k
+bounds-plan-k c = search rules
 
-sub-plan : tie.Need-overflow-sub-plan invariant-loop decreases-loop
-sub-plan c = search rules
+overflow_sub-plan : tie.Need-overflow_sub-plan invariant-loop-k decreases-loop-k
+overflow_sub-plan c = search rules
 
-mul-plan-2 : tie.Need-overflow-mul-plan-2 invariant-loop decreases-loop
-mul-plan-2 c = search rules
+offset_bounds-plan-k-in-loop-k : tie.Need-offset_bounds-plan-k-in-loop-k invariant-loop-k decreases-loop-k
+offset_bounds-plan-k-in-loop-k c = search rules
 
-element-write-plan : tie.Need-element-write-plan invariant-loop decreases-loop
-element-write-plan c = search rules
+bounds-plan-k-in-loop-k : tie.Need-bounds-plan-k-in-loop-k invariant-loop-k decreases-loop-k
+bounds-plan-k-in-loop-k c = search rules
 
-add-k : tie.Need-overflow-add-k invariant-loop decreases-loop
-add-k c = search rules
+overflow_add-k : tie.Need-overflow_add-k invariant-loop-k decreases-loop-k
+overflow_add-k c = search rules
 
-loop-less : tie.Need-loop-smaller invariant-loop decreases-loop
-loop-less c = search rules
+loop-k-smaller : tie.Need-loop-k-smaller invariant-loop-k decreases-loop-k
+loop-k-smaller c = search rules
 
-loop-again : tie.Need-loop-preserved invariant-loop decreases-loop
-loop-again c = fronting_turn c.before.before.loop.invariant (omega arith)
+loop-k-preserved : tie.Need-loop-k-preserved invariant-loop-k decreases-loop-k
+loop-k-preserved c = fronting_turn c.loop-k.invariant (omega arith)
 
-returns : tie.Need-returns invariant-loop decreases-loop
-returns c = let I = c.before.loop.invariant in (I.long, fronting_end I (omega (arith, I.to)))
+returns : tie.Need-returns invariant-loop-k decreases-loop-k
+returns c = let I = c.loop-k.invariant in (I.long, fronting_end I (omega (arith, I.to)))
 
-pub to-front-spec : {M : Type 1} → statement M
-to-front-spec =
-    tie.close
-    (tie.spec
-    invariant-loop
-    decreases-loop
-    loop-holds
-    mul-plan
-    element-copy-out-plan
-    sub-plan
-    mul-plan-2
-    element-write-plan
-    add-k
-    loop-less
-    loop-again
-    returns)
+pub to_front_spec : {M : Type 1} → statement M
+to_front_spec = tie.close (tie.spec invariant-loop-k decreases-loop-k loop-k-init offset_bounds-plan-k bounds-plan-k overflow_sub-plan offset_bounds-plan-k-in-loop-k bounds-plan-k-in-loop-k overflow_add-k loop-k-smaller loop-k-preserved returns)
