@@ -5,19 +5,19 @@
 ghost use Rattle.std.specs.Prelude.{◌≡◌};
 ghost use Rattle.answers.specs.Answers.{refusal_in, refusal_of};
 
-#[derive(Drop)]
+#[derive(Clone, Copy)]
 pub struct Refusal {
     pub number: u8,
     pub place: u32,
 }
 
-#[derive(Drop)]
+#[derive(Clone, Copy)]
 pub enum Checked {
     Accepted,
     Refused(Refusal),
 }
 
-#[derive(Drop)]
+#[derive(Clone, Copy)]
 pub enum Number {
     Value(u32),
     Refused(Refusal),
@@ -51,7 +51,7 @@ pub fn refusal_of(n: Number) -> Refusal
 
 // A plan with its steps, its cost, the steps that run for real, the path searches that it took, and whether it is a plan in a real run; or
 // the refusal.
-#[derive(Drop)]
+#[derive(Clone, Copy)]
 pub enum Planned {
     Plan {
         steps: u32,

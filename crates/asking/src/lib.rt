@@ -7,14 +7,14 @@ ghost use Rattle.planning.specs.Repair.{after, asked_for};
 ghost use Rattle.asking.specs.Asking.{asked_by, inserted_by, Behind};
 
 // Where a list ends after more was written, or that it does not fit.
-#[derive(Drop)]
+#[derive(Clone, Copy)]
 pub enum Written {
     Upto(usize),
     Long,
 }
 
 // A list of moves was written up to a place, and so many paths were asked for; or it does not fit.
-#[derive(Drop)]
+#[derive(Clone, Copy)]
 pub enum Inserted {
     Upto { end: usize, searches: usize },
     Long,

@@ -16,7 +16,7 @@ use answers::{Number, Refusal};
 use state::{Goals, State};
 
 // Under one semantics (3.11): how many steps run, and whether the list is a plan.
-#[derive(Drop)]
+#[derive(Clone, Copy)]
 pub struct Verdict {
     pub steps: u32,
     pub plan: bool,

@@ -38,7 +38,7 @@ fn planned_code(p: Planned) -> u64
 }
 
 #[repr(C)]
-#[derive(Drop)]
+#[derive(Clone, Copy)]
 pub struct PlanResult {
     pub code: u64,
     pub steps: u32,

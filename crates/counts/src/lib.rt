@@ -41,7 +41,7 @@ pub fn mark(marks: &mut [u8], from: usize, to: usize, action: bool)
 }
 
 // What is counted along a list: its steps, those that run for real, the cost.
-#[derive(Drop)]
+#[derive(Clone, Copy)]
 pub struct Counts {
     pub steps: usize,
     pub runs: usize,
@@ -88,7 +88,7 @@ fn passed(task: &[u16], i: usize, c: Counts) -> Counts
 }
 
 // Newest values and counts behind some steps.
-#[derive(Drop)]
+#[derive(Clone, Copy)]
 pub struct Glided {
     pub newest: Newest,
     pub counts: Counts,

@@ -8,7 +8,7 @@ ghost use Rattle.execution.specs.Traces.{Traces};
 use state::State;
 
 // Where the red-black run of a list stops: the values held and the newest ones there, how many steps run, and how many run for real.
-#[derive(Drop)]
+#[derive(Clone, Copy)]
 pub struct Trace {
     pub state: State,
     pub steps: usize,

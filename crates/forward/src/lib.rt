@@ -28,7 +28,7 @@ pub fn run_forward(task: &[u16], plan: &mut [u16; 1024]) -> Ran
 }
 
 // What the forward run answers.
-#[derive(Drop)]
+#[derive(Clone, Copy)]
 pub enum Found {
     Run { steps: u32, reached: u32 },
     Refused(Refusal),

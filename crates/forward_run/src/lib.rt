@@ -10,7 +10,7 @@ ghost use Rattle.forward_run.specs.Running.{RanOf};
 use state::{Goals, Relaxed};
 
 // What a forward run comes to: its steps, whether it reaches the goals, its last state.
-#[derive(Drop)]
+#[derive(Clone, Copy)]
 pub struct Ran {
     pub steps: usize,
     pub solved: bool,

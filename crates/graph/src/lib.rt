@@ -98,7 +98,7 @@ pub fn graph(task: &[u16], paint: u64) -> [u64; 64]
 }
 
 // What a search for the lowest variable or action answers.
-#[derive(Drop)]
+#[derive(Clone, Copy)]
 pub enum Found {
     At(usize),
     Nothing,

@@ -17,7 +17,7 @@ use answers::{Checked, Number, Refusal};
 use callers::Verdict;
 use state::{Goals, State};
 
-#[derive(Drop)]
+#[derive(Clone, Copy)]
 pub struct Verdicts {
     pub relaxed: Verdict,
     pub red_black: Verdict,
@@ -88,7 +88,7 @@ fn judge_all(task: &[u16], list: &[u16]) -> Verdicts
 }
 
 // What judging answers: the verdicts, or the refusal of a check.
-#[derive(Drop)]
+#[derive(Clone, Copy)]
 pub enum Judging {
     Judged(Verdicts),
     Refused(Refusal),

@@ -26,7 +26,7 @@ pub extern "C" fn mardiskos_check(bytes: &[u8]) -> u64
 
 // After a refusal every field but the code is zero.
 #[repr(C)]
-#[derive(Drop)]
+#[derive(Clone, Copy)]
 pub struct Judgement {
     pub code: u64,
     pub relaxed_steps: u32,

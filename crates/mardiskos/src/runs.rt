@@ -13,7 +13,7 @@ use forward::Found;
 use newest::Progress;
 
 #[repr(C)]
-#[derive(Drop)]
+#[derive(Clone, Copy)]
 pub struct ForwardRun {
     pub code: u64,
     pub steps: u32,
@@ -21,7 +21,7 @@ pub struct ForwardRun {
 }
 
 #[repr(C)]
-#[derive(Drop)]
+#[derive(Clone, Copy)]
 pub struct RelaxedPlan {
     pub code: u64,
     pub steps: u32,
@@ -72,7 +72,7 @@ pub extern "C" fn mardiskos_relax(bytes: &[u8], plan: &mut [u16]) -> RelaxedPlan
 }
 
 #[repr(C)]
-#[derive(Drop)]
+#[derive(Clone, Copy)]
 pub struct NewestValues {
     pub code: u64,
     pub steps: u32,

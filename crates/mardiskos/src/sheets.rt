@@ -12,7 +12,7 @@ use sheet::Reading;
 
 // Writing a sheet: 0 and the count of bytes, or 32 times the place and the number.
 #[repr(C)]
-#[derive(Drop)]
+#[derive(Clone, Copy)]
 pub struct SheetSize {
     pub code: u64,
     pub bytes: u32,
@@ -55,7 +55,7 @@ fn reading_code(a: Reading) -> u64
 
 // Reading a sheet: 0 with the steps, the cost, the edition and the verdict, or 32 times the place and the number.
 #[repr(C)]
-#[derive(Drop)]
+#[derive(Clone, Copy)]
 pub struct SheetRead {
     pub code: u64,
     pub steps: u32,

@@ -13,14 +13,14 @@ use answers::{Checked, Number, Refusal};
 use state::Newest;
 
 // How many steps of the list run red-black and for real; or the refusal.
-#[derive(Drop)]
+#[derive(Clone, Copy)]
 pub enum Progress {
     Run { steps: u32, runs: u32 },
     Refused(Refusal),
 }
 
 // The answer, and the newest values where the run stops, of which those of `count` variables are shown; after a refusal none.
-#[derive(Drop)]
+#[derive(Clone, Copy)]
 pub struct Board {
     pub answer: Progress,
     pub count: usize,

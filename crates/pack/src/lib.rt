@@ -130,7 +130,7 @@ fn marked_four(list: &[u16], i: usize, tops: u64) -> u64
 }
 
 // Eight entries, four in a number.
-#[derive(Drop)]
+#[derive(Clone, Copy)]
 pub struct Eight {
     pub first: u64,
     pub second: u64,

@@ -14,7 +14,7 @@ ghost use Rattle.sheet.specs.Answers.{sheet, reading_as, declined, heading_of, e
 use answers::{Checked, Number, Refusal};
 
 // What a sheet says of its plan, or the refusal.
-#[derive(Drop)]
+#[derive(Clone, Copy)]
 pub enum Reading {
     Plan {
         steps: u32,

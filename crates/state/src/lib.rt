@@ -12,7 +12,7 @@ ghost use Rattle.state.specs.Goals.{GoalsOf};
 use task::Goal;
 
 // The goals, as facts 64 × variable + value in the front of a list.
-#[derive(Drop)]
+#[derive(Clone, Copy)]
 pub struct Goals {
     pub facts: [u16; 64],
     pub count: usize,
@@ -80,7 +80,7 @@ fn laid(old: [u8; 64], new: [u8; 64]) -> [u8; 64]
 }
 
 // The newest value of each variable. As long as every step ran for real they are the real state.
-#[derive(Drop)]
+#[derive(Clone, Copy)]
 pub struct Newest {
     pub values: [u8; 64],
 }
@@ -163,7 +163,7 @@ fn add_effects(sets: &mut [u64; 64], task: &[u16], i: usize)
 }
 
 // The relaxed state: every value that a variable has had.
-#[derive(Drop)]
+#[derive(Clone, Copy)]
 pub struct Relaxed {
     pub sets: [u64; 64],
 }
@@ -206,7 +206,7 @@ impl Relaxed {
 }
 
 // The relaxed state's sets, and the newest value of each variable.
-#[derive(Drop)]
+#[derive(Clone, Copy)]
 pub struct State {
     pub sets: [u64; 64],
     pub newest: Newest,

@@ -56,7 +56,7 @@ pub fn initial(task: &[u16], v: usize) -> usize
     lists::wide(task[4 * (1 + v) + 2])
 }
 
-#[derive(Drop)]
+#[derive(Clone, Copy)]
 pub enum Goal {
     Value(u32),
     Absent,

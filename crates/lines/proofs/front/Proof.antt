@@ -5,14 +5,14 @@ use lib.Seq.{length-take-le, take_all}
 use Rattle.lines.proofs.front.Statement.{statement}
 use Rattle.lines.proofs.front.Tie as tie
 
-slice-aggregate-result : tie.Need-slice-aggregate-result
-slice-aggregate-result c = sym (length-take-le _ _ (omega arith))
+slice_bounds-result-end : tie.Need-slice_bounds-result-end
+slice_bounds-result-end c = sym (length-take-le _ _ (omega arith))
+
+returns-then-m-list : tie.Need-returns-then-m-list
+returns-then-m-list c = (refl, simp length-take (omega arith), simp length-take (omega arith))
 
 returns : tie.Need-returns
-returns c = (refl, simp length-take (omega arith), simp length-take (omega arith))
+returns c = (sym (take_all c.args.n c.args.list.now (omega arith)), omega arith, omega arith)
 
-returns-2 : tie.Need-returns-2
-returns-2 c = (sym (take_all c.before.args.n c.before.args.list.now (omega arith)), omega arith, omega arith)
-
-pub front-spec : {M : Type 1} → statement M
-front-spec = tie.close (tie.spec slice-aggregate-result returns returns-2)
+pub front_spec : {M : Type 1} → statement M
+front_spec = tie.close (tie.spec slice_bounds-result-end returns-then-m-list returns)

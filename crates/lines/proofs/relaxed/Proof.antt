@@ -5,35 +5,26 @@ use borrow.Author.Rules.{rules}
 use Rattle.lines.proofs.relaxed.Statement.{statement}
 use Rattle.lines.proofs.relaxed.Tie as tie
 
-relax-requires : tie.Need-relax-requires
-relax-requires c κs = search rules
+relax-answer-requires : tie.Need-relax-answer-requires
+relax-answer-requires c κs = search rules
 
-enum-known-answer : tie.Need-enum-known-answer
-enum-known-answer c = search rules
+enum_known-answer : tie.Need-enum_known-answer
+enum_known-answer c = search rules
 
-enum_told : tie.Need-enum-told
-enum_told c = search rules
+enum_told-1 : tie.Need-enum_told-1
+enum_told-1 c = search rules
 
-same_length : tie.Need-same-length
-same_length c = search rules
+shape_of-list-in_default : tie.Need-shape_of-list-in_default
+shape_of-list-in_default c = search rules
+
+returns-in_default : tie.Need-returns-in_default
+returns-in_default c = let r = c.relax-answer.ensures in (ap steps_in (sym (ap value_of c.in_default.is) ∙ r.0), r.1)
+
+shape_of-list : tie.Need-shape_of-list
+shape_of-list c = search rules
 
 returns : tie.Need-returns
-returns c = let r = c.before.before.before.before.relax.ensures in (ap steps_in (sym (ap value_of c.enum_told.given.1) ∙ r.0), r.1)
+returns c = let r = c.relax-answer.ensures in (ap steps_in (sym (ap value_of c.in-Value.is) ∙ r.0), r.1)
 
-same-length-2 : tie.Need-same-length-2
-same-length-2 c = search rules
-
-returns-2 : tie.Need-returns-2
-returns-2 c = let r = c.before.before.before.before.before.relax.ensures in (ap steps_in (sym (ap value_of c.before.answer.given.1) ∙ r.0), r.1)
-
-pub relaxed-spec : {M : Type 1} → statement M
-relaxed-spec =
-    tie.close
-    (tie.spec
-    relax-requires
-    enum-known-answer
-    enum_told
-    same_length
-    returns
-    same-length-2
-    returns-2)
+pub relaxed_spec : {M : Type 1} → statement M
+relaxed_spec = tie.close (tie.spec relax-answer-requires enum_known-answer enum_told-1 shape_of-list-in_default returns-in_default shape_of-list returns)

@@ -4,31 +4,30 @@ use Rattle.newest.proofs.Boards.{list_after}
 use Rattle.newest.proofs.newest.Statement.{statement}
 use Rattle.newest.proofs.newest.Tie as tie
 
-tell-requires : tie.Need-tell-requires
-tell-requires c κs = search rules
+tell-b-requires : tie.Need-tell-b-requires
+tell-b-requires c κs = search rules
 
 put-requires : tie.Need-put-requires
 put-requires c κs = search rules
 
-blank-from-requires : tie.Need-blank-from-requires
-blank-from-requires c κs = search rules
+blank_from-requires : tie.Need-blank_from-requires
+blank_from-requires c κs = search rules
 
-same_length : tie.Need-same-length
-same_length c = search rules
+shape_of-values : tie.Need-shape_of-values
+shape_of-values c = search rules
 
 -- the points of the code, from the last to the first
-abbrev put-to-tell : tie.After-put → tie.After-tell
-put-to-tell c = c.before.before.before.before
+abbrev put_to_tell : tie.After-put → tie.After-tell-b
+put_to_tell c = c.before.before.before
 
-abbrev blank-to-put : tie.After-blank-from → tie.After-put
-blank-to-put c = c.before.before.before.before
+abbrev blank_to_put : tie.After-blank_from → tie.After-put
+blank_to_put c = c.before.before.before.before
 
 -- the board has the answer, and the list is filled from it
 returns : tie.Need-returns
 returns c =
-    let at-put = blank-to-put c.before.before in
-    let C = (put-to-tell at-put).tell.ensures in
-    (C.answer', list_after _ _ _ _ C _ _ _ refl at-put.put.ensures c.before.before.blank-from.ensures)
+    let C = c.tell-b.ensures in
+    (C.answer', list_after _ _ _ _ C _ _ _ refl c.put.ensures c.blank_from.ensures)
 
-pub newest-spec : {M : Type 1} → statement M
-newest-spec = tie.close (tie.spec tell-requires put-requires blank-from-requires same_length returns)
+pub newest_spec : {M : Type 1} → statement M
+newest_spec = tie.close (tie.spec tell-b-requires put-requires blank_from-requires shape_of-values returns)

@@ -11,55 +11,41 @@ use lib.ListN.{length, drop, length-set}
 use Rattle.newest.proofs.put.Statement.{statement}
 use Rattle.newest.proofs.put.Tie as tie
 
-abbrev invariant-loop : tie.invariant-loop
-invariant-loop newest n values₀ v₀ values v = (v ≤ n) × (length values ≡ length values₀) × (values ≡ tabulate v (values_of newest) ++ drop v values₀)
+abbrev invariant-loop-v : tie.invariant-loop-v
+invariant-loop-v newest n values₀ v₀ values v = (v ≤ n) × (length values ≡ length values₀) × (values ≡ tabulate v (values_of newest) ++ drop v values₀)
 
-abbrev decreases-loop : tie.decreases-loop
-decreases-loop newest n values₀ v₀ values v = n - v
+abbrev decreases-loop-v : tie.decreases-loop-v
+decreases-loop-v newest n values₀ v₀ values v = n - v
 
-loop-holds : tie.Need-loop-init invariant-loop decreases-loop
-loop-holds c = (omega arith, refl, put_start _ _)
+loop-v-init : tie.Need-loop-v-init invariant-loop-v decreases-loop-v
+loop-v-init c = (omega arith, refl, put_start _ _)
 
-element-copy-out-entry : tie.Need-element-copy-out-entry invariant-loop decreases-loop
-element-copy-out-entry c = search rules
+bounds-newest-v : tie.Need-bounds-newest-v invariant-loop-v decreases-loop-v
+bounds-newest-v c = search rules
 
-entry-requires : tie.Need-entry-requires invariant-loop decreases-loop
+entry-requires : tie.Need-entry-requires invariant-loop-v decreases-loop-v
 entry-requires c κs = search rules
 
-mul-values : tie.Need-overflow-mul-values invariant-loop decreases-loop
-mul-values c = search rules
+offset_bounds-values-v : tie.Need-offset_bounds-values-v invariant-loop-v decreases-loop-v
+offset_bounds-values-v c = search rules
 
-slice-write-values : tie.Need-slice-write-values invariant-loop decreases-loop
-slice-write-values c = search rules
+bounds-values-v : tie.Need-bounds-values-v invariant-loop-v decreases-loop-v
+bounds-values-v c = search rules
 
-add-v : tie.Need-overflow-add-v invariant-loop decreases-loop
-add-v c = search rules
+overflow_add-v : tie.Need-overflow_add-v invariant-loop-v decreases-loop-v
+overflow_add-v c = search rules
 
-loop-less : tie.Need-loop-smaller invariant-loop decreases-loop
-loop-less c = search rules
+loop-v-smaller : tie.Need-loop-v-smaller invariant-loop-v decreases-loop-v
+loop-v-smaller c = search rules
 
-loop-again : tie.Need-loop-preserved invariant-loop decreases-loop
-loop-again c = let h = c.before.before.before.loop in (omega arith, simp length-set h.invariant.1, put_turn _ _ _ _ _ (omega arith) (value_at _ _ _ c.entry.ensures) h.invariant.2)
+loop-v-preserved : tie.Need-loop-v-preserved invariant-loop-v decreases-loop-v
+loop-v-preserved c = let h = c.loop-v in (omega arith, simp length-set h.invariant.1, put_turn _ _ _ _ _ (omega arith) (value_at _ _ _ c.entry.ensures) h.invariant.2)
 
-same_length : tie.Need-same-length invariant-loop decreases-loop
-same_length c = search rules
+shape_of-values : tie.Need-shape_of-values invariant-loop-v decreases-loop-v
+shape_of-values c = search rules
 
-returns : tie.Need-returns invariant-loop decreases-loop
-returns c = c.before.loop.invariant.2 ∙ put_end _ _ _ _ (omega arith)
+returns : tie.Need-returns invariant-loop-v decreases-loop-v
+returns c = c.loop-v.invariant.2 ∙ put_end _ _ _ _ (omega arith)
 
 pub put_spec : {M : Type 1} → statement M
-put_spec =
-    tie.close
-    (tie.spec
-    invariant-loop
-    decreases-loop
-    loop-holds
-    element-copy-out-entry
-    entry-requires
-    mul-values
-    slice-write-values
-    add-v
-    loop-less
-    loop-again
-    same_length
-    returns)
+put_spec = tie.close (tie.spec invariant-loop-v decreases-loop-v loop-v-init bounds-newest-v entry-requires offset_bounds-values-v bounds-values-v overflow_add-v loop-v-smaller loop-v-preserved shape_of-values returns)

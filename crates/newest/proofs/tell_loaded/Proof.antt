@@ -9,95 +9,71 @@ use Rattle.newest.proofs.Boards.{list_refused, room_refused, values_told}
 use Rattle.newest.proofs.tell_loaded.Statement.{statement}
 use Rattle.newest.proofs.tell_loaded.Tie as tie
 
-check-list-requires : tie.Need-check-list-requires
-check-list-requires c κs = search rules
+check_list-l-requires : tie.Need-check_list-l-requires
+check_list-l-requires c κs = search rules
 
-enum_told : tie.Need-enum-told
-enum_told c = search rules
+enum_told-1 : tie.Need-enum_told-1
+enum_told-1 c = search rules
 
-enum-told-2 : tie.Need-enum-told-2
-enum-told-2 c = search rules
+enum_told-in_default : tie.Need-enum_told-in_default
+enum_told-in_default c = search rules
 
-refusal-of-requires : tie.Need-refusal-of-requires
-refusal-of-requires c κs = search rules
+refusal_of-requires : tie.Need-refusal_of-requires
+refusal_of-requires c κs = search rules
 
 empty-requires : tie.Need-empty-requires
 empty-requires c κs = search rules
 
-returns : tie.Need-returns
-returns c =
+returns-in_default : tie.Need-returns-in_default
+returns-in_default c =
     subst (Tells _ _ _) (sym c.empty.ensures) (list_refused _ _ _ _
-    (handed_on _ _ _ _ _ c.before.before.enum-told2.given.1 c.before.refusal-of.ensures c.before.before.before.before.check-list.ensures))
+    (handed_on _ _ _ _ _ c.in_default.is c.refusal_of.ensures c.check_list-l.ensures))
 
-variables-requires : tie.Need-variables-requires
-variables-requires c κs = search rules
+variables-n-requires : tie.Need-variables-n-requires
+variables-n-requires c κs = search rules
 
-cast-t12 : tie.Need-overflow-cast-t12
-cast-t12 c = search rules
+overflow_cast-room : tie.Need-overflow_cast-room
+overflow_cast-room c = search rules
 
-empty-requires-2 : tie.Need-empty-requires-2
-empty-requires-2 c κs = search rules
+empty-requires-then-room-n : tie.Need-empty-requires-then-room-n
+empty-requires-then-room-n c κs = search rules
 
-returns-2 : tie.Need-returns-2
-returns-2 c =
-    subst (Tells _ _ _) (sym c.empty2.ensures) (room_refused _ _ _
-    (passed _ _ _ _ c.before.before.before.enum_told.given.1 c.before.before.before.before.before.check-list.ensures).0 _ c.before.before.variables.ensures (omega arith))
+returns-then-room-n : tie.Need-returns-then-room-n
+returns-then-room-n c =
+    subst (Tells _ _ _) (sym c.empty-then-room-n.ensures) (room_refused _ _ _
+    (passed _ _ _ _ c.in-Value.is c.check_list-l.ensures).0 _ c.variables-n.ensures (omega arith))
 
 -- the points of the code, from the last to the first
-abbrev list-to-start : tie.After-check-list → tie.Start
-list-to-start c = c.before.before.before
+abbrev list_to_start : tie.After-check_list-l → tie.Start
+list_to_start c = c.before.before.before
 
-abbrev told-to-list : tie.After-enum-told → tie.After-check-list
-told-to-list c = c.before.before
+abbrev told_to_list : tie.In-Value → tie.After-check_list-l
+told_to_list c = c.before
 
-abbrev follow-to-told : tie.After-follow → tie.After-enum-told
-follow-to-told c = c.before.before.before
+abbrev follow_to_told : tie.After-follow-x → tie.In-Value
+follow_to_told c = c.before.before.before
 
-follow-requires : tie.Need-follow-requires
-follow-requires c κs =
-    let at_told = c.before.before in
-    let at-list = told-to-list at_told in
-    let R = list_ready _ _ (passed _ _ _ _ at_told.enum_told.given.1 at-list.check-list.ensures).0 in
-    record { loaded = (list-to-start at-list).pre; short = R.0; entries = R.1 }
+follow-x-requires : tie.Need-follow-x-requires
+follow-x-requires c κs =
+    let R = list_ready _ _ (passed _ _ _ _ c.in-Value.is c.check_list-l.ensures).0 in
+    record { loaded = c.requires; short = R.0; entries = R.1 }
 
-cast-steps : tie.Need-overflow-cast-steps
-cast-steps c =
-    let at_told = follow-to-told c.before in
-    let R = list_ready _ _ (passed _ _ _ _ at_told.enum_told.given.1 (told-to-list at_told).check-list.ensures).0 in
-    omega (arith, R.0, stops_few _ _ _ _ _ c.before.follow.ensures.painted)
+overflow_cast-steps : tie.Need-overflow_cast-steps
+overflow_cast-steps c =
+    let R = list_ready _ _ (passed _ _ _ _ c.in-Value.is c.check_list-l.ensures).0 in
+    omega (arith, R.0, stops_few _ _ _ _ _ c.follow-x.ensures.painted)
 
-cast-runs : tie.Need-overflow-cast-runs
-cast-runs c =
-    let at-follow = c.before.before in
-    let at_told = follow-to-told at-follow in
-    let R = list_ready _ _ (passed _ _ _ _ at_told.enum_told.given.1 (told-to-list at_told).check-list.ensures).0 in
-    omega (arith, R.0, runs_few _ _ _ _ at-follow.follow.ensures.run_real)
+overflow_cast-runs : tie.Need-overflow_cast-runs
+overflow_cast-runs c =
+    let R = list_ready _ _ (passed _ _ _ _ c.in-Value.is c.check_list-l.ensures).0 in
+    omega (arith, R.0, runs_few _ _ _ _ c.follow-x.ensures.run_real)
 
-returns-3 : tie.Need-returns-3
-returns-3 c =
-    let at-follow = c.before.before.before in
-    let at_told = follow-to-told at-follow in
-    let at-list = told-to-list at_told in
-    let T = at-follow.follow.ensures in
-    let n = at-follow.before.before.variables.ensures in
-    values_told _ _ _ (passed _ _ _ _ at_told.enum_told.given.1 at-list.check-list.ensures).0 _ _ _ refl n
-    (omega (arith, n, (list-to-start at-list).pre.formed.variables_max)) (omega arith) T.painted.steps T.run_real.runs T.run_real.newest
+returns : tie.Need-returns
+returns c =
+    let T = c.follow-x.ensures in
+    let n = c.variables-n.ensures in
+    values_told _ _ _ (passed _ _ _ _ c.in-Value.is c.check_list-l.ensures).0 _ _ _ refl n
+    (omega (arith, n, c.requires.formed.variables_max)) (omega arith) T.painted.steps T.run_real.runs T.run_real.newest
 
-pub tell-loaded-spec : {M : Type 1} → statement M
-tell-loaded-spec =
-    tie.close
-    (tie.spec
-    check-list-requires
-    enum_told
-    enum-told-2
-    refusal-of-requires
-    empty-requires
-    returns
-    variables-requires
-    cast-t12
-    empty-requires-2
-    returns-2
-    follow-requires
-    cast-steps
-    cast-runs
-    returns-3)
+pub tell_loaded_spec : {M : Type 1} → statement M
+tell_loaded_spec = tie.close (tie.spec check_list-l-requires enum_told-1 enum_told-in_default refusal_of-requires empty-requires returns-in_default variables-n-requires overflow_cast-room empty-requires-then-room-n returns-then-room-n follow-x-requires overflow_cast-steps overflow_cast-runs returns)

@@ -11,86 +11,64 @@ use Rattle.stages.proofs.Arranging.{pre_bounds, part_wanted, moves_pre, searches
 use Rattle.stages.proofs.arrange.Statement.{statement}
 use Rattle.stages.proofs.arrange.Tie as tie
 
-abbrev wide_of : tie.After-eff-start → tie.After-wide
+abbrev wide_of : tie.After-eff_start-to → tie.After-wide-k
 wide_of c = c.before.before
 
-abbrev start_of : tie.After-wide → tie.Start
+abbrev start_of : tie.After-wide-k → tie.Start
 start_of c = c.before.before.before.before
 
-bounds : (c : tie.After-eff-start) → (c.before.pre-start.result ≤ c.eff-start.result) × (c.eff-start.result ≤ length (start_of (wide_of c)).args.task.now)
+bounds : (c : tie.After-eff_start-to) → (c.pre_start-from.result ≤ c.eff_start-to.result) × (c.eff_start-to.result ≤ length c.args.task.now)
 bounds c =
-    let k = wide_of c in
-    let p = (start_of k).pre.0 in
-    pre_bounds _ p.0.loaded _ _ _ _ k.wide.ensures p.1 c.before.pre-start.ensures c.eff-start.ensures
+    let p = c.requires.0 in
+    pre_bounds _ p.0.loaded _ _ _ _ c.wide-k.ensures p.1 c.pre_start-from.ensures c.eff_start-to.ensures
 
-wide-requires : tie.Need-wide-requires
-wide-requires c κs = search rules
+wide-k-requires : tie.Need-wide-k-requires
+wide-k-requires c κs = search rules
 
-pre-start-requires : tie.Need-pre-start-requires
-pre-start-requires c κs = let p = (start_of c).requires.0 in (p.0.loaded, omega (arith, p.1, c.wide.ensures))
+pre_start-from-requires : tie.Need-pre_start-from-requires
+pre_start-from-requires c κs = let p = c.requires.0 in (p.0.loaded, omega (arith, p.1, c.wide-k.ensures))
 
-eff-start-requires : tie.Need-eff-start-requires
-eff-start-requires c κs = let p = (start_of c.before).requires.0 in (p.0.loaded, omega (arith, p.1, c.before.wide.ensures))
+eff_start-to-requires : tie.Need-eff_start-to-requires
+eff_start-to-requires c κs = let p = c.requires.0 in (p.0.loaded, omega (arith, p.1, c.wide-k.ensures))
 
-mul-moves : tie.Need-overflow-mul-moves
-mul-moves c = let e = c.before in omega (arith, bounds e, (start_of (wide_of e)).well-formed)
+offset_bounds-task-from : tie.Need-offset_bounds-task-from
+offset_bounds-task-from c = omega (arith, bounds c.before, c.well_formed)
 
-sub-moves : tie.Need-overflow-sub-moves
-sub-moves c = omega (arith, bounds c.before)
+slice_bounds-moves-count : tie.Need-slice_bounds-moves-count
+slice_bounds-moves-count c = omega (arith, bounds c.before)
 
-part-moves-start : tie.Need-slice-bounds-moves-start
-part-moves-start c = omega (arith, bounds c.before)
+slice_bounds-moves-start : tie.Need-slice_bounds-moves-start
+slice_bounds-moves-start c = omega (arith, bounds c.before)
 
-part-moves-end : tie.Need-slice-bounds-moves-end
-part-moves-end c = omega (arith, bounds c.before)
+slice_bounds-moves-end : tie.Need-slice_bounds-moves-end
+slice_bounds-moves-end c = omega (arith, bounds c.before)
 
-moves-requires : tie.Need-moves-requires
-moves-requires c κs =
-    let e = c.before.before.before in
-    let k = wide_of e in
-    let p = (start_of k).pre in
-    ((p.0.0, part_wanted _ p.0.0.loaded _ _ _ _ k.wide.ensures p.0.1 e.before.pre-start.ensures e.eff-start.ensures, p.0.2, p.0.3), p.1)
+moves-w-requires : tie.Need-moves-w-requires
+moves-w-requires c κs =
+    let p = c.requires in
+    ((p.0.0, part_wanted _ p.0.0.loaded _ _ _ _ c.wide-k.ensures p.0.1 c.pre_start-from.ensures c.eff_start-to.ensures, p.0.2, p.0.3), p.1)
 
 push-requires : tie.Need-push-requires
 push-requires c κs = search rules
 
-same_length : tie.Need-same-length
-same_length c = search rules
+shape_of-memo : tie.Need-shape_of-memo
+shape_of-memo c = search rules
 
-same-length-2 : tie.Need-same-length-2
-same-length-2 c = search rules
+shape_of-plan : tie.Need-shape_of-plan
+shape_of-plan c = search rules
 
 returns : tie.Need-returns
 returns c =
-    let p = c.before.before.before.before.before in
-    let m = p.before.before.before in
-    let e = m.before.before.before.before in
-    let k = wide_of e in
-    let s = start_of k in
-    let a = s.args in
+    let a = c.args in
     let t = task_in a.task.now in
-    let put = moves_pre a.task.now s.pre.0.0.loaded _ _ _ _ k.wide.ensures s.pre.0.1 e.before.pre-start.ensures e.eff-start.ensures
-    (sets_of a.ever.now) (shown_by a.task.now a.ever.now a.newest.now) a.plan.now _ a.at (written_in m.moves.result) m.moves.ensures.0 in
-    let n = searches_pre a.task.now s.pre.0.0.loaded _ _ _ _ k.wide.ensures s.pre.0.1 e.before.pre-start.ensures e.eff-start.ensures
-    (sets_of a.ever.now) (shown_by a.task.now a.ever.now a.newest.now) m.moves.result m.moves.ensures.1.1 in (
-      c.before.before.push.ensures.0 a.plan.now a.at (moved t (sets_of a.ever.now) (shown_by a.task.now a.ever.now a.newest.now) (act t a.i).pre)
-          p.plan.given put,
-      (m.moves.ensures.1.0, c.before.before.push.ensures.1 _ n),
+    let put = moves_pre a.task.now c.requires.0.0.loaded _ _ _ _ c.wide-k.ensures c.requires.0.1 c.pre_start-from.ensures c.eff_start-to.ensures
+    (sets_of a.ever.now) (shown_by a.task.now a.ever.now a.newest.now) a.plan.now _ a.at (written_in c.moves-w.result) c.moves-w.ensures.0 in
+    let n = searches_pre a.task.now c.requires.0.0.loaded _ _ _ _ c.wide-k.ensures c.requires.0.1 c.pre_start-from.ensures c.eff_start-to.ensures
+    (sets_of a.ever.now) (shown_by a.task.now a.ever.now a.newest.now) c.moves-w.result c.moves-w.ensures.1.1 in (
+      c.push.ensures.0 a.plan.now a.at (moved t (sets_of a.ever.now) (shown_by a.task.now a.ever.now a.newest.now) (act t a.i).pre)
+          c.plan-1.given put,
+      (c.moves-w.ensures.1.0, c.push.ensures.1 _ n),
     )
 
-pub arrange-spec : {M : Type 1} → statement M
-arrange-spec =
-    tie.close
-    (tie.spec
-    wide-requires
-    pre-start-requires
-    eff-start-requires
-    mul-moves
-    sub-moves
-    part-moves-start
-    part-moves-end
-    moves-requires
-    push-requires
-    same_length
-    same-length-2
-    returns)
+pub arrange_spec : {M : Type 1} → statement M
+arrange_spec = tie.close (tie.spec wide-k-requires pre_start-from-requires eff_start-to-requires offset_bounds-task-from slice_bounds-moves-count slice_bounds-moves-start slice_bounds-moves-end moves-w-requires push-requires shape_of-memo shape_of-plan returns)

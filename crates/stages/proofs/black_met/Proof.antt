@@ -13,69 +13,52 @@ use Rattle.leads.proofs.Holding.{met_fails, met_passes, met_end}
 use Rattle.stages.proofs.black_met.Statement.{statement}
 use Rattle.stages.proofs.black_met.Tie as tie
 
-abbrev invariant-loop : tie.invariant-loop
-invariant-loop task newest facts k₀ k =
+abbrev invariant-loop-k : tie.invariant-loop-k
+invariant-loop-k task newest facts k₀ k =
     (k ≤ length facts)
     × (black_met (black (task_in task)) (alone (values_of newest)) (facts_in facts 0 (length facts)) ≡ black_met (black (task_in task)) (alone (values_of newest)) (facts_in facts k (length facts)))
 
-abbrev decreases-loop : tie.decreases-loop
-decreases-loop task newest facts k₀ k = length facts - k
+abbrev decreases-loop-k : tie.decreases-loop-k
+decreases-loop-k task newest facts k₀ k = length facts - k
 
-abbrev start_of : tie.At-loop invariant-loop decreases-loop → tie.Start invariant-loop decreases-loop
-start_of h = h.before.before.before
+abbrev start_of : tie.At-loop-k invariant-loop-k decreases-loop-k → tie.Start invariant-loop-k decreases-loop-k
+start_of c = c.before.before.before
 
-loop-holds : tie.Need-loop-init invariant-loop decreases-loop
-loop-holds c = (omega arith, refl)
+loop-k-init : tie.Need-loop-k-init invariant-loop-k decreases-loop-k
+loop-k-init c = (omega arith, refl)
 
-mul_wide : tie.Need-overflow-mul-wide invariant-loop decreases-loop
-mul_wide c = search rules
+offset_bounds-facts-k : tie.Need-offset_bounds-facts-k invariant-loop-k decreases-loop-k
+offset_bounds-facts-k c = search rules
 
-shared-slice-read-wide : tie.Need-shared-slice-read-wide invariant-loop decreases-loop
-shared-slice-read-wide c = search rules
+bounds-facts-k : tie.Need-bounds-facts-k invariant-loop-k decreases-loop-k
+bounds-facts-k c = search rules
 
-wide-requires : tie.Need-wide-requires invariant-loop decreases-loop
+wide-requires : tie.Need-wide-requires invariant-loop-k decreases-loop-k
 wide-requires c κs = search rules
 
-unmet-requires : tie.Need-unmet-requires invariant-loop decreases-loop
+unmet-requires : tie.Need-unmet-requires invariant-loop-k decreases-loop-k
 unmet-requires c κs =
-    let h = c.before.before.before in
-    let p = (start_of h).requires in
-    (p.0, rw c.wide.ensures (p.1.inside h.loop.k (omega arith)))
+    let p = c.requires in
+    (p.0, rw c.wide.ensures (p.1.inside c.loop-k.k (omega arith)))
 
-returns : tie.Need-returns invariant-loop decreases-loop
+returns-then-unmet : tie.Need-returns-then-unmet invariant-loop-k decreases-loop-k
+returns-then-unmet c =
+    sym (c.loop-k.invariant.1 ∙ met_fails _ _ _ (omega arith) (omega arith) _ _ _ c.wide.ensures (sym c.unmet.ensures ∙ c.if-unmet.true))
+
+overflow_add-k : tie.Need-overflow_add-k invariant-loop-k decreases-loop-k
+overflow_add-k c = search rules
+
+loop-k-smaller : tie.Need-loop-k-smaller invariant-loop-k decreases-loop-k
+loop-k-smaller c = search rules
+
+loop-k-preserved : tie.Need-loop-k-preserved invariant-loop-k decreases-loop-k
+loop-k-preserved c =
+    (omega arith, c.loop-k.invariant.1 ∙ met_passes _ _ _ (omega arith) (omega arith) _ _ _ c.wide.ensures (sym c.unmet.ensures ∙ c.if-unmet.false))
+
+returns : tie.Need-returns invariant-loop-k decreases-loop-k
 returns c =
-    let h = c.before.before.before.before.before in
-    sym (h.loop.invariant.1 ∙ met_fails _ _ _ (omega arith) (omega arith) _ _ _ c.before.before.wide.ensures (sym c.before.unmet.ensures ∙ c.if1.true))
-
-add-k : tie.Need-overflow-add-k invariant-loop decreases-loop
-add-k c = search rules
-
-loop-less : tie.Need-loop-smaller invariant-loop decreases-loop
-loop-less c = search rules
-
-loop-again : tie.Need-loop-preserved invariant-loop decreases-loop
-loop-again c =
-    let h = c.before.before.before.before.before in
-    (omega arith, h.loop.invariant.1 ∙ met_passes _ _ _ (omega arith) (omega arith) _ _ _ c.before.before.wide.ensures (sym c.before.unmet.ensures ∙ c.if1.false))
-
-returns-2 : tie.Need-returns-2 invariant-loop decreases-loop
-returns-2 c =
-    let i = c.before.loop.invariant in
+    let i = c.loop-k.invariant in
     sym (i.1 ∙ met_end _ _ _ _ _ (omega (arith, i.0)))
 
-pub black-met-spec : {M : Type 1} → statement M
-black-met-spec =
-    tie.close
-    (tie.spec
-    invariant-loop
-    decreases-loop
-    loop-holds
-    mul_wide
-    shared-slice-read-wide
-    wide-requires
-    unmet-requires
-    returns
-    add-k
-    loop-less
-    loop-again
-    returns-2)
+pub black_met_spec : {M : Type 1} → statement M
+black_met_spec = tie.close (tie.spec invariant-loop-k decreases-loop-k loop-k-init offset_bounds-facts-k bounds-facts-k wide-requires unmet-requires returns-then-unmet overflow_add-k loop-k-smaller loop-k-preserved returns)

@@ -19,149 +19,114 @@ use Rattle.stages.proofs.Filling.{Filling, filling_start, filling_long, filling_
 use Rattle.stages.proofs.fill.Statement.{statement}
 use Rattle.stages.proofs.fill.Tie as tie
 
-abbrev invariant-loop : tie.invariant-loop
-invariant-loop task newest ever memo₀ wanted plan₀ n e₀ k₀ p₀ memo plan e k p =
+abbrev invariant-loop-p : tie.invariant-loop-p
+invariant-loop-p task newest ever memo₀ wanted plan₀ n e₀ k₀ p₀ memo plan e k p =
     Filling (task_in task) (sets_of ever) (shown_by task ever newest) (order_in task) (facts_of wanted) plan₀ plan memo e k p
 
-abbrev decreases-loop : tie.decreases-loop
-decreases-loop task newest ever memo₀ wanted plan₀ n e₀ k₀ p₀ memo plan e k p = n - p
+abbrev decreases-loop-p : tie.decreases-loop-p
+decreases-loop-p task newest ever memo₀ wanted plan₀ n e₀ k₀ p₀ memo plan e k p = n - p
 
 -- the points of a turn, from the last to the first
-abbrev serve-of : tie.After-known-told invariant-loop decreases-loop → tie.After-serve invariant-loop decreases-loop
-serve-of c = c.before.before.before.before.before.before.before
+abbrev serve_of : tie.In-Upto invariant-loop-p decreases-loop-p → tie.After-serve-w invariant-loop-p decreases-loop-p
+serve_of c = c.before.before.before.before.before
 
-abbrev present-of : tie.After-serve invariant-loop decreases-loop → tie.After-present invariant-loop decreases-loop
-present-of c = c.before.before.before
+abbrev present_of : tie.After-serve-w invariant-loop-p decreases-loop-p → tie.After-present-f invariant-loop-p decreases-loop-p
+present_of c = c.before.before.before
 
-abbrev head_of : tie.After-present invariant-loop decreases-loop → tie.At-loop invariant-loop decreases-loop
+abbrev head_of : tie.After-present-f invariant-loop-p decreases-loop-p → tie.At-loop-p invariant-loop-p decreases-loop-p
 head_of c = c.before.before.before
 
-abbrev start_of : tie.At-loop invariant-loop decreases-loop → tie.Start invariant-loop decreases-loop
-start_of h = h.before.before.before.before.before.before
+abbrev start_of : tie.At-loop-p invariant-loop-p decreases-loop-p → tie.Start invariant-loop-p decreases-loop-p
+start_of c = c.before.before.before.before.before.before
 
-abbrev left_by : tie.After-serve invariant-loop decreases-loop → List ℕ
-left_by c = c.serve.new.1.1.1.1.1.0
+abbrev left_by : tie.After-serve-w invariant-loop-p decreases-loop-p → List ℕ
+left_by c = c.serve-w.new.plan
 
-within : (c : tie.In-loop invariant-loop decreases-loop) → c.before.loop.p < length (order_in (start_of c.before).args.task.now)
-within c = omega (arith, c.before.before.ordered.ensures, c.loop-test.true)
+within : (c : tie.In-loop-p invariant-loop-p decreases-loop-p) → c.loop-p.p < length (order_in c.args.task.now)
+within c = omega (arith, c.ordered-n.ensures, c.loop-p-test.true)
 
-painted : (c : tie.After-order-at invariant-loop decreases-loop) → let t = task_in (start_of c.before.before).args.task.now in (c.order_at.result < variables t) × T (black t c.order_at.result)
-painted c = order_black _ _ (start_of c.before.before).pre.0.0.ordered _ (within c.before) _ c.order_at.ensures
+painted : (c : tie.After-order_at-v invariant-loop-p decreases-loop-p) → let t = task_in c.args.task.now in (c.order_at-v.result < variables t) × T (black t c.order_at-v.result)
+painted c = order_black _ _ c.requires.0.0.ordered _ (within c.before) _ c.order_at-v.ensures
 
 -- its present fact, as the red-black state has it
-shown : (c : tie.After-present invariant-loop decreases-loop) → let a = (start_of (head_of c)).args in
-    Present (task_in a.task.now) (shown_by a.task.now a.ever.now a.newest.now) c.before.order_at.result c.present.result
-shown c = present_shown _ _ _ _ _ (painted c.before).1 c.present.ensures
+shown : (c : tie.After-present-f invariant-loop-p decreases-loop-p) → let a = c.args in
+    Present (task_in a.task.now) (shown_by a.task.now a.ever.now a.newest.now) c.order_at-v.result c.present-f.result
+shown c = present_shown _ _ _ _ _ (painted c.before).1 c.present-f.ensures
 
-ordered-requires : tie.Need-ordered-requires invariant-loop decreases-loop
-ordered-requires c κs = c.before.before.before.before.requires.0.0
+ordered-n-requires : tie.Need-ordered-n-requires invariant-loop-p decreases-loop-p
+ordered-n-requires c κs = c.requires.0.0
 
-loop-holds : tie.Need-loop-init invariant-loop decreases-loop
-loop-holds c = filling_start _ _ _ _ _ _ _ c.before.before.before.before.before.requires.1
+loop-p-init : tie.Need-loop-p-init invariant-loop-p decreases-loop-p
+loop-p-init c = filling_start _ _ _ _ _ _ _ c.requires.1
 
-order-at-requires : tie.Need-order-at-requires invariant-loop decreases-loop
-order-at-requires c κs = ((start_of c.before).pre.0.0, within c)
+order_at-v-requires : tie.Need-order_at-v-requires invariant-loop-p decreases-loop-p
+order_at-v-requires c κs = (c.requires.0.0, within c)
 
-present-requires : tie.Need-present-requires invariant-loop decreases-loop
-present-requires c κs = ((start_of c.before.before).pre.0.0.loaded, (painted c).0)
+present-f-requires : tie.Need-present-f-requires invariant-loop-p decreases-loop-p
+present-f-requires c κs = (c.requires.0.0.loaded, (painted c).0)
 
-serve-requires : tie.Need-serve-requires invariant-loop decreases-loop
-serve-requires c κs =
-    let v = c.before.before in
-    let h = head_of v in
-    let s = start_of h in
-    let t = task_in s.args.task.now in
-    let i = h.loop.inv in
-    let F = v.present.ensures in (
-      (s.pre.0.0, rw F.of (painted v.before).1, i.rows),
-      ((rw F.of F.below, s.pre.0.1.fitting), (omega (arith, i.within, i.long), i.entries)),
+serve-w-requires : tie.Need-serve-w-requires invariant-loop-p decreases-loop-p
+serve-w-requires c κs =
+    let t = task_in c.args.task.now in
+    let i = c.loop-p.invariant in
+    let F = c.present-f.ensures in (
+      (c.requires.0.0, rw F.of (painted c.before.before.before).1, i.rows),
+      ((rw F.of F.below, c.requires.0.1.fitting), (omega (arith, i.within, i.long), i.entries)),
     )
 
-enum-known-w : tie.Need-enum-known-w invariant-loop decreases-loop
-enum-known-w c = search rules
+enum_known-w : tie.Need-enum_known-w invariant-loop-p decreases-loop-p
+enum_known-w c = search rules
 
-enum_told : tie.Need-enum-told invariant-loop decreases-loop
-enum_told c = search rules
+enum_told-1 : tie.Need-enum_told-1 invariant-loop-p decreases-loop-p
+enum_told-1 c = search rules
 
-same_length : tie.Need-same-length invariant-loop decreases-loop
-same_length c =
-    let d = c.before.before.before.before.before.before in
-    d.serve.ensures.1.0.long ∙ sym (start_of (head_of (present-of d))).pre.1.long
+shape_of-memo-in_default : tie.Need-shape_of-memo-in_default invariant-loop-p decreases-loop-p
+shape_of-memo-in_default c =
+    c.serve-w.ensures.1.0.long ∙ sym c.requires.1.long
 
-same-length-2 : tie.Need-same-length-2 invariant-loop decreases-loop
-same-length-2 c =
-    let h = head_of (present-of c.before.before.before.before.before.before) in
-    c.before.before.before.plan.given ∙ h.loop.inv.long
+shape_of-plan-in_default : tie.Need-shape_of-plan-in_default invariant-loop-p decreases-loop-p
+shape_of-plan-in_default c =
+    c.plan-1.given ∙ c.loop-p.invariant.long
 
-returns : tie.Need-returns invariant-loop decreases-loop
+returns-in_default : tie.Need-returns-in_default invariant-loop-p decreases-loop-p
+returns-in_default c =
+    (
+      filling_long c.loop-p.invariant (within c.before.before.before.before.before.before.before.before.before.before) _ _ c.order_at-v.ensures (shown c.before.before.before.before.before.before.before.before) (left_by c.before.before.before.before.before) c.serve-w.result c.serve-w.ensures.0 c.in_default.is
+          c.requires.0.0.ordered,
+      (c.serve-w.ensures.1.0, tt),
+    )
+
+overflow_add-k : tie.Need-overflow_add-k invariant-loop-p decreases-loop-p
+overflow_add-k c =
+    let P = c.requires.0.0 in
+    let few = filling_modest c.loop-p.invariant (within c.before.before.before.before.before.before.before.before.before.before) _ _ c.order_at-v.ensures (shown c.before.before.before.before.before.before.before.before) (left_by c.before.before.before.before.before) c.serve-w.result c.serve-w.ensures.0
+    _ _ c.in-Upto.is c.serve-w.ensures.1.1 c.requires.0.2 in
+    omega (arith, few, within c.before.before.before.before.before.before.before.before.before.before, order_length _ P, P.few)
+
+overflow_add-p : tie.Need-overflow_add-p invariant-loop-p decreases-loop-p
+overflow_add-p c =
+    let P = c.requires.0.0 in
+    omega (arith, within c.before.before.before.before.before.before.before.before.before.before, order_length _ P, P.few)
+
+loop-p-smaller : tie.Need-loop-p-smaller invariant-loop-p decreases-loop-p
+loop-p-smaller c = omega (arith, c.loop-p-test.true)
+
+loop-p-preserved : tie.Need-loop-p-preserved invariant-loop-p decreases-loop-p
+loop-p-preserved c =
+    filling_turn c.loop-p.invariant (within c.before.before.before.before.before.before.before.before.before.before) _ _ c.order_at-v.ensures (shown c.before.before.before.before.before.before.before.before) (left_by c.before.before.before.before.before) c.serve-w.result c.serve-w.ensures.0
+    _ _ c.in-Upto.is c.serve-w.ensures.1.1 c.requires.0.2 _ c.plan-1.given c.serve-w.ensures.1.0
+
+shape_of-memo : tie.Need-shape_of-memo invariant-loop-p decreases-loop-p
+shape_of-memo c = c.loop-p.invariant.rows.long ∙ sym c.requires.1.long
+
+shape_of-plan : tie.Need-shape_of-plan invariant-loop-p decreases-loop-p
+shape_of-plan c = c.loop-p.invariant.long
+
+returns : tie.Need-returns invariant-loop-p decreases-loop-p
 returns c =
-    let d = c.before.before.before.before.before.before in
-    let v = present-of d in
-    let h = head_of v in (
-      filling_long h.loop.inv (within v.before.before) _ _ v.before.order_at.ensures (shown v) (left_by d) d.serve.result d.serve.ensures.0 c.enum_told.given.1
-          (start_of h).pre.0.0.ordered,
-      (d.serve.ensures.1.0, tt),
-    )
-
-add-k : tie.Need-overflow-add-k invariant-loop decreases-loop
-add-k c =
-    let d = serve-of c in
-    let v = present-of d in
-    let h = head_of v in
-    let P = (start_of h).pre.0.0 in
-    let few = filling_modest h.loop.inv (within v.before.before) _ _ v.before.order_at.ensures (shown v) (left_by d) d.serve.result d.serve.ensures.0
-    _ _ c.before.w.given.1 d.serve.ensures.1.1 (start_of h).pre.0.2 in
-    omega (arith, few, within v.before.before, order_length _ P, P.few)
-
-add-p : tie.Need-overflow-add-p invariant-loop decreases-loop
-add-p c =
-    let v = present-of (serve-of c) in
-    let P = (start_of (head_of v)).pre.0.0 in
-    omega (arith, within v.before.before, order_length _ P, P.few)
-
-loop-less : tie.Need-loop-smaller invariant-loop decreases-loop
-loop-less c = omega (arith, (present-of (serve-of c)).before.before.loop-test.taken)
-
-loop-again : tie.Need-loop-preserved invariant-loop decreases-loop
-loop-again c =
-    let d = serve-of c in
-    let v = present-of d in
-    filling_turn (head_of v).loop.inv (within v.before.before) _ _ v.before.order_at.ensures (shown v) (left_by d) d.serve.result d.serve.ensures.0
-    _ _ c.before.w.given.1 d.serve.ensures.1.1 (start_of (head_of v)).pre.0.2 _ c.before.before.before.before.plan.given d.serve.ensures.1.0
-
-same-length-3 : tie.Need-same-length-3 invariant-loop decreases-loop
-same-length-3 c = let h = c.before in h.loop.invariant.rows.long ∙ sym (start_of h).requires.1.long
-
-same-length-4 : tie.Need-same-length-4 invariant-loop decreases-loop
-same-length-4 c = c.before.loop.invariant.long
-
-returns-2 : tie.Need-returns-2 invariant-loop decreases-loop
-returns-2 c =
-    let h = c.before in
-    let all : length (order_in (start_of h).args.task.now) ≤ h.loop.p = omega (arith, h.before.ordered.ensures) in
-    let o = (start_of h).requires.0.0.ordered in
-    (filling_end h.loop.invariant all o, (h.loop.invariant.rows, filling_searched h.loop.invariant all o))
+    let all : length (order_in c.args.task.now) ≤ c.loop-p.p = omega (arith, c.ordered-n.ensures) in
+    let o = c.requires.0.0.ordered in
+    (filling_end c.loop-p.invariant all o, (c.loop-p.invariant.rows, filling_searched c.loop-p.invariant all o))
 
 pub fill_spec : {M : Type 1} → statement M
-fill_spec =
-    tie.close
-    (tie.spec
-    invariant-loop
-    decreases-loop
-    ordered-requires
-    loop-holds
-    order-at-requires
-    present-requires
-    serve-requires
-    enum-known-w
-    enum_told
-    same_length
-    same-length-2
-    returns
-    add-k
-    add-p
-    loop-less
-    loop-again
-    same-length-3
-    same-length-4
-    returns-2)
+fill_spec = tie.close (tie.spec invariant-loop-p decreases-loop-p ordered-n-requires loop-p-init order_at-v-requires present-f-requires serve-w-requires enum_known-w enum_told-1 shape_of-memo-in_default shape_of-plan-in_default returns-in_default overflow_add-k overflow_add-p loop-p-smaller loop-p-preserved shape_of-memo shape_of-plan returns)

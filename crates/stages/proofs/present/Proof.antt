@@ -13,53 +13,41 @@ near s = omega (arith, s.requires.1, s.requires.0.formed.variables_max)
 few : (s : tie.Start) → count (task_in s.args.task.now) s.args.v ≤ 64
 few s = s.requires.0.formed.count_max s.args.v
 
-element-copy-out-byte : tie.Need-element-copy-out-byte
-element-copy-out-byte c = omega (arith, near c.before)
+bounds-newest-v : tie.Need-bounds-newest-v
+bounds-newest-v c = omega (arith, near c.before.before)
 
-byte-requires : tie.Need-byte-requires
-byte-requires c κs = search rules
+byte-x-requires : tie.Need-byte-x-requires
+byte-x-requires c κs = search rules
 
 count-requires : tie.Need-count-requires
 count-requires c κs = search rules
 
-mul-result : tie.Need-overflow-mul-result
-mul-result c = omega (arith, near c.before.before.before.before.before)
+overflow_mul-result : tie.Need-overflow_mul-result
+overflow_mul-result c = omega (arith, near c.before.before.before.before.before.before)
 
-add-result : tie.Need-overflow-add-result
-add-result c = let s = c.before.before.before.before.before in omega (arith, near s, few s, c.before.count.ensures)
+overflow_add-result : tie.Need-overflow_add-result
+overflow_add-result c = omega (arith, near c.before.before.before.before.before.before, few c.before.before.before.before.before.before, c.count.ensures)
 
-mul-result-2 : tie.Need-overflow-mul-result-2
-mul-result-2 c = omega (arith, near c.before.before.before.before.before)
+overflow_mul-result-else-x-count : tie.Need-overflow_mul-result-else-x-count
+overflow_mul-result-else-x-count c = omega (arith, near c.before.before.before.before.before.before)
 
-returns : tie.Need-returns
-returns c =
-    let s = c.before.before.before.before.before in
-    let b = c.before.count.ensures in
+returns-then-x-count : tie.Need-returns-then-x-count
+returns-then-x-count c =
+    let b = c.count.ensures in
     record {
-      of = omega (arith, b, few s);
-      is = omega (arith, b, few s, newest_value (task_in s.args.task.now) s.args.newest.now s.args.v _ c.before.before.byte.ensures (omega (arith, b)));
-      below = omega (arith, b, few s);
+      of = omega (arith, b, few c.before.before.before.before.before.before);
+      is = omega (arith, b, few c.before.before.before.before.before.before, newest_value (task_in c.args.task.now) c.args.newest.now c.args.v _ c.byte-x.ensures (omega (arith, b)));
+      below = omega (arith, b, few c.before.before.before.before.before.before);
     }
 
-returns-2 : tie.Need-returns-2
-returns-2 c =
-    let s = c.before.before.before.before.before in
-    let b = c.before.count.ensures in
+returns-else-x-count : tie.Need-returns-else-x-count
+returns-else-x-count c =
+    let b = c.count.ensures in
     record {
       of = omega arith;
-      is = omega (arith, newest_none (task_in s.args.task.now) s.args.newest.now s.args.v _ c.before.before.byte.ensures (omega (arith, b)));
-      below = omega (arith, s.requires.0.formed.count_min s.args.v);
+      is = omega (arith, newest_none (task_in c.args.task.now) c.args.newest.now c.args.v _ c.byte-x.ensures (omega (arith, b)));
+      below = omega (arith, c.requires.0.formed.count_min c.args.v);
     }
 
-pub present-spec : {M : Type 1} → statement M
-present-spec =
-    tie.close
-    (tie.spec
-    element-copy-out-byte
-    byte-requires
-    count-requires
-    mul-result
-    add-result
-    mul-result-2
-    returns
-    returns-2)
+pub present_spec : {M : Type 1} → statement M
+present_spec = tie.close (tie.spec bounds-newest-v byte-x-requires count-requires overflow_mul-result overflow_add-result overflow_mul-result-else-x-count returns-then-x-count returns-else-x-count)

@@ -6,53 +6,37 @@ use Rattle.stages.proofs.stage.Statement.{statement}
 use Rattle.stages.proofs.stage.Tie as tie
 
 finish-requires : tie.Need-finish-requires
-finish-requires c κs = let p = c.before.before.before.before.before.before.before.requires in ((p.0.0, p.0.2, p.0.3), p.1)
+finish-requires c κs = let p = c.requires in ((p.0.0, p.0.2, p.0.3), p.1)
 
-same_length : tie.Need-same-length
-same_length c = search rules
+shape_of-memo-then-left-eq0 : tie.Need-shape_of-memo-then-left-eq0
+shape_of-memo-then-left-eq0 c = search rules
 
-same-length-2 : tie.Need-same-length-2
-same-length-2 c = search rules
+shape_of-plan-then-left-eq0 : tie.Need-shape_of-plan-then-left-eq0
+shape_of-plan-then-left-eq0 c = search rules
 
-returns : tie.Need-returns
-returns c =
-    let f = c.before.before.before.before in
-    let t = f.before.before.before in
-    let L = stage_last _ _ _ _ _ _ f.finish.result _ t.if1.true f.finish.ensures.0 f.finish.ensures.1.1 in
-    (L.0, (f.finish.ensures.1.0, L.1))
+returns-then-left-eq0 : tie.Need-returns-then-left-eq0
+returns-then-left-eq0 c =
+    let L = stage_last _ _ _ _ _ _ c.finish.result _ c.if-left-eq0.true c.finish.ensures.0 c.finish.ensures.1.1 in
+    (L.0, (c.finish.ensures.1.0, L.1))
 
-shared-slice-read-arrange : tie.Need-shared-slice-read-arrange
-shared-slice-read-arrange c = omega (arith, c.before.before.if1.false)
+bounds-left-0 : tie.Need-bounds-left-0
+bounds-left-0 c = omega (arith, c.if-left-eq0.false)
 
 arrange-requires : tie.Need-arrange-requires
 arrange-requires c κs =
-    let e = c.before.before.before in
-    let p = e.before.before.before.before.before.requires in
-    ((p.0.0, p.0.1 0 (omega (arith, e.if1.false)), p.0.2, p.0.3), p.1)
+    let p = c.requires in
+    ((p.0.0, p.0.1 0 (omega (arith, c.if-left-eq0.false)), p.0.2, p.0.3), p.1)
 
-same-length-3 : tie.Need-same-length-3
-same-length-3 c = search rules
+shape_of-memo : tie.Need-shape_of-memo
+shape_of-memo c = search rules
 
-same-length-4 : tie.Need-same-length-4
-same-length-4 c = search rules
+shape_of-plan : tie.Need-shape_of-plan
+shape_of-plan c = search rules
 
-returns-2 : tie.Need-returns-2
-returns-2 c =
-    let a = c.before.before.before.before in
-    let e = a.before.before.before.before in
-    let L = stage_first _ _ _ _ _ _ a.arrange.result _ e.if1.false a.arrange.ensures.0 a.arrange.ensures.1.1 in
-    (L.0, (a.arrange.ensures.1.0, L.1))
+returns : tie.Need-returns
+returns c =
+    let L = stage_first _ _ _ _ _ _ c.arrange.result _ c.if-left-eq0.false c.arrange.ensures.0 c.arrange.ensures.1.1 in
+    (L.0, (c.arrange.ensures.1.0, L.1))
 
-pub stage-spec : {M : Type 1} → statement M
-stage-spec =
-    tie.close
-    (tie.spec
-    finish-requires
-    same_length
-    same-length-2
-    returns
-    shared-slice-read-arrange
-    arrange-requires
-    same-length-3
-    same-length-4
-    returns-2)
+pub stage_spec : {M : Type 1} → statement M
+stage_spec = tie.close (tie.spec finish-requires shape_of-memo-then-left-eq0 shape_of-plan-then-left-eq0 returns-then-left-eq0 bounds-left-0 arrange-requires shape_of-memo shape_of-plan returns)

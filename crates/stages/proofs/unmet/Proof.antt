@@ -11,26 +11,26 @@ use Rattle.leads.proofs.Holding.{unmet_black, unmet_red}
 use Rattle.stages.proofs.unmet.Statement.{statement}
 use Rattle.stages.proofs.unmet.Tie as tie
 
-is-black-requires : tie.Need-is-black-requires
-is-black-requires c κs = search rules
+is_black-requires : tie.Need-is_black-requires
+is_black-requires c κs = search rules
 
-cast-result : tie.Need-overflow-cast-result
-cast-result c = search rules
+overflow_cast-result : tie.Need-overflow_cast-result
+overflow_cast-result c = search rules
 
-element-copy-out-result : tie.Need-element-copy-out-result
-element-copy-out-result c = omega (arith, c.before.before.before.requires.1, c.before.before.before.requires.0.formed.variables_max)
+bounds-newest-f : tie.Need-bounds-newest-f
+bounds-newest-f c = omega (arith, c.requires.1, c.requires.0.formed.variables_max)
 
-returns : tie.Need-returns
+returns-then-is_black : tie.Need-returns-then-is_black
 unfolding alone values_of
-returns c =
-    let a = c.before.before.before.before.args in
+returns-then-is_black c =
+    let a = c.args in
     let met : Bool = eqb (a.f % 64) (get_or a.newest.now (a.f / 64) 0) in
-    unmet_black _ met met refl (sym c.before.before.is-black.ensures ∙ c.before.if1.true)
+    unmet_black _ met met refl (sym c.is_black.ensures ∙ c.if-is_black.true)
 
-returns-2 : tie.Need-returns-2
-returns-2 c =
-    let a = c.before.before.before.args in
-    unmet_red _ (alone (values_of a.newest.now) (a.f / 64) (a.f % 64)) (sym c.before.is-black.ensures ∙ c.if1.false)
+returns-else-is_black : tie.Need-returns-else-is_black
+returns-else-is_black c =
+    let a = c.args in
+    unmet_red _ (alone (values_of a.newest.now) (a.f / 64) (a.f % 64)) (sym c.is_black.ensures ∙ c.if-is_black.false)
 
-pub unmet-spec : {M : Type 1} → statement M
-unmet-spec = tie.close (tie.spec is-black-requires cast-result element-copy-out-result returns returns-2)
+pub unmet_spec : {M : Type 1} → statement M
+unmet_spec = tie.close (tie.spec is_black-requires overflow_cast-result bounds-newest-f returns-then-is_black returns-else-is_black)
