@@ -1,32 +1,26 @@
-// Standard input, read into lent bytes until they are full or it ends.
+// What a reader gives, read into lent bytes until they are full or it ends.
 #![tactic(auto)]
 
-ghost use Rattle.input.specs.Inputs.{Front};
+ghost use Rattle.std.specs.Prelude.{ℕ, ◌<◌, length, take, IfOk};
+ghost use Rattle.std.specs.Io.{ReadsAtMost};
+ghost use Rattle.std.specs.Io.KnownBytes.{Consumes, IsAtEnd};
 
-use libc::STDIN_FILENO;
+use std::io;
 
-// How many bytes were read, or that a read failed.
-#[derive(Clone, Copy)]
-pub enum Input {
-    Bytes(usize),
-    Failed,
-}
-
-// Reads until the bytes are full or the input ends.
-pub fn read(bytes: &mut [u8]) -> Input
-    ensures { Front result bytes.new }
+// Reads until the bytes are full or the input ends; how many bytes were read. They stand in front.
+pub fn read<R: io::Read>(reader: &mut R, bytes: &mut [u8]) -> io::Result<usize>
+    ensures front { ReadsAtMost result bytes.new }
+    ensures taken { IfOk result (λ n. Consumes (R.remaining reader.old) (R.remaining reader.new)
+        (take n bytes.new)) }
+    ensures whole { IfOk result (λ n. n < length bytes.new → IsAtEnd (R.remaining reader.new)) }
 {
-    let mut done: usize = 0;
+    let mut done = 0;
     while done < bytes.len() {
-        let got = libc::read(STDIN_FILENO, &mut bytes[done..]);
-        if got < 0 {
-            return Input::Failed;
-        }
-        let more = io::count(got, &bytes[done..]);
+        let more = reader.read(&mut bytes[done..])?;
         if more == 0 {
-            return Input::Bytes(done);
+            break;
         }
         done += more;
     }
-    Input::Bytes(done)
+    Ok(done)
 }

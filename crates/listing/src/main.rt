@@ -3,21 +3,29 @@
 // standard error says so; after a failed read nothing is listed.
 #![tactic(auto)]
 
-use input::Input;
-use libc::STDERR_FILENO;
+ghost use Rattle.std.specs.Prelude.{IfSome, OnOk};
+ghost use Rattle.std.specs.Io.KnownBytes.{Appends};
+ghost use Rattle.planning.specs.Listing.{listing_of};
 
-fn list(bytes: &mut [u8]) {
-    let input = input::read(bytes);
-    let Input::Bytes(n) = input else {
-        io::write_all(STDERR_FILENO, b"listing: reading failed\n");
-        return;
+use std::io;
+
+// Writes the listing of what the reader gives, all of it, or tells what failed.
+fn list<R: io::Read, W: io::Write>(reader: &mut R, writer: &mut W) -> Result<(), &'static str>
+    ensures { OnOk result (IfSome (R.remaining reader.old) (λ input.
+        Appends (W.contents writer.old) (W.contents writer.new) (listing_of input))) }
+{
+    let mut bytes = [0u8; 49316];
+    let Ok(n) = input::read(reader, &mut bytes) else {
+        return Err("listing: reading failed");
     };
-    if !report::print(&bytes[..n]) {
-        io::write_all(STDERR_FILENO, b"listing: writing failed\n");
-    }
+    let Ok(()) = report::print(&bytes[..n], writer) else {
+        return Err("listing: writing failed");
+    };
+    Ok(())
 }
 
-fn main() {
-    let mut bytes = [0u8; 49316];
-    list(&mut bytes);
+fn main(rt: HostRuntime) {
+    if let Err(message) = list(&mut rt.stdin(), &mut rt.stdout()) {
+        let _ = rt.eprintln(message);
+    }
 }

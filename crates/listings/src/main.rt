@@ -4,7 +4,7 @@
 
 ghost use Rattle.std.specs.Prelude.{◌≡◌, ◌<◌};
 
-use input::Input;
+use std::io;
 
 fn wide(x: u8) -> usize
     ensures { (result ≡ x) × (result < 256) }
@@ -12,41 +12,51 @@ fn wide(x: u8) -> usize
     x as usize
 }
 
-// The count in front of a record; 65,536 if the input ends there.
-fn read_count() -> usize {
+// The count in front of a record; none if the input ends there.
+fn read_count<R: io::Read>(reader: &mut R) -> io::Result<Option<usize>> {
     let mut count = [0u8; 2];
-    let input = input::read(&mut count);
-    let Input::Bytes(n) = input else {
-        return 65536;
-    };
+    let n = input::read(reader, &mut count)?;
     if n < 2 {
-        return 65536;
+        return Ok(None);
     }
-    256 * wide(count[0]) + wide(count[1])
+    Ok(Some(256 * wide(count[0]) + wide(count[1])))
 }
 
 // Whether there was one more record, whole, and its listing is written.
-fn list_next(bytes: &mut [u8]) -> bool {
-    let n = read_count();
-    if bytes.len() < n {
-        return false;
-    }
-    let input = input::read(&mut bytes[..n]);
-    let Input::Bytes(m) = input else {
-        return false;
+fn list_next<R: io::Read, W: io::Write>(
+    reader: &mut R,
+    writer: &mut W,
+    bytes: &mut [u8],
+) -> io::Result<bool> {
+    let Some(n) = read_count(reader)? else {
+        return Ok(false);
     };
-    m == n && report::print(&bytes[..n])
+    if bytes.len() < n {
+        return Ok(false);
+    }
+    let m = input::read(reader, &mut bytes[..n])?;
+    if m < n {
+        return Ok(false);
+    }
+    report::print(&bytes[..n], writer)?;
+    Ok(true)
 }
 
 // A loop has to end: no input has more records than this.
-fn list_all(bytes: &mut [u8]) {
-    let mut left = u64::MAX;
-    while 0 < left && list_next(bytes) {
-        left -= 1;
+fn list_all<R: io::Read, W: io::Write>(
+    reader: &mut R,
+    writer: &mut W,
+    bytes: &mut [u8],
+) -> io::Result<()> {
+    for _ in 0..u64::MAX {
+        if !list_next(reader, writer, bytes)? {
+            break;
+        }
     }
+    Ok(())
 }
 
-fn main() {
+fn main(rt: HostRuntime) -> io::Result<()> {
     let mut bytes = [0u8; 49316];
-    list_all(&mut bytes);
+    list_all(&mut rt.stdin(), &mut rt.stdout(), &mut bytes)
 }

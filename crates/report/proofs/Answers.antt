@@ -1,10 +1,10 @@
 -- From the answers of the calls to the text of the listing.
-use Prim.Native.Nat.{ℕ, ◌-◌, ◌≤◌}
+use Prim.Native.Nat.{ℕ, ◌≤◌}
 use mathlib.Core.Path.{◌≡◌, refl, sym, ap, ◌∙◌}
 use mathlib.Core.Bool.{Bool}
 use mathlib.Core.List.{List, [], ◌∷◌, ◌++◌, append_assoc}
 use native.Mathlib.Omega.{arith}
-use lib.ListN.{length, take, replicate, length-take, length-append}
+use lib.ListN.{length, take, length-take}
 use Rattle.planning.specs.Basics.{Answer, refused, done}
 use Rattle.planning.specs.Record.{task_of}
 use Rattle.planning.specs.Relaxed.{facts_reached, relaxed_plan}
@@ -63,10 +63,3 @@ module _ (s plan : List ℕ) (r : Planned) (A : Told s r plan) (n c x y : ℕ) (
       ∙ append_assoc (line reached_word (facts_reached (task_of s) ∷ [])) (line relaxed_word (length (relaxed_plan (task_of s)) ∷ relaxed_plan (task_of s))) _
       ∙ listing_lines s _ answered (facts_reached (task_of s)) k c' (relaxed_plan (task_of s)) l refl refl m ec j)
       P Q
-
--- zeros behind the text
-pub cleared : {o o' t : List ℕ} {e : ℕ} (o'' : List ℕ) (n : ℕ) → Put o 0 t o' e → length o' ≡ n → o'' ≡ take e o' ++ replicate (length o' - e) 0 → (e ≡ length t) × (o'' ≡ t ++ replicate (n - length t) 0)
-cleared {o} {o'} {t} {e} o'' n P en c = let q : e ≡ length t = omega (arith, P.ends) in (q, c ∙ rw (P.front, q, en) refl)
-
-pub text_fits : (t o : List ℕ) (e n : ℕ) → e ≡ length t → o ≡ t ++ replicate (n - length t) 0 → e ≤ length o
-text_fits t o e n q h = rw (h, length-append t (replicate (n - length t) 0)) (omega arith)

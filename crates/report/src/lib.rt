@@ -1,14 +1,15 @@
 // The listing of a record, as text in a lent area of bytes; and its printing.
 #![tactic(auto)]
 
-ghost use Rattle.std.specs.Prelude.{◌-◌, ◌≤◌, ◌≡◌, ◌++◌, length, replicate};
+ghost use Rattle.std.specs.Prelude.{◌-◌, ◌≤◌, ◌≡◌, ◌++◌, OnOk, length, replicate};
+ghost use Rattle.std.specs.Io.KnownBytes.{Appends};
 ghost use Rattle.planning.specs.Calls.{runnable};
 ghost use Rattle.planning.specs.Listing.{listing_of};
 ghost use Rattle.answers.specs.Plans.{answer_of};
 ghost use Rattle.text.specs.Put.{Put};
 
 use answers::Planned;
-use libc::STDOUT_FILENO;
+use std::io;
 
 // How many steps of the planner's list run.
 fn running(answer: Planned, plan: &[u16]) -> u32
@@ -56,9 +57,11 @@ pub fn report(bytes: &[u8], out: &mut [u8; AREA]) -> usize
     end
 }
 
-// Writes the listing of a record to standard output; false if a write failed.
-pub fn print(bytes: &[u8]) -> bool {
+// Writes the listing of a record to a writer.
+pub fn print<W: io::Write>(bytes: &[u8], writer: &mut W) -> io::Result<()>
+    ensures { OnOk result (Appends (W.contents writer.old) (W.contents writer.new) (listing_of bytes.now)) }
+{
     let mut out = [0u8; AREA];
     let n = report(bytes, &mut out);
-    io::write_all(STDOUT_FILENO, &out[..n])
+    writer.write_all(&out[..n])
 }

@@ -1,4 +1,4 @@
-//! The fixed set of records that the listing program is run on: the store examples, then
+//! The fixed set of records that the listing programs are run on: the store examples, then
 //! drawn records of every kind of answer that the planner has.
 
 use crate::random::Random;

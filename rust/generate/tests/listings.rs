@@ -1,5 +1,5 @@
-//! What the listing program is run on and held to is what the reference writes today, and the program
-//! writes it too.
+//! What the program `crates/listings` is run on and held to is what the reference writes today, and the
+//! listing program writes it too, record by record.
 
 use generate::listings;
 use reference::listing;
@@ -15,11 +15,9 @@ fn above(path: &str) -> PathBuf {
 #[test]
 fn listings_are_as_stored() {
     let records = listings::records();
-    assert_eq!(fs::read(above("listings/records")).unwrap(), listings::stored(&records));
-    assert_eq!(
-        fs::read_to_string(above("listings/listings.txt")).unwrap(),
-        listings::texts(&records)
-    );
+    let folder = above("../../crates/listings");
+    assert_eq!(fs::read(folder.join("stdin")).unwrap(), listings::stored(&records));
+    assert_eq!(fs::read_to_string(folder.join("stdout")).unwrap(), listings::texts(&records));
 }
 
 #[test]

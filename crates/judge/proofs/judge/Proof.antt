@@ -4,47 +4,35 @@ use borrow.Author.Rules.{rules}
 use Rattle.judge.proofs.judge.Statement.{statement}
 use Rattle.judge.proofs.judge.Tie as tie
 
-room-for-requires : tie.Need-room-for-requires
-room-for-requires c κs = search rules
+room_for-size-requires : tie.Need-room_for-size-requires
+room_for-size-requires c κs = search rules
 
-slice-aggregate-judge-in : tie.Need-slice-aggregate-judge-in
-slice-aggregate-judge-in c = search rules
+slice_bounds-judge_in-end : tie.Need-slice_bounds-judge_in-end
+slice_bounds-judge_in-end c = search rules
 
-judge-in-requires : tie.Need-judge-in-requires
-judge-in-requires c κs = room_tiny _ _ c.before.before.room_for.ensures (omega arith)
+judge_in-requires : tie.Need-judge_in-requires
+judge_in-requires c κs = room_tiny _ _ c.room_for-size.ensures (omega arith)
+
+returns-then-size-le-TINY : tie.Need-returns-then-size-le-TINY
+returns-then-size-le-TINY c = search rules
+
+slice_bounds-judge_in-end-then-size-le-SHORT : tie.Need-slice_bounds-judge_in-end-then-size-le-SHORT
+slice_bounds-judge_in-end-then-size-le-SHORT c = search rules
+
+judge_in-requires-then-size-le-SHORT : tie.Need-judge_in-requires-then-size-le-SHORT
+judge_in-requires-then-size-le-SHORT c κs = room_short _ _ c.room_for-size.ensures (omega arith)
+
+returns-then-size-le-SHORT : tie.Need-returns-then-size-le-SHORT
+returns-then-size-le-SHORT c = search rules
+
+slice_bounds-judge_in-end-2 : tie.Need-slice_bounds-judge_in-end-2
+slice_bounds-judge_in-end-2 c = search rules
+
+judge_in-requires-2 : tie.Need-judge_in-requires-2
+judge_in-requires-2 c κs = room_long _
 
 returns : tie.Need-returns
 returns c = search rules
 
-slice-aggregate-judge-in-2 : tie.Need-slice-aggregate-judge-in-2
-slice-aggregate-judge-in-2 c = search rules
-
-judge-in-requires-2 : tie.Need-judge-in-requires-2
-judge-in-requires-2 c κs = room_short _ _ c.before.before.before.room_for.ensures (omega arith)
-
-returns-2 : tie.Need-returns-2
-returns-2 c = search rules
-
-slice-aggregate-judge-in-3 : tie.Need-slice-aggregate-judge-in-3
-slice-aggregate-judge-in-3 c = search rules
-
-judge-in-requires-3 : tie.Need-judge-in-requires-3
-judge-in-requires-3 c κs = room_long _
-
-returns-3 : tie.Need-returns-3
-returns-3 c = search rules
-
-pub judge-spec : {M : Type 1} → statement M
-judge-spec =
-    tie.close
-    (tie.spec
-    room-for-requires
-    slice-aggregate-judge-in
-    judge-in-requires
-    returns
-    slice-aggregate-judge-in-2
-    judge-in-requires-2
-    returns-2
-    slice-aggregate-judge-in-3
-    judge-in-requires-3
-    returns-3)
+pub judge_spec : {M : Type 1} → statement M
+judge_spec = tie.close (tie.spec room_for-size-requires slice_bounds-judge_in-end judge_in-requires returns-then-size-le-TINY slice_bounds-judge_in-end-then-size-le-SHORT judge_in-requires-then-size-le-SHORT returns-then-size-le-SHORT slice_bounds-judge_in-end-2 judge_in-requires-2 returns)

@@ -7,54 +7,42 @@ use Rattle.judge.proofs.judge_in.Statement.{statement}
 use Rattle.judge.proofs.judge_in.Tie as tie
 
 -- the points of the code, from the last to the first
-abbrev start_of : tie.After-read → tie.Start
+abbrev start_of : tie.After-read-c → tie.Start
 start_of c = c.before.before.before.before.before
 
-abbrev read_of : tie.After-enum-told → tie.After-read
-read_of c = c.before.before.before.before
+abbrev read_of : tie.In_default → tie.After-read-c
+read_of c = c.before.before.before
 
-read-requires : tie.Need-read-requires
-read-requires c κs = search rules
+read-c-requires : tie.Need-read-c-requires
+read-c-requires c κs = search rules
 
-enum-known-c : tie.Need-enum-known-c
-enum-known-c c = search rules
+enum_known-c : tie.Need-enum_known-c
+enum_known-c c = search rules
 
-enum_told : tie.Need-enum-told
-enum_told c = search rules
+enum_told-1 : tie.Need-enum_told-1
+enum_told-1 c = search rules
 
-judge-loaded-requires : tie.Need-judge-loaded-requires
-judge-loaded-requires c κs = let r = (read_of c.before).read.ensures in (r.1 (passed_by_lem _ _ c.before.enum_told.given.1 r.0)).loaded
+judge_loaded-requires : tie.Need-judge_loaded-requires
+judge_loaded-requires c κs = let r = c.read-c.ensures in (r.1 (passed_by_lem _ _ c.in_default.is r.0)).loaded
 
-same_length : tie.Need-same-length
-same_length c = search rules
+shape_of-task-in_default : tie.Need-shape_of-task-in_default
+shape_of-task-in_default c = search rules
+
+returns-in_default : tie.Need-returns-in_default
+returns-in_default c =
+    let a = c.args in
+    let r = c.read-c.ensures in
+    let e = passed_by_lem _ _ c.in_default.is r.0 in
+    c.judge_loaded.ensures ∙ judge_later a.bytes.now a.list.now e _ (r.1 e).same
+
+shape_of-task : tie.Need-shape_of-task
+shape_of-task c = search rules
 
 returns : tie.Need-returns
 returns c =
-    let told = c.before.before in
-    let a = (start_of (read_of told)).args in
-    let r = (read_of told).read.ensures in
-    let e = passed_by_lem _ _ told.enum_told.given.1 r.0 in
-    c.judge-loaded.ensures ∙ judge_later a.bytes.now a.list.now e _ (r.1 e).same
+    let a = c.args in
+    let e = c.in-Refused.is in
+    judge_refused a.bytes.now a.list.now _ _ (refused_by _ _ _ _ e (sym (ap refusal_in e)) c.read-c.ensures.0)
 
-same-length-2 : tie.Need-same-length-2
-same-length-2 c = search rules
-
-returns-2 : tie.Need-returns-2
-returns-2 c =
-    let at_read = c.before.before.before.before.before in
-    let a = (start_of at_read).args in
-    let e = c.before.c.given.1 in
-    judge_refused a.bytes.now a.list.now _ _ (refused_by _ _ _ _ e (sym (ap refusal_in e)) at_read.read.ensures.0)
-
-pub judge-in-spec : {M : Type 1} → statement M
-judge-in-spec =
-    tie.close
-    (tie.spec
-    read-requires
-    enum-known-c
-    enum_told
-    judge-loaded-requires
-    same_length
-    returns
-    same-length-2
-    returns-2)
+pub judge_in_spec : {M : Type 1} → statement M
+judge_in_spec = tie.close (tie.spec read-c-requires enum_known-c enum_told-1 judge_loaded-requires shape_of-task-in_default returns-in_default shape_of-task returns)

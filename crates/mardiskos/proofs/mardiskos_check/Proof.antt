@@ -5,24 +5,23 @@ use borrow.Author.Rules.{rules}
 use Rattle.mardiskos.proofs.mardiskos_check.Statement.{statement}
 use Rattle.mardiskos.proofs.mardiskos_check.Tie as tie
 
-check-requires : tie.Need-check-requires
-check-requires c κs = search rules
+check-c-requires : tie.Need-check-c-requires
+check-c-requires c κs = search rules
 
-enum-known-c : tie.Need-enum-known-c
-enum-known-c c = search rules
+enum_known-c : tie.Need-enum_known-c
+enum_known-c c = search rules
 
-enum_told : tie.Need-enum-told
-enum_told c = search rules
+enum_told-1 : tie.Need-enum_told-1
+enum_told-1 c = search rules
+
+returns-in_default : tie.Need-returns-in_default
+returns-in_default c = code_accepted _ (sym (ap check_of c.in_default.is) ∙ c.check-c.ensures)
+
+code_of-requires : tie.Need-code_of-requires
+code_of-requires c κs = search rules
 
 returns : tie.Need-returns
-returns c = code_accepted _ (sym (ap check_of c.enum_told.given.1) ∙ c.before.before.check.ensures)
+returns c = c.code_of.ensures ∙ code_refused _ _ _ (sym (ap check_of c.in-Refused.is) ∙ c.check-c.ensures)
 
-code-of-requires : tie.Need-code-of-requires
-code-of-requires c κs = search rules
-
-returns-2 : tie.Need-returns-2
-returns-2 c = c.code_of_lem.ensures ∙ code_refused _ _ _ (sym (ap check_of c.before.before.c.given.1) ∙ c.before.before.before.before.check.ensures)
-
-pub mardiskos-check-spec : {M : Type 1} → statement M
-mardiskos-check-spec =
-    tie.close (tie.spec check-requires enum-known-c enum_told returns code-of-requires returns-2)
+pub mardiskos_check_spec : {M : Type 1} → statement M
+mardiskos_check_spec = tie.close (tie.spec check-c-requires enum_known-c enum_told-1 returns-in_default code_of-requires returns)

@@ -3,35 +3,26 @@ use borrow.Author.Rules.{rules}
 use Rattle.mardiskos.proofs.mardiskos_judge.Statement.{statement}
 use Rattle.mardiskos.proofs.mardiskos_judge.Tie as tie
 
-judge-requires : tie.Need-judge-requires
-judge-requires c κs = search rules
+judge-j-requires : tie.Need-judge-j-requires
+judge-j-requires c κs = search rules
 
-enum-known-j : tie.Need-enum-known-j
-enum-known-j c = search rules
+enum_known-j : tie.Need-enum_known-j
+enum_known-j c = search rules
 
-enum_told : tie.Need-enum-told
-enum_told c = search rules
+enum_told-1 : tie.Need-enum_told-1
+enum_told-1 c = search rules
 
-refusal-of-requires : tie.Need-refusal-of-requires
-refusal-of-requires c κs = search rules
+refusal_of-requires : tie.Need-refusal_of-requires
+refusal_of-requires c κs = search rules
 
-code-of-requires : tie.Need-code-of-requires
-code-of-requires c κs = search rules
+code_of-requires : tie.Need-code_of-requires
+code_of-requires c κs = search rules
+
+returns-in_default : tie.Need-returns-in_default
+returns-in_default c = judged_refused _ _ _ _ _ c.in_default.is c.refusal_of.ensures c.code_of.ensures c.judge-j.ensures
 
 returns : tie.Need-returns
-returns c = judged_refused _ _ _ _ _ c.before.before.enum_told.given.1 c.before.refusal-of.ensures c.code_of_lem.ensures c.before.before.before.before.judge.ensures
+returns c = judged_done _ _ _ c.in-Judged.is c.judge-j.ensures
 
-returns-2 : tie.Need-returns-2
-returns-2 c = judged_done _ _ _ c.before.j.given.1 c.before.before.before.judge.ensures
-
-pub mardiskos-judge-spec : {M : Type 1} → statement M
-mardiskos-judge-spec =
-    tie.close
-    (tie.spec
-    judge-requires
-    enum-known-j
-    enum_told
-    refusal-of-requires
-    code-of-requires
-    returns
-    returns-2)
+pub mardiskos_judge_spec : {M : Type 1} → statement M
+mardiskos_judge_spec = tie.close (tie.spec judge-j-requires enum_known-j enum_told-1 refusal_of-requires code_of-requires returns-in_default returns)

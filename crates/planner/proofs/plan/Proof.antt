@@ -7,14 +7,11 @@ use borrow.Author.Rules.{rules}
 use Rattle.planner.proofs.plan.Statement.{statement}
 use Rattle.planner.proofs.plan.Tie as tie
 
-abbrev start_of : tie.After-plan-checked → tie.Start
+abbrev start_of : tie.After-plan_checked-r → tie.Start
 start_of c = c.before.before.before.before.before.before.before.before.before
 
-slice-aggregate-plan-checked : tie.Need-slice-aggregate-plan-checked
-slice-aggregate-plan-checked c = search rules
-
-plan-checked-requires : tie.Need-plan-checked-requires
-plan-checked-requires c κs = tt
+plan_checked-r-requires : tie.Need-plan_checked-r-requires
+plan_checked-r-requires c κs = tt
 
 finish-requires : tie.Need-finish-requires
 finish-requires c κs = tt
@@ -22,40 +19,26 @@ finish-requires c κs = tt
 blank-requires : tie.Need-blank-requires
 blank-requires c κs = tt
 
-same_length : tie.Need-same-length
-same_length c = search rules
+shape_of-plan : tie.Need-shape_of-plan
+shape_of-plan c = search rules
 
-same-length-2 : tie.Need-same-length-2
-same-length-2 c = search rules
+shape_of-work : tie.Need-shape_of-work
+shape_of-work c = search rules
 
-same-length-3 : tie.Need-same-length-3
-same-length-3 c = search rules
+shape_of-marks : tie.Need-shape_of-marks
+shape_of-marks c = search rules
 
 returns : tie.Need-returns
 returns c =
-    let b = c.before.before in
-    let f = b.before.before.before.before.before.before in
-    let h = f.before.before.before.before in
-    let k = h.before.before.before in
-    let a = (start_of k).args in
+    let a = c.args in
     let s = a.bytes.now in
     let n = length a.plan.now in
     let w = length a.work.now in
     let m = length a.marks.now in
-    let D = plan_called s [] n w m _ _ _ k.plan-checked.ensures in
-    let E = f.finish.ensures in
-    let S = plan_settled s n w m _ _ _ _ h.before.before.plan.given h.marks.given _ D (record { list = E.0; bytes = E.1 }) in
-    (D.answer, (S.0, (blanked w _ b.blank.ensures, (S.1, (S.2, (S.3, (S.4, S.5)))))))
+    let D = plan_called s [] n w m _ _ _ c.plan_checked-r.ensures in
+    let E = c.finish.ensures in
+    let S = plan_settled s n w m _ _ _ _ c.plan-1.given c.marks-1.given _ D (record { list = E.0; bytes = E.1 }) in
+    (D.answer, (S.0, (blanked w _ c.blank.ensures, (S.1, (S.2, (S.3, (S.4, S.5)))))))
 
-pub plan-spec : {M : Type 1} → statement M
-plan-spec =
-    tie.close
-    (tie.spec
-    slice-aggregate-plan-checked
-    plan-checked-requires
-    finish-requires
-    blank-requires
-    same_length
-    same-length-2
-    same-length-3
-    returns)
+pub plan_spec : {M : Type 1} → statement M
+plan_spec = tie.close (tie.spec plan_checked-r-requires finish-requires blank-requires shape_of-plan shape_of-work shape_of-marks returns)

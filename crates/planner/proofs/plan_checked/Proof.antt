@@ -7,67 +7,51 @@ use Rattle.task_size.proofs.Size.{room_least}
 use Rattle.planner.proofs.plan_checked.Statement.{statement}
 use Rattle.planner.proofs.plan_checked.Tie as tie
 
-room-for-requires : tie.Need-room-for-requires
-room-for-requires c κs = search rules
+room_for-size-requires : tie.Need-room_for-size-requires
+room_for-size-requires c κs = search rules
 
-slice-aggregate-plan-in : tie.Need-slice-aggregate-plan-in
-slice-aggregate-plan-in c = search rules
+slice_bounds-plan_in-end : tie.Need-slice_bounds-plan_in-end
+slice_bounds-plan_in-end c = search rules
 
-plan-in-requires : tie.Need-plan-in-requires
-plan-in-requires c κs = let f = c.before.before.before.before.room_for in room_least _ f.result f.ensures (omega arith)
+plan_in-requires : tie.Need-plan_in-requires
+plan_in-requires c κs = let f = c.room_for-size in room_least _ f.result f.ensures (omega arith)
 
-same_length : tie.Need-same-length
-same_length c = search rules
+shape_of-plan-then-size-le-LEAST : tie.Need-shape_of-plan-then-size-le-LEAST
+shape_of-plan-then-size-le-LEAST c = search rules
 
-same-length-2 : tie.Need-same-length-2
-same-length-2 c = search rules
+shape_of-marks-then-size-le-LEAST : tie.Need-shape_of-marks-then-size-le-LEAST
+shape_of-marks-then-size-le-LEAST c = search rules
+
+returns-then-size-le-LEAST : tie.Need-returns-then-size-le-LEAST
+returns-then-size-le-LEAST c = search rules
+
+plan_sized-requires : tie.Need-plan_sized-requires
+plan_sized-requires c κs = search rules
+
+shape_of-plan-then-given : tie.Need-shape_of-plan-then-given
+shape_of-plan-then-given c = search rules
+
+shape_of-marks-then-given : tie.Need-shape_of-marks-then-given
+shape_of-marks-then-given c = search rules
+
+returns-then-given : tie.Need-returns-then-given
+returns-then-given c =
+    let g : c.args.given ≡ true = search rules in
+    rw g c.plan_sized.ensures
+
+plan_sized-requires-2 : tie.Need-plan_sized-requires-2
+plan_sized-requires-2 c κs = search rules
+
+shape_of-plan : tie.Need-shape_of-plan
+shape_of-plan c = search rules
+
+shape_of-marks : tie.Need-shape_of-marks
+shape_of-marks c = search rules
 
 returns : tie.Need-returns
-returns c = search rules
+returns c =
+    let g : c.args.given ≡ false = search rules in
+    rw g c.plan_sized-2.ensures
 
-plan-sized-requires : tie.Need-plan-sized-requires
-plan-sized-requires c κs = search rules
-
-same-length-3 : tie.Need-same-length-3
-same-length-3 c = search rules
-
-same-length-4 : tie.Need-same-length-4
-same-length-4 c = search rules
-
-returns-2 : tie.Need-returns-2
-returns-2 c =
-    let g : c.before.before.before.before.before.before.before.before.before.before.before.before.before.before.before.args.given ≡ true = search rules in
-    rw g c.before.before.before.before.plan-sized.ensures
-
-plan-sized-requires-2 : tie.Need-plan-sized-requires-2
-plan-sized-requires-2 c κs = search rules
-
-same-length-5 : tie.Need-same-length-5
-same-length-5 c = search rules
-
-same-length-6 : tie.Need-same-length-6
-same-length-6 c = search rules
-
-returns-3 : tie.Need-returns-3
-returns-3 c =
-    let g : c.before.before.before.before.before.before.before.before.before.before.before.before.before.before.before.args.given ≡ false = search rules in
-    rw g c.before.before.before.before.plan-sized2.ensures
-
-pub plan-checked-spec : {M : Type 1} → statement M
-plan-checked-spec =
-    tie.close
-    (tie.spec
-    room-for-requires
-    slice-aggregate-plan-in
-    plan-in-requires
-    same_length
-    same-length-2
-    returns
-    plan-sized-requires
-    same-length-3
-    same-length-4
-    returns-2
-    plan-sized-requires-2
-    same-length-5
-    same-length-6
-    returns-3)
+pub plan_checked_spec : {M : Type 1} → statement M
+plan_checked_spec = tie.close (tie.spec room_for-size-requires slice_bounds-plan_in-end plan_in-requires shape_of-plan-then-size-le-LEAST shape_of-marks-then-size-le-LEAST returns-then-size-le-LEAST plan_sized-requires shape_of-plan-then-given shape_of-marks-then-given returns-then-given plan_sized-requires-2 shape_of-plan shape_of-marks returns)

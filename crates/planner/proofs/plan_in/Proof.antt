@@ -8,62 +8,47 @@ use Rattle.planner.proofs.plan_in.Statement.{statement}
 use Rattle.planner.proofs.plan_in.Tie as tie
 
 -- the points of the code, from the last to the first
-abbrev start_of : tie.After-read → tie.Start
+abbrev start_of : tie.After-read-c → tie.Start
 start_of c = c.before.before.before.before.before.before.before.before
 
-abbrev read_of : tie.After-enum-told → tie.After-read
-read_of c = c.before.before.before.before
+abbrev read_of : tie.In_default → tie.After-read-c
+read_of c = c.before.before.before
 
-read-requires : tie.Need-read-requires
-read-requires c κs = search rules
+read-c-requires : tie.Need-read-c-requires
+read-c-requires c κs = search rules
 
-enum-known-c : tie.Need-enum-known-c
-enum-known-c c = search rules
+enum_known-c : tie.Need-enum_known-c
+enum_known-c c = search rules
 
-enum_told : tie.Need-enum-told
-enum_told c = search rules
+enum_told-1 : tie.Need-enum_told-1
+enum_told-1 c = search rules
 
-plan-loaded-requires : tie.Need-plan-loaded-requires
-plan-loaded-requires c κs = let told = c.before.before.before in let r = (read_of told).read.ensures in (r.1 (passed_by_lem _ _ told.enum_told.given.1 r.0)).loaded
+plan_loaded-requires : tie.Need-plan_loaded-requires
+plan_loaded-requires c κs = let r = c.read-c.ensures in (r.1 (passed_by_lem _ _ c.in_default.is r.0)).loaded
 
-same_length : tie.Need-same-length
-same_length c = search rules
+shape_of-task-in_default : tie.Need-shape_of-task-in_default
+shape_of-task-in_default c = search rules
 
-same-length-2 : tie.Need-same-length-2
-same-length-2 c = search rules
+shape_of-plan-in_default : tie.Need-shape_of-plan-in_default
+shape_of-plan-in_default c = search rules
 
-same-length-3 : tie.Need-same-length-3
-same-length-3 c = search rules
+shape_of-marks-in_default : tie.Need-shape_of-marks-in_default
+shape_of-marks-in_default c = search rules
+
+returns-in_default : tie.Need-returns-in_default
+returns-in_default c =
+    let a = c.args in
+    let r = c.read-c.ensures in
+    let e = passed_by_lem _ _ c.in_default.is r.0 in
+    called a.given a.bytes.now _ (r.1 e).same _ _ _ _ _ e c.plan_loaded.ensures
+
+shape_of-task : tie.Need-shape_of-task
+shape_of-task c = search rules
 
 returns : tie.Need-returns
 returns c =
-    let at-loaded = c.before.before.before.before.before.before in
-    let told = at-loaded.before.before.before.before in
-    let a = (start_of (read_of told)).args in
-    let r = (read_of told).read.ensures in
-    let e = passed_by_lem _ _ told.enum_told.given.1 r.0 in
-    called a.given a.bytes.now _ (r.1 e).same _ _ _ _ _ e at-loaded.plan-loaded.ensures
+    let e = c.in-Refused.is in
+    drafted_stop (task_of c.args.bytes.now) _ _ _ _ _ _ _ (refused_by _ _ _ _ e (sym (ap refusal_in e)) c.read-c.ensures.0)
 
-same-length-4 : tie.Need-same-length-4
-same-length-4 c = search rules
-
-returns-2 : tie.Need-returns-2
-returns-2 c =
-    let at_read = c.before.before.before.before.before in
-    let e = c.before.c.given.1 in
-    drafted_stop (task_of (start_of at_read).args.bytes.now) _ _ _ _ _ _ _ (refused_by _ _ _ _ e (sym (ap refusal_in e)) at_read.read.ensures.0)
-
-pub plan-in-spec : {M : Type 1} → statement M
-plan-in-spec =
-    tie.close
-    (tie.spec
-    read-requires
-    enum-known-c
-    enum_told
-    plan-loaded-requires
-    same_length
-    same-length-2
-    same-length-3
-    returns
-    same-length-4
-    returns-2)
+pub plan_in_spec : {M : Type 1} → statement M
+plan_in_spec = tie.close (tie.spec read-c-requires enum_known-c enum_told-1 plan_loaded-requires shape_of-task-in_default shape_of-plan-in_default shape_of-marks-in_default returns-in_default shape_of-task returns)

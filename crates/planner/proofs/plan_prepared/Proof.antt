@@ -15,141 +15,108 @@ use Rattle.planner.proofs.plan_prepared.Statement.{statement}
 use Rattle.planner.proofs.plan_prepared.Tie as tie
 
 -- where the function starts, from the way with a caller's list
-abbrev given-to-start : tie.Then1 → tie.Start
-given-to-start c = c.before.before.before.before.before.before
+abbrev given_to_start : tie.Then-given → tie.Start
+given_to_start c = c.before.before.before.before.before.before
 
 -- the points of the way without a caller's list
-abbrev own_of : tie.After-known-told → tie.Else1
-own_of c = c.before.before.before.before.before
+abbrev own_of : tie.In-Value-k → tie.Else-given
+own_of c = c.before.before.before
 
-abbrev start_of : tie.Else1 → tie.Start
+abbrev start_of : tie.Else-given → tie.Start
 start_of c = c.before.before.before.before.before.before
 
-check-relaxed-requires : tie.Need-check-relaxed-requires
-check-relaxed-requires c κs = search rules
+check_relaxed-l-requires : tie.Need-check_relaxed-l-requires
+check_relaxed-l-requires c κs = search rules
 
-enum_told : tie.Need-enum-told
-enum_told c = search rules
+enum_told-1 : tie.Need-enum_told-1
+enum_told-1 c = search rules
 
-enum-told-2 : tie.Need-enum-told-2
-enum-told-2 c = search rules
+enum_told-in_default : tie.Need-enum_told-in_default
+enum_told-in_default c = search rules
 
-refusal-of-requires : tie.Need-refusal-of-requires
-refusal-of-requires c κs = search rules
+refusal_of-requires : tie.Need-refusal_of-requires
+refusal_of-requires c κs = search rules
 
-returns : tie.Need-returns
-returns c =
-    let d = c.before.before.before.before in
-    let a = (given-to-start d).args in
+returns-in_default : tie.Need-returns-in_default
+returns-in_default c =
+    let a = c.args in
     let t = task_in a.task.now in
-    let told = handed_on _ _ _ _ _ c.before.enum-told2.given.1 c.refusal-of.ensures c.before.before.before.check-relaxed.ensures in
-    drafted_stop t _ _ _ _ _ _ _ (given_check t a.list.now _ d.if1.true ∙ told)
+    let told = handed_on _ _ _ _ _ c.in_default.is c.refusal_of.ensures c.check_relaxed-l.ensures in
+    drafted_stop t _ _ _ _ _ _ _ (given_check t a.list.now _ c.if-given.true ∙ told)
 
 draft-requires : tie.Need-draft-requires
 draft-requires c κs =
-    let s = given-to-start c.before.before.before.before.before in
-    let p = (passed _ _ _ _ c.before.before.enum_told.given.1 c.before.before.before.before.check-relaxed.ensures).0 in (
-      s.pre,
-      relaxed_check_none (task_in s.args.task.now) s.args.list.now (in_order_passed _ p).1.0,
+    let p = (passed _ _ _ _ c.in-Value.is c.check_relaxed-l.ensures).0 in (
+      c.requires,
+      relaxed_check_none (task_in c.args.task.now) c.args.list.now (in_order_passed _ p).1.0,
     )
 
-same_length : tie.Need-same-length
-same_length c = search rules
+shape_of-plan-then-given : tie.Need-shape_of-plan-then-given
+shape_of-plan-then-given c = search rules
 
-same-length-2 : tie.Need-same-length-2
-same-length-2 c = search rules
+shape_of-marks-then-given : tie.Need-shape_of-marks-then-given
+shape_of-marks-then-given c = search rules
 
-returns-2 : tie.Need-returns-2
-returns-2 c =
-    let d = c.before.before.before.before.before.before.before in
-    let g = d.before.before.before in
-    let a = (given-to-start g).args in
+returns-then-given : tie.Need-returns-then-given
+returns-then-given c =
+    let a = c.args in
     let t = task_in a.task.now in
     let l = a.list.now in
-    let p = (passed _ _ _ _ d.enum_told.given.1 d.before.before.check-relaxed.ensures).0 in
-    sourced t l _ _ _ _ _ _ (given_source t l _ g.if1.true) (given_check t l _ g.if1.true ∙ p) c.before.before.before.before.draft.ensures
+    let p = (passed _ _ _ _ c.in-Value.is c.check_relaxed-l.ensures).0 in
+    sourced t l _ _ _ _ _ _ (given_source t l _ c.if-given.true) (given_check t l _ c.if-given.true ∙ p) c.draft.ensures
 
-relaxed-plan-requires : tie.Need-relaxed-plan-requires
-relaxed-plan-requires c κs = search rules
+relaxed_plan-k-requires : tie.Need-relaxed_plan-k-requires
+relaxed_plan-k-requires c κs = search rules
 
-enum-known-k : tie.Need-enum-known-k
-enum-known-k c = search rules
+enum_known-k : tie.Need-enum_known-k
+enum_known-k c = search rules
 
-enum-told-3 : tie.Need-enum-told-3
-enum-told-3 c = search rules
+enum_told-in_default-k : tie.Need-enum_told-in_default-k
+enum_told-in_default-k c = search rules
 
-refusal-of-requires-2 : tie.Need-refusal-of-requires-2
-refusal-of-requires-2 c κs = search rules
+refusal_of-requires-in_default-k : tie.Need-refusal_of-requires-in_default-k
+refusal_of-requires-in_default-k c κs = search rules
 
-returns-3 : tie.Need-returns-3
-returns-3 c =
-    let o = c.before.before.before.before.before in
-    let a = (start_of o).args in
+returns-in_default-k : tie.Need-returns-in_default-k
+returns-in_default-k c =
+    let a = c.args in
     let t = task_in a.task.now in
-    let e = c.before.enum-told3.given.1 in
-    let U = subst (KeptOf t c.before.before.before.relaxed-plan.new.1.0) e c.before.before.before.relaxed-plan.ensures in
+    let e = c.in_default-k.is in
+    let U = subst (KeptOf t c.relaxed_plan-k.new.plan) e c.relaxed_plan-k.ensures in
     let told = unfound_check t _ U in
-    drafted_stop t _ _ _ _ _ _ _ (own_check t a.list.now _ o.if1.false ∙ told ∙ rw (c.refusal-of2.ensures ∙ ap refusal_of e) refl)
+    drafted_stop t _ _ _ _ _ _ _ (own_check t a.list.now _ c.if-given.false ∙ told ∙ rw (c.refusal_of-in_default-k.ensures ∙ ap refusal_of e) refl)
 
-found : (c : tie.After-known-told) → Found (task_in (start_of (own_of c)).args.task.now) c.before.before.before.relaxed-plan.new.1.0 c.before.k.given.0.0
+found : (c : tie.In-Value-k) → Found (task_in c.args.task.now) c.relaxed_plan-k.new.plan c.in-Value-k.n
 found c =
-    let r = c.before.before.before in
-    subst (KeptOf (task_in (start_of (own_of c)).args.task.now) r.relaxed-plan.new.1.0) c.before.k.given.1 r.relaxed-plan.ensures
+    subst (KeptOf (task_in c.args.task.now) c.relaxed_plan-k.new.plan) c.in-Value-k.is c.relaxed_plan-k.ensures
 
-cast-count : tie.Need-overflow-cast-count
-cast-count c = search rules
+overflow_cast-count : tie.Need-overflow_cast-count
+overflow_cast-count c = search rules
 
-array-share-prefix-relaxed : tie.Need-array-share-prefix-relaxed
-array-share-prefix-relaxed c = omega (arith, (found c).front.few, (found c).front.long)
+slice_bounds-relaxed-end : tie.Need-slice_bounds-relaxed-end
+slice_bounds-relaxed-end c = omega (arith, (found c).front.few, (found c).front.long)
 
-slice-aggregate-draft : tie.Need-slice-aggregate-draft
-slice-aggregate-draft c = sym (length-take-le _ _ (omega (arith, (found c.before).front.few, (found c.before).front.long)))
+slice_bounds-draft-end : tie.Need-slice_bounds-draft-end
+slice_bounds-draft-end c = sym (length-take-le _ _ (omega (arith, (found c.before).front.few, (found c.before).front.long)))
 
 draft-requires-2 : tie.Need-draft-requires-2
 draft-requires-2 c κs =
-    let s = start_of (own_of c.before.before.before) in
     let F = found c.before.before.before in
-    (s.pre, rw F.front.list (relaxed_plan_is_plan (task_in s.args.task.now) s.pre.loaded.formed F.solved))
+    (c.requires, rw F.front.list (relaxed_plan_is_plan (task_in c.args.task.now) c.requires.loaded.formed F.solved))
 
-same-length-3 : tie.Need-same-length-3
-same-length-3 c = search rules
+shape_of-plan : tie.Need-shape_of-plan
+shape_of-plan c = search rules
 
-same-length-4 : tie.Need-same-length-4
-same-length-4 c = search rules
+shape_of-marks : tie.Need-shape_of-marks
+shape_of-marks c = search rules
 
-returns-4 : tie.Need-returns-4
-returns-4 c =
-    let at-draft = c.before.before.before.before in
-    let k = at-draft.before.before.before.before in
-    let F = found k in
-    let o = own_of k in
-    let a = (start_of o).args in
+returns : tie.Need-returns
+returns c =
+    let F = found c.before.before.before.before.before.before.before.before in
+    let a = c.args in
     let t = task_in a.task.now in
     let l = a.list.now in
-    sourced t l _ _ _ _ _ _ (F.front.list ∙ own_source t l _ o.if1.left) (own_check t l _ o.if1.left ∙ found_check t F.solved) at-draft.draft2.ensures
+    sourced t l _ _ _ _ _ _ (F.front.list ∙ own_source t l _ c.if-given.false) (own_check t l _ c.if-given.false ∙ found_check t F.solved) c.draft-2.ensures
 
-pub plan-prepared-spec : {M : Type 1} → statement M
-plan-prepared-spec =
-    tie.close
-    (tie.spec
-    check-relaxed-requires
-    enum_told
-    enum-told-2
-    refusal-of-requires
-    returns
-    draft-requires
-    same_length
-    same-length-2
-    returns-2
-    relaxed-plan-requires
-    enum-known-k
-    enum-told-3
-    refusal-of-requires-2
-    returns-3
-    cast-count
-    array-share-prefix-relaxed
-    slice-aggregate-draft
-    draft-requires-2
-    same-length-3
-    same-length-4
-    returns-4)
+pub plan_prepared_spec : {M : Type 1} → statement M
+plan_prepared_spec = tie.close (tie.spec check_relaxed-l-requires enum_told-1 enum_told-in_default refusal_of-requires returns-in_default draft-requires shape_of-plan-then-given shape_of-marks-then-given returns-then-given relaxed_plan-k-requires enum_known-k enum_told-in_default-k refusal_of-requires-in_default-k returns-in_default-k overflow_cast-count slice_bounds-relaxed-end slice_bounds-draft-end draft-requires-2 shape_of-plan shape_of-marks returns)

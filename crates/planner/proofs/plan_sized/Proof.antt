@@ -4,70 +4,53 @@ use borrow.Author.Rules.{rules}
 use Rattle.planner.proofs.plan_sized.Statement.{statement}
 use Rattle.planner.proofs.plan_sized.Tie as tie
 
-abbrev start_of : tie.After-slice-known2 → tie.Start
+abbrev start_of : tie.After-slice_known-2-1 → tie.Start
 start_of c = c.before.before.before.before.before
 
-slice-aggregate-plan-in : tie.Need-slice-aggregate-plan-in
-slice-aggregate-plan-in c = search rules
+slice_bounds-plan_in-end : tie.Need-slice_bounds-plan_in-end
+slice_bounds-plan_in-end c = search rules
 
-plan-in-requires : tie.Need-plan-in-requires
-plan-in-requires c κs = room_tiny _ _ (start_of c.before.before.before.before).requires (omega arith)
+plan_in-requires : tie.Need-plan_in-requires
+plan_in-requires c κs = room_tiny _ _ c.requires (omega arith)
 
-same_length : tie.Need-same-length
-same_length c = search rules
+shape_of-plan-then-size-le-TINY : tie.Need-shape_of-plan-then-size-le-TINY
+shape_of-plan-then-size-le-TINY c = search rules
 
-same-length-2 : tie.Need-same-length-2
-same-length-2 c = search rules
+shape_of-marks-then-size-le-TINY : tie.Need-shape_of-marks-then-size-le-TINY
+shape_of-marks-then-size-le-TINY c = search rules
+
+returns-then-size-le-TINY : tie.Need-returns-then-size-le-TINY
+returns-then-size-le-TINY c = search rules
+
+slice_bounds-plan_in-end-then-size-le-SHORT : tie.Need-slice_bounds-plan_in-end-then-size-le-SHORT
+slice_bounds-plan_in-end-then-size-le-SHORT c = search rules
+
+plan_in-requires-then-size-le-SHORT : tie.Need-plan_in-requires-then-size-le-SHORT
+plan_in-requires-then-size-le-SHORT c κs = room_short _ _ c.requires (omega arith)
+
+shape_of-plan-then-size-le-SHORT : tie.Need-shape_of-plan-then-size-le-SHORT
+shape_of-plan-then-size-le-SHORT c = search rules
+
+shape_of-marks-then-size-le-SHORT : tie.Need-shape_of-marks-then-size-le-SHORT
+shape_of-marks-then-size-le-SHORT c = search rules
+
+returns-then-size-le-SHORT : tie.Need-returns-then-size-le-SHORT
+returns-then-size-le-SHORT c = search rules
+
+slice_bounds-plan_in-end-2 : tie.Need-slice_bounds-plan_in-end-2
+slice_bounds-plan_in-end-2 c = search rules
+
+plan_in-requires-2 : tie.Need-plan_in-requires-2
+plan_in-requires-2 c κs = room_long _
+
+shape_of-plan : tie.Need-shape_of-plan
+shape_of-plan c = search rules
+
+shape_of-marks : tie.Need-shape_of-marks
+shape_of-marks c = search rules
 
 returns : tie.Need-returns
 returns c = search rules
 
-slice-aggregate-plan-in-2 : tie.Need-slice-aggregate-plan-in-2
-slice-aggregate-plan-in-2 c = search rules
-
-plan-in-requires-2 : tie.Need-plan-in-requires-2
-plan-in-requires-2 c κs = room_short _ _ (start_of c.before.before.before.before.before).requires (omega arith)
-
-same-length-3 : tie.Need-same-length-3
-same-length-3 c = search rules
-
-same-length-4 : tie.Need-same-length-4
-same-length-4 c = search rules
-
-returns-2 : tie.Need-returns-2
-returns-2 c = search rules
-
-slice-aggregate-plan-in-3 : tie.Need-slice-aggregate-plan-in-3
-slice-aggregate-plan-in-3 c = search rules
-
-plan-in-requires-3 : tie.Need-plan-in-requires-3
-plan-in-requires-3 c κs = room_long _
-
-same-length-5 : tie.Need-same-length-5
-same-length-5 c = search rules
-
-same-length-6 : tie.Need-same-length-6
-same-length-6 c = search rules
-
-returns-3 : tie.Need-returns-3
-returns-3 c = search rules
-
-pub plan-sized-spec : {M : Type 1} → statement M
-plan-sized-spec =
-    tie.close
-    (tie.spec
-    slice-aggregate-plan-in
-    plan-in-requires
-    same_length
-    same-length-2
-    returns
-    slice-aggregate-plan-in-2
-    plan-in-requires-2
-    same-length-3
-    same-length-4
-    returns-2
-    slice-aggregate-plan-in-3
-    plan-in-requires-3
-    same-length-5
-    same-length-6
-    returns-3)
+pub plan_sized_spec : {M : Type 1} → statement M
+plan_sized_spec = tie.close (tie.spec slice_bounds-plan_in-end plan_in-requires shape_of-plan-then-size-le-TINY shape_of-marks-then-size-le-TINY returns-then-size-le-TINY slice_bounds-plan_in-end-then-size-le-SHORT plan_in-requires-then-size-le-SHORT shape_of-plan-then-size-le-SHORT shape_of-marks-then-size-le-SHORT returns-then-size-le-SHORT slice_bounds-plan_in-end-2 plan_in-requires-2 shape_of-plan shape_of-marks returns)

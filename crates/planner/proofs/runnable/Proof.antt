@@ -7,40 +7,30 @@ use Rattle.planner.proofs.Laws.{runnable_front, runnable_whole}
 use Rattle.planner.proofs.runnable.Statement.{statement}
 use Rattle.planner.proofs.runnable.Tie as tie
 
-enum-known-answer : tie.Need-enum-known-answer
-enum-known-answer c = omega arith
+enum_known-answer : tie.Need-enum_known-answer
+enum_known-answer c = omega arith
 
-enum_told : tie.Need-enum-told
-enum_told c = omega arith
+enum_told-1 : tie.Need-enum_told-1
+enum_told-1 c = omega arith
 
-slice-aggregate-result : tie.Need-slice-aggregate-result
-slice-aggregate-result c = refl
+slice_bounds-result-end : tie.Need-slice_bounds-result-end
+slice_bounds-result-end c = refl
+
+returns-in_default : tie.Need-returns-in_default
+unfolding runnable
+returns-in_default c = search rules
+
+overflow_cast-n : tie.Need-overflow_cast-n
+overflow_cast-n c = omega arith
+
+slice_bounds-result-end-then-n-plan : tie.Need-slice_bounds-result-end-then-n-plan
+slice_bounds-result-end-then-n-plan c = sym (length-take-le _ _ (omega arith))
+
+returns-then-n-plan : tie.Need-returns-then-n-plan
+returns-then-n-plan c = runnable_front _ _ _ _ _ _ c.in-Plan.is _
 
 returns : tie.Need-returns
-unfolding runnable
-returns c = search rules
+returns c = runnable_whole _ _ _ _ _ _ c.in-Plan.is _ (omega arith)
 
-cast-n : tie.Need-overflow-cast-n
-cast-n c = omega arith
-
-slice-aggregate-result-2 : tie.Need-slice-aggregate-result-2
-slice-aggregate-result-2 c = sym (length-take-le _ _ (omega arith))
-
-returns-2 : tie.Need-returns-2
-returns-2 c = runnable_front _ _ _ _ _ _ c.before.before.before.answer.given.1 _
-
-returns-3 : tie.Need-returns-3
-returns-3 c = runnable_whole _ _ _ _ _ _ c.before.before.answer.given.1 _ (omega arith)
-
-pub runnable-spec : {M : Type 1} → statement M
-runnable-spec =
-    tie.close
-    (tie.spec
-    enum-known-answer
-    enum_told
-    slice-aggregate-result
-    returns
-    cast-n
-    slice-aggregate-result-2
-    returns-2
-    returns-3)
+pub runnable_spec : {M : Type 1} → statement M
+runnable_spec = tie.close (tie.spec enum_known-answer enum_told-1 slice_bounds-result-end returns-in_default overflow_cast-n slice_bounds-result-end-then-n-plan returns-then-n-plan returns)

@@ -24,354 +24,254 @@ use Rattle.counts.proofs.Plainly.{plain_none, plain_held}
 use Rattle.repair.proofs.Gliding.{repairing_glides}
 use Rattle.repair.proofs.walk.Statement.{statement}
 use Rattle.repair.proofs.walk.Tie as tie
+use Rattle.repair.proofs.walk.Lts.{then-c-at, else-c-at+then-j-list}
 
-abbrev invariant-loop : tie.invariant-loop
-invariant-loop task list plan₀ marks₀ memo₀ rules s₀ plain₀ c₀ n₀ at₀ j₀ plan marks memo s plain c n at j =
+abbrev invariant-loop-c : tie.invariant-loop-c
+invariant-loop-c task list plan₀ marks₀ memo₀ rules s₀ plain₀ c₀ n₀ at₀ j₀ plan marks memo s plain c n at j =
     Repairing (task_in task) list plan₀ plan marks memo s.sets (values_of s.newest.values) c n at j × Plain (task_in task) (sets_of s.sets) plain
     × (length memo ≡ length memo₀)
 
-abbrev decreases-loop : tie.decreases-loop
-decreases-loop task list plan₀ marks₀ memo₀ rules s₀ plain₀ c₀ n₀ at₀ j₀ plan marks memo s plain c n at j = (length list + 1 - j) * (length plan₀ + 1) + (at - c.steps)
+abbrev decreases-loop-c : tie.decreases-loop-c
+decreases-loop-c task list plan₀ marks₀ memo₀ rules s₀ plain₀ c₀ n₀ at₀ j₀ plan marks memo s plain c n at j = (length list + 1 - j) * (length plan₀ + 1) + (at - c.steps)
 
 -- the points of a turn, from the last to the first
-abbrev start_of : tie.At-loop invariant-loop decreases-loop → tie.Start invariant-loop decreases-loop
-start_of h = h.before.before.before.before.before.before.before.before.before
+abbrev start_of : tie.At-loop-c invariant-loop-c decreases-loop-c → tie.Start invariant-loop-c decreases-loop-c
+start_of c = c.before.before.before.before.before.before.before.before.before
 
-abbrev marked-of : tie.After-slice-known6 invariant-loop decreases-loop → tie.After-w invariant-loop decreases-loop
-marked-of c = c.before.before.before.before.before
+abbrev stage_of : tie.After-plan-1 invariant-loop-c decreases-loop-c → tie.After-stage-w invariant-loop-c decreases-loop-c
+stage_of c = c.before.before.before
 
-abbrev plan-of : tie.After-w invariant-loop decreases-loop → tie.After-plan invariant-loop decreases-loop
-plan-of c = c.before.before.before
+abbrev again_of : tie.After-stage-w invariant-loop-c decreases-loop-c → tie.Then-c-at-2 invariant-loop-c decreases-loop-c
+again_of c = c.before.before.before.before.before.before
 
-abbrev stage-of : tie.After-plan invariant-loop decreases-loop → tie.After-stage invariant-loop decreases-loop
-stage-of c = c.before.before.before
+abbrev left_by : tie.After-stage-w invariant-loop-c decreases-loop-c → List ℕ
+left_by c = c.stage-w.new.plan
 
-abbrev again-of : tie.After-stage invariant-loop decreases-loop → tie.Then3 invariant-loop decreases-loop
-again-of c = c.before.before.before.before.before.before.before
+abbrev head_in : tie.Then-c-at-2 invariant-loop-c decreases-loop-c → tie.At-loop-c invariant-loop-c decreases-loop-c
+head_in c = c.before.before.before.before
 
-abbrev left_by : tie.After-stage invariant-loop decreases-loop → List ℕ
-left_by c = c.stage.new.1.1.1.1.1.0
+abbrev wide_of : tie.After-effects_held invariant-loop-c decreases-loop-c → tie.After-wide-i invariant-loop-c decreases-loop-c
+wide_of c = c.before.before.before
 
-abbrev head_in : tie.Then3 invariant-loop decreases-loop → tie.At-loop invariant-loop decreases-loop
-head_in e = e.before.before.before.before
+abbrev held_of : tie.After-glide-g invariant-loop-c decreases-loop-c → tie.Then-effects_held invariant-loop-c decreases-loop-c
+held_of c = c.before.before.before
 
-abbrev wide_of : tie.After-effects-held invariant-loop decreases-loop → tie.After-wide invariant-loop decreases-loop
-wide_of c = c.before.before.before.before
+abbrev adds_of : tie.After-counted-c invariant-loop-c decreases-loop-c → tie.After-effects_held invariant-loop-c decreases-loop-c
+adds_of c = c.before.before.before
 
-abbrev held_of : tie.After-glide invariant-loop decreases-loop → tie.Then4 invariant-loop decreases-loop
-held_of c = c.before.before.before.before
+abbrev counted_of : tie.After-refresh invariant-loop-c decreases-loop-c → tie.After-counted-c invariant-loop-c decreases-loop-c
+counted_of c = c.before.before.before
 
-abbrev adds-of : tie.After-counted invariant-loop decreases-loop → tie.After-effects-held invariant-loop decreases-loop
-adds-of c = c.before.before.before.before
-
-abbrev counted_of : tie.After-refresh invariant-loop decreases-loop → tie.After-counted invariant-loop decreases-loop
-counted_of c = c.before.before.before.before
-
-abbrev head_of : tie.After-wide invariant-loop decreases-loop → tie.At-loop invariant-loop decreases-loop
+abbrev head_of : tie.After-wide-i invariant-loop-c decreases-loop-c → tie.At-loop-c invariant-loop-c decreases-loop-c
 head_of c = c.before.before.before.before.before.before
 
 -- a stage is left where one is placed
-here_of : (e : tie.Then3 invariant-loop decreases-loop) → let h = head_in e in h.loop.j ≤ length (start_of h).args.list.now
-here_of e = ⊎_elim (λ w. absurd (omega (arith, w.taken, e.if3.true))) (λ w. leb-true _ _ w.1.taken) e.before.before.if1.branch
+here_of : (e : tie.Then-c-at-2 invariant-loop-c decreases-loop-c) → e.loop-c.j ≤ length e.args.list.now
+here_of e = elim e.if-c-at.branch [ then-c-at w ↦ absurd (omega (arith, w.if-c-at.true, e.if-c-at-2.true)) | else-c-at+then-j-list w ↦ w.if-j-list.true ]
 
-arranged : (c : tie.After-plan invariant-loop decreases-loop) → let d = stage-of c in let h = head_in (again-of d) in let a = (start_of h).args in let l = h.loop in
+arranged : (c : tie.After-plan-1 invariant-loop-c decreases-loop-c) → let a = c.args in let l = c.loop-c in
     Arranged (task_in a.task.now) a.list.now a.plan.now l.plan l.marks l.memo l.s.sets (values_of l.s.newest.values) l.c l.searched l.at l.j
-    (take (length a.list.now - l.j) (drop l.j a.list.now)) (left_by d) d.stage.result
+    (take (length a.list.now - l.j) (drop l.j a.list.now)) (left_by c.before.before.before) c.stage-w.result
 arranged c =
-    let d = stage-of c in
-    let e = again-of d in
-    let h = head_in e in
     record {
-      start = h.loop.inv.0;
-      taken = e.if3.taken;
-      here = here_of e;
-      part = rest_is (start_of h).args.list.now h.loop.j (here_of e);
-      long = c.plan.given;
-      put = d.stage.ensures.0;
-      counts = d.stage.ensures.1.1;
+      start = c.loop-c.invariant.0;
+      taken = c.if-c-at-2.true;
+      here = here_of c.before.before.before.before.before.before.before.before.before;
+      part = rest_is c.args.list.now c.loop-c.j (here_of c.before.before.before.before.before.before.before.before.before);
+      long = c.plan-1.given;
+      put = c.stage-w.ensures.0;
+      counts = c.stage-w.ensures.1.1;
     }
 
 -- a step is left
-less : (c : tie.After-wide invariant-loop decreases-loop) → let l = (head_of c).loop in l.c.steps < l.at
-less c = let h = head_of c in omega (arith, c.before.before.if3.false, h.loop.inv.0.taken)
+less : (c : tie.After-wide-i invariant-loop-c decreases-loop-c) → let l = c.loop-c in l.c.steps < l.at
+less c = omega (arith, c.if-c-at-2.false, c.loop-c.invariant.0.taken)
 
-below : (c : tie.After-wide invariant-loop decreases-loop) → c.wide.result < actions (task_in (start_of (head_of c)).args.task.now)
-below c = repairing_below (head_of c).loop.invariant.0 (less c) _ c.wide.ensures
+below : (c : tie.After-wide-i invariant-loop-c decreases-loop-c) → c.wide-i.result < actions (task_in c.args.task.now)
+below c = repairing_below c.loop-c.invariant.0 (less c) _ c.wide-i.ensures
 
 -- the whole list runs red-black
-whole-runs : (s : tie.Start invariant-loop decreases-loop) → let t = task_in s.args.task.now in T (runs (act t) (black t) (repaired t s.args.list.now) (initial t))
-whole-runs s =
+whole_runs : (s : tie.Start invariant-loop-c decreases-loop-c) → let t = task_in s.args.task.now in T (runs (act t) (black t) (repaired t s.args.list.now) (initial t))
+whole_runs s =
     let R = s.requires.0 in
     let P = R.prepared in
     let t = task_in s.args.task.now in
     (is_plan_elim t (black t) _ (repaired_is_plan t P.loaded.formed P.acyclic P.returns _ R.is_red_black_plan)).runs'
 
-needs-requires : tie.Need-needs-requires invariant-loop decreases-loop
-needs-requires c κs = c.before.before.before.before.before.requires.0.prepared.loaded
+needs-needs-requires : tie.Need-needs-needs-requires invariant-loop-c decreases-loop-c
+needs-needs-requires c κs = c.requires.0.prepared.loaded
 
-initial-requires : tie.Need-initial-requires invariant-loop decreases-loop
-initial-requires c κs = c.before.before.before.before.before.before.requires.0.prepared.loaded
+initial-s-requires : tie.Need-initial-s-requires invariant-loop-c decreases-loop-c
+initial-s-requires c κs = c.requires.0.prepared.loaded
 
-uncounted-requires : tie.Need-uncounted-requires invariant-loop decreases-loop
-uncounted-requires c κs = search rules
+uncounted-c-requires : tie.Need-uncounted-c-requires invariant-loop-c decreases-loop-c
+uncounted-c-requires c κs = search rules
 
-loop-holds : tie.Need-loop-init invariant-loop decreases-loop
-loop-holds c =
-    let i = c.before in
-    let e = i.initial.ensures in
-    let p = i.before.before.before.before.before.before.before.requires in
-    (rw c.uncounted.ensures (repairing_start _ _ _ _ _ _ _ (p.3 _) e.0 e.1 p.2), plain_none _ _ _ refl, refl)
+loop-c-init : tie.Need-loop-c-init invariant-loop-c decreases-loop-c
+loop-c-init c =
+    let e = c.initial-s.ensures in
+    let p = c.requires in
+    (rw c.uncounted-c.ensures (repairing_start _ _ _ _ _ _ _ (p.3 _) e.0 e.1 p.2), plain_none _ _ _ refl, refl)
 
-mul_left : tie.Need-overflow-mul-left invariant-loop decreases-loop
-mul_left c = omega (arith, here_of c, (start_of (head_in c)).good)
+offset_bounds-list-j : tie.Need-offset_bounds-list-j invariant-loop-c decreases-loop-c
+offset_bounds-list-j c = omega (arith, here_of c, c.well_formed)
 
-sub-left : tie.Need-overflow-sub-left invariant-loop decreases-loop
-sub-left c = omega (arith, here_of c)
+slice_bounds-left-count : tie.Need-slice_bounds-left-count invariant-loop-c decreases-loop-c
+slice_bounds-left-count c = omega (arith, here_of c)
 
-part-left-start : tie.Need-slice-bounds-left-start invariant-loop decreases-loop
-part-left-start c = omega (arith, here_of c)
+slice_bounds-left-start : tie.Need-slice_bounds-left-start invariant-loop-c decreases-loop-c
+slice_bounds-left-start c = omega (arith, here_of c)
 
-part-left-end : tie.Need-slice-bounds-left-end invariant-loop decreases-loop
-part-left-end c = omega (arith, here_of c)
+slice_bounds-left-end : tie.Need-slice_bounds-left-end invariant-loop-c decreases-loop-c
+slice_bounds-left-end c = omega (arith, here_of c)
 
-stage-requires : tie.Need-stage-requires invariant-loop decreases-loop
-stage-requires c κs =
-    let e = c.before.before.before.before.before.before in
-    let h = head_in e in
-    let p = (start_of h).pre in
-    let G = h.loop.inv.0 in
-    let entries = rest_entries (start_of h).args.list.now h.loop.j (here_of e) (task_in (start_of h).args.task.now) p.0.entries in
+stage-w-requires : tie.Need-stage-w-requires invariant-loop-c decreases-loop-c
+stage-w-requires c κs =
+    let p = c.requires in
+    let G = c.loop-c.invariant.0 in
+    let entries = rest_entries c.args.list.now c.loop-c.j (here_of c.before.before.before.before.before) (task_in c.args.task.now) p.0.entries in
     ((p.0.prepared, entries, repairing_within G, omega (arith, G.long, p.1)), G.rows)
 
-enum-known-w : tie.Need-enum-known-w invariant-loop decreases-loop
-enum-known-w c = search rules
+enum_known-w : tie.Need-enum_known-w invariant-loop-c decreases-loop-c
+enum_known-w c = search rules
 
-enum_told : tie.Need-enum-told invariant-loop decreases-loop
-enum_told c = search rules
+enum_told-1 : tie.Need-enum_told-1 invariant-loop-c decreases-loop-c
+enum_told-1 c = search rules
 
-too-long-requires : tie.Need-too-long-requires invariant-loop decreases-loop
-too-long-requires c κs =
-    let p = c.before.before.before in
-    let h = head_in (again-of (stage-of p)) in
-    omega (arith, p.plan.given, h.loop.inv.0.long, (start_of h).pre.1)
+too_long-requires : tie.Need-too_long-requires invariant-loop-c decreases-loop-c
+too_long-requires c κs =
+    omega (arith, c.plan-1.given, c.loop-c.invariant.0.long, c.requires.1)
 
-same_length : tie.Need-same-length invariant-loop decreases-loop
-same_length c =
-    let p = c.before.before.before.before in
-    p.plan.given ∙ (head_in (again-of (stage-of p))).loop.inv.0.long
+shape_of-plan-in_default : tie.Need-shape_of-plan-in_default invariant-loop-c decreases-loop-c
+shape_of-plan-in_default c =
+    c.plan-1.given ∙ c.loop-c.invariant.0.long
 
-same-length-2 : tie.Need-same-length-2 invariant-loop decreases-loop
-same-length-2 c =
-    let h = head_in (again-of (stage-of c.before.before.before.before)) in
-    h.loop.inv.0.even ∙ sym (start_of h).pre.2
+shape_of-marks-in_default : tie.Need-shape_of-marks-in_default invariant-loop-c decreases-loop-c
+shape_of-marks-in_default c =
+    c.loop-c.invariant.0.even ∙ sym c.requires.2
 
-same-length-3 : tie.Need-same-length-3 invariant-loop decreases-loop
-same-length-3 c =
-    let p = c.before.before.before.before in
-    p.before.before.memo.given ∙ (head_in (again-of (stage-of p))).loop.inv.2
+shape_of-memo-in_default : tie.Need-shape_of-memo-in_default invariant-loop-c decreases-loop-c
+shape_of-memo-in_default c =
+    c.memo-1.given ∙ c.loop-c.invariant.2
 
-returns : tie.Need-returns invariant-loop decreases-loop
-returns c =
-    let p = c.before.before.before.before in
-    let h = head_in (again-of (stage-of p)) in
-    held_long _ _ _ _ _ _ (c.too_long.ensures ∙ ap (refused 11) (p.plan.given ∙ h.loop.inv.0.long)) (repairing_long (arranged p) c.before.enum_told.given.1)
+returns-in_default : tie.Need-returns-in_default invariant-loop-c decreases-loop-c
+returns-in_default c =
+    held_long _ _ _ _ _ _ (c.too_long.ensures ∙ ap (refused 11) (c.plan-1.given ∙ c.loop-c.invariant.0.long)) (repairing_long (arranged c.before.before.before) c.in_default.is)
 
-mark-requires : tie.Need-mark-requires invariant-loop decreases-loop
+mark-requires : tie.Need-mark-requires invariant-loop-c decreases-loop-c
 mark-requires c κs =
-    let w = c.before.before in
-    let places = repairing_places (arranged (plan-of w)) _ _ w.w.given.1 in
+    let places = repairing_places (arranged c.before.before.before) _ _ c.in-Upto.is in
     (places.0, places.1, λ e. places.2 (ltb-true _ _ e))
 
-add-searched : tie.Need-overflow-add-searched invariant-loop decreases-loop
-add-searched c =
-    let w = marked-of c in
-    let p = plan-of w in
-    let s = start_of (head_in (again-of (stage-of p))) in
-    let R = arranged p in
-    omega (arith, repairing_modest R _ _ w.w.given.1 s.pre.0.prepared.loaded.formed, repairing_fits R _ _ w.w.given.1, R.here, s.pre.1)
+overflow_add-searched : tie.Need-overflow_add-searched invariant-loop-c decreases-loop-c
+overflow_add-searched c =
+    let R = arranged c.before.before.before.before.before.before in
+    omega (arith, repairing_modest R _ _ c.in-Upto.is c.requires.0.prepared.loaded.formed, repairing_fits R _ _ c.in-Upto.is, R.here, c.requires.1)
 
-add-j : tie.Need-overflow-add-j invariant-loop decreases-loop
-add-j c =
-    let e = again-of (stage-of (plan-of (marked-of c))) in
-    omega (arith, here_of e, (start_of (head_in e)).good)
+overflow_add-j : tie.Need-overflow_add-j invariant-loop-c decreases-loop-c
+overflow_add-j c =
+    omega (arith, here_of c.before.before.before.before.before.before.before.before.before.before.before.before.before.before.before, c.well_formed)
 
-loop-less : tie.Need-loop-smaller invariant-loop decreases-loop
-loop-less c =
-    let w = marked-of c in
-    let p = plan-of w in
-    stages_fewer _ _ _ _ _ _ (here_of (again-of (stage-of p))) (repairing_fits (arranged p) _ _ w.w.given.1)
+loop-c-smaller-then-c-at-2 : tie.Need-loop-c-smaller-then-c-at-2 invariant-loop-c decreases-loop-c
+loop-c-smaller-then-c-at-2 c =
+    stages_fewer _ _ _ _ _ _ (here_of c.before.before.before.before.before.before.before.before.before.before.before.before.before.before.before) (repairing_fits (arranged c.before.before.before.before.before.before) _ _ c.in-Upto.is)
 
-loop-again : tie.Need-loop-preserved invariant-loop decreases-loop
-loop-again c =
-    let w = marked-of c in
-    let p = plan-of w in
-    let d = stage-of p in
-    let e = again-of d in
-    let h = head_in e in
-    let a = start_of h in
-    let R = a.pre.0 in
-    let entries = rest_entries a.args.list.now h.loop.j (here_of e) (task_in a.args.task.now) R.entries in (
-      repairing_turn (arranged p) _ _ w.w.given.1 R.prepared.loaded.formed entries _ _ d.stage.ensures.1.0 c.before.marks.given c.before.before.mark.ensures,
-      h.loop.inv.1,
-      p.before.before.memo.given ∙ h.loop.inv.2,
+loop-c-preserved-then-c-at-2 : tie.Need-loop-c-preserved-then-c-at-2 invariant-loop-c decreases-loop-c
+loop-c-preserved-then-c-at-2 c =
+    let R = c.requires.0 in
+    let entries = rest_entries c.args.list.now c.loop-c.j (here_of c.before.before.before.before.before.before.before.before.before.before.before.before.before.before.before) (task_in c.args.task.now) R.entries in (
+      repairing_turn (arranged c.before.before.before.before.before.before) _ _ c.in-Upto.is R.prepared.loaded.formed entries _ _ c.stage-w.ensures.1.0 c.marks-1.given c.mark.ensures,
+      c.loop-c.invariant.1,
+      c.memo-1.given ∙ c.loop-c.invariant.2,
     )
 
-mul_wide : tie.Need-overflow-mul-wide invariant-loop decreases-loop
-mul_wide c =
-    let h = c.before.before.before.before in
-    let i = h.loop.invariant.0 in
-    omega (arith, c.if3.false, i.taken, i.within, (start_of h).well-formed)
+offset_bounds-plan-k : tie.Need-offset_bounds-plan-k invariant-loop-c decreases-loop-c
+offset_bounds-plan-k c =
+    let i = c.loop-c.invariant.0 in
+    omega (arith, c.if-c-at-2.false, i.taken, i.within, c.well_formed)
 
-slice-read-wide : tie.Need-slice-read-wide invariant-loop decreases-loop
-slice-read-wide c =
-    let e = c.before in
-    let i = e.before.before.before.before.loop.invariant.0 in
-    omega (arith, e.if3.false, i.taken, i.within, i.long)
+bounds-plan-k : tie.Need-bounds-plan-k invariant-loop-c decreases-loop-c
+bounds-plan-k c =
+    let i = c.loop-c.invariant.0 in
+    omega (arith, c.if-c-at-2.false, i.taken, i.within, i.long)
 
-wide-requires : tie.Need-wide-requires invariant-loop decreases-loop
-wide-requires c κs = search rules
+wide-i-requires : tie.Need-wide-i-requires invariant-loop-c decreases-loop-c
+wide-i-requires c κs = search rules
 
-effects-held-requires : tie.Need-effects-held-requires invariant-loop decreases-loop
-effects-held-requires c κs =
-    let w = c.before.before.before in
-    let h = head_of w in
-    ((start_of h).pre.0.prepared.loaded, below w, h.loop.inv.1)
+effects_held-requires : tie.Need-effects_held-requires invariant-loop-c decreases-loop-c
+effects_held-requires c κs =
+    (c.requires.0.prepared.loaded, below c.before.before, c.loop-c.invariant.1)
 
-glide-requires : tie.Need-glide-requires invariant-loop decreases-loop
-glide-requires c κs =
-    let w = wide_of c.before.before.before.before in
-    let h = head_of w in
-    let p = (start_of h).pre in
+glide-g-requires : tie.Need-glide-g-requires invariant-loop-c decreases-loop-c
+glide-g-requires c κs =
+    let p = c.requires in
     let L = p.0.prepared.loaded in
-    let G = h.loop.inv.0 in
-    (L, repairing_few G L.formed p.1, less w, omega (arith, G.within, p.1), repairing_within G, G.entries)
+    let G = c.loop-c.invariant.0 in
+    (L, repairing_few G L.formed p.1, less c.before.before.before.before.before.before, omega (arith, G.within, p.1), repairing_within G, G.entries)
 
-loop-less-2 : tie.Need-loop-smaller-2 invariant-loop decreases-loop
-loop-less-2 c =
-    let g = c.before.before in
-    let E = g.glide.ensures in
-    steps_fewer _ _ _ _ (less (wide_of (held_of g).before)) (omega (arith, E.onward.steps, E.more.steps))
+loop-c-smaller-then-effects_held : tie.Need-loop-c-smaller-then-effects_held invariant-loop-c decreases-loop-c
+loop-c-smaller-then-effects_held c =
+    let E = c.glide-g.ensures in
+    steps_fewer _ _ _ _ (less c.before.before.before.before.before.before.before.before.before) (omega (arith, E.onward.steps, E.more.steps))
 
-loop-again-2 : tie.Need-loop-preserved-2 invariant-loop decreases-loop
-loop-again-2 c =
-    let g = c.before.before in
-    let e = (held_of g).before in
-    let w = wide_of e in
-    let h = head_of w in
-    let s = start_of h in
-    let F = s.pre.0.prepared.loaded.formed in
-    let held = sym e.effects-held.ensures.0 ∙ (held_of g).if4.true in
-    let P = plain_held _ _ _ _ held e.effects-held.ensures.1 in
-    (repairing_glides F _ P (whole-runs s) h.loop.inv.0 (less w) _ w.wide.ensures held _ g.glide.ensures, P, h.loop.inv.2)
+loop-c-preserved-then-effects_held : tie.Need-loop-c-preserved-then-effects_held invariant-loop-c decreases-loop-c
+loop-c-preserved-then-effects_held c =
+    let F = c.requires.0.prepared.loaded.formed in
+    let held = sym c.effects_held.ensures.0 ∙ c.if-effects_held.true in
+    let P = plain_held _ _ _ _ held c.effects_held.ensures.1 in
+    (repairing_glides F _ P (whole_runs c.before.before.before.before.before.before.before.before.before.before.before.before.before.before.before.before.before.before.before.before.before.before.before.before) c.loop-c.invariant.0 (less c.before.before.before.before.before.before.before.before.before) _ c.wide-i.ensures held _ c.glide-g.ensures, P, c.loop-c.invariant.2)
 
-counted-requires : tie.Need-counted-requires invariant-loop decreases-loop
-counted-requires c κs =
-    let w = wide_of c.before.before.before in
-    let h = head_of w in
-    let p = (start_of h).pre in
+counted-c-requires : tie.Need-counted-c-requires invariant-loop-c decreases-loop-c
+counted-c-requires c κs =
+    let p = c.requires in
     let L = p.0.prepared.loaded in
-    (L, below w, repairing_small h.loop.inv.0 (less w) _ w.wide.ensures L.formed p.1)
+    (L, below c.before.before.before.before.before, repairing_small c.loop-c.invariant.0 (less c.before.before.before.before.before) _ c.wide-i.ensures L.formed p.1)
 
-refresh-requires : tie.Need-refresh-requires invariant-loop decreases-loop
+refresh-requires : tie.Need-refresh-requires invariant-loop-c decreases-loop-c
 refresh-requires c κs =
-    let w = wide_of (adds-of c.before.before.before) in
-    let h = head_of w in
-    (((start_of h).pre.0.prepared.loaded, below w, h.before.before.before.needs.ensures), h.loop.inv.0.rows)
+    ((c.requires.0.prepared.loaded, below c.before.before.before.before.before.before.before.before, c.needs-needs.ensures), c.loop-c.invariant.0.rows)
 
-step-requires : tie.Need-step-requires invariant-loop decreases-loop
-step-requires c κs = let w = wide_of (adds-of (counted_of c.before.before)) in ((start_of (head_of w)).pre.0.prepared.loaded, below w)
+step-s-requires : tie.Need-step-s-requires invariant-loop-c decreases-loop-c
+step-s-requires c κs = (c.requires.0.prepared.loaded, below c.before.before.before.before.before.before.before.before.before.before.before)
 
-loop-less-3 : tie.Need-loop-smaller-3 invariant-loop decreases-loop
-loop-less-3 c =
-    let k = counted_of c.before.before.before in
-    steps_fewer _ _ _ _ (less (wide_of (adds-of k))) (omega (arith, k.counted.ensures.steps))
+loop-c-smaller : tie.Need-loop-c-smaller invariant-loop-c decreases-loop-c
+loop-c-smaller c =
+    steps_fewer _ _ _ _ (less c.before.before.before.before.before.before.before.before.before.before.before.before) (omega (arith, c.counted-c.ensures.steps))
 
-loop-again-3 : tie.Need-loop-preserved-3 invariant-loop decreases-loop
-loop-again-3 c =
-    let r = c.before.before.before in
-    let k = counted_of r in
-    let e = adds-of k in
-    let w = wide_of e in
-    let h = head_of w in
-    let now = c.step.ensures.0 in (
-      repairing_step h.loop.inv.0 (less w) _ w.wide.ensures (start_of h).pre.0.prepared.loaded.formed _ _ _ _
-          (rw now r.refresh.ensures) now k.counted.ensures c.step.ensures.1,
-      rw now e.effects-held.ensures.1,
-      c.before.before.memo2.given ∙ h.loop.inv.2,
+loop-c-preserved : tie.Need-loop-c-preserved invariant-loop-c decreases-loop-c
+loop-c-preserved c =
+    let now = c.step-s.ensures.0 in (
+      repairing_step c.loop-c.invariant.0 (less c.before.before.before.before.before.before.before.before.before.before.before.before) _ c.wide-i.ensures c.requires.0.prepared.loaded.formed _ _ _ _
+          (rw now c.refresh.ensures) now c.counted-c.ensures c.step-s.ensures.1,
+      rw now c.effects_held.ensures.1,
+      c.memo-in-loop-c-1.given ∙ c.loop-c.invariant.2,
     )
 
 -- in the end every step is taken, and every stage placed
-ended : (e : tie.Else2 invariant-loop decreases-loop) → let h = e.before.before.before in let l = h.loop in (l.c.steps ≡ l.at) × (length (start_of h).args.list.now < l.j)
+ended : (e : tie.Else-j-list invariant-loop-c decreases-loop-c) → let l = e.loop-c in (l.c.steps ≡ l.at) × (length e.args.list.now < l.j)
 ended e =
-    let h = e.before.before.before in
-    (omega (arith, e.before.if1.false, h.loop.invariant.0.taken), leb-false _ _ e.if2.false)
+    (omega (arith, e.if-c-at.false, e.loop-c.invariant.0.taken), e.if-j-list.false)
 
-verdict-requires : tie.Need-verdict-requires invariant-loop decreases-loop
+verdict-requires : tie.Need-verdict-requires invariant-loop-c decreases-loop-c
 verdict-requires c κs =
-    let h = c.before.before.before.before.before in
-    let p = (start_of h).requires in
+    let p = c.requires in
     let L = p.0.prepared.loaded in
-    (L, repairing_few h.loop.invariant.0 L.formed p.1, repairing_searches h.loop.invariant.0 p.1)
+    (L, repairing_few c.loop-c.invariant.0 L.formed p.1, repairing_searches c.loop-c.invariant.0 p.1)
 
-same-length-4 : tie.Need-same-length-4 invariant-loop decreases-loop
-same-length-4 c = c.before.before.before.before.before.before.loop.invariant.0.long
+shape_of-plan : tie.Need-shape_of-plan invariant-loop-c decreases-loop-c
+shape_of-plan c = c.loop-c.invariant.0.long
 
-same-length-5 : tie.Need-same-length-5 invariant-loop decreases-loop
-same-length-5 c =
-    let h = c.before.before.before.before.before.before in
-    h.loop.invariant.0.even ∙ sym (start_of h).requires.2
+shape_of-marks : tie.Need-shape_of-marks invariant-loop-c decreases-loop-c
+shape_of-marks c =
+    c.loop-c.invariant.0.even ∙ sym c.requires.2
 
-same-length-6 : tie.Need-same-length-6 invariant-loop decreases-loop
-same-length-6 c = c.before.before.before.before.before.before.loop.invariant.2
+shape_of-memo : tie.Need-shape_of-memo invariant-loop-c decreases-loop-c
+shape_of-memo c = c.loop-c.invariant.2
 
-returns-2 : tie.Need-returns-2 invariant-loop decreases-loop
-returns-2 c =
-    let e = c.before.before.before in
-    let h = e.before.before.before in
-    let z = ended e in
-    repairing_held h.loop.invariant.0 (start_of h).requires.0.prepared.loaded.formed z.0 z.1 _ c.verdict.ensures
+returns : tie.Need-returns invariant-loop-c decreases-loop-c
+returns c =
+    let z = ended c.before.before in
+    repairing_held c.loop-c.invariant.0 c.requires.0.prepared.loaded.formed z.0 z.1 _ c.verdict.ensures
 
-pub walk-spec : {M : Type 1} → statement M
-walk-spec =
-    tie.close
-    (tie.spec
-    invariant-loop
-    decreases-loop
-    needs-requires
-    initial-requires
-    uncounted-requires
-    loop-holds
-    mul_left
-    sub-left
-    part-left-start
-    part-left-end
-    stage-requires
-    enum-known-w
-    enum_told
-    too-long-requires
-    same_length
-    same-length-2
-    same-length-3
-    returns
-    mark-requires
-    add-searched
-    add-j
-    loop-less
-    loop-again
-    mul_wide
-    slice-read-wide
-    wide-requires
-    effects-held-requires
-    glide-requires
-    loop-less-2
-    loop-again-2
-    counted-requires
-    refresh-requires
-    step-requires
-    loop-less-3
-    loop-again-3
-    verdict-requires
-    same-length-4
-    same-length-5
-    same-length-6
-    returns-2)
+pub walk_spec : {M : Type 1} → statement M
+walk_spec = tie.close (tie.spec invariant-loop-c decreases-loop-c needs-needs-requires initial-s-requires uncounted-c-requires loop-c-init offset_bounds-list-j slice_bounds-left-count slice_bounds-left-start slice_bounds-left-end stage-w-requires enum_known-w enum_told-1 too_long-requires shape_of-plan-in_default shape_of-marks-in_default shape_of-memo-in_default returns-in_default mark-requires overflow_add-searched overflow_add-j loop-c-smaller-then-c-at-2 loop-c-preserved-then-c-at-2 offset_bounds-plan-k bounds-plan-k wide-i-requires effects_held-requires glide-g-requires loop-c-smaller-then-effects_held loop-c-preserved-then-effects_held counted-c-requires refresh-requires step-s-requires loop-c-smaller loop-c-preserved verdict-requires shape_of-plan shape_of-marks shape_of-memo returns)

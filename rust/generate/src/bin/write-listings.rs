@@ -1,5 +1,5 @@
-//! Writes the records that the listing program is run on, and their listings, into the folder named:
-//! `cargo run -p generate --bin write-listings generate/listings`.
+//! Writes `stdin` and `stdout` of the program `crates/listings` into the folder named:
+//! `cargo run -p generate --bin write-listings ../crates/listings`.
 
 use generate::listings;
 use std::fs;
@@ -11,6 +11,6 @@ fn main() -> std::io::Result<()> {
         std::process::exit(2);
     };
     let records = listings::records();
-    fs::write(folder.join("records"), listings::stored(&records))?;
-    fs::write(folder.join("listings.txt"), listings::texts(&records))
+    fs::write(folder.join("stdin"), listings::stored(&records))?;
+    fs::write(folder.join("stdout"), listings::texts(&records))
 }

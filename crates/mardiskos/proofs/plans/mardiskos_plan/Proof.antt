@@ -20,34 +20,32 @@ plan-requires c κs = search rules
 flat-requires : tie.Need-flat-requires
 flat-requires c κs = search rules
 
-same_length : tie.Need-same-length
-same_length c = search rules
+shape_of-plan : tie.Need-shape_of-plan
+shape_of-plan c = search rules
 
-same-length-2 : tie.Need-same-length-2
-same-length-2 c = search rules
+shape_of-work : tie.Need-shape_of-work
+shape_of-work c = search rules
 
-same-length-3 : tie.Need-same-length-3
-same-length-3 c = search rules
+shape_of-marks : tie.Need-shape_of-marks
+shape_of-marks c = search rules
 
 returns : tie.Need-returns
 returns c =
-    let at-plan = c.before.before.before.before.before.before.before in
-    let a = (start_of at-plan).args in
+    let a = c.args in
     let s = a.bytes.now in
     let k = relaxed_plan (task_of s) in
     let n = length a.plan.now in
     let w = length a.work.now in
     let m = length a.marks.now in
-    let E = at-plan.plan.ensures in
-    let l = at-plan.plan.new.1.0 in
-    let ms = at-plan.plan.new.1.1.1.0 in
-    let R = plan_read s n w m (answer_of at-plan.plan.result) c.flat.result E.0 c.flat.ensures in
+    let E = c.plan.ensures in
+    let l = c.plan.new.plan in
+    let ms = c.plan.new.marks in
+    let R = plan_read s n w m (answer_of c.plan.result) c.flat.result E.0 c.flat.ensures in
     let told = E.1.1.1.1 in
     let complete = subst (λ x. Demand3 s n w m x (plan_in x l)) R.1 told.0 in
     let bounded = subst (λ x. Bounded s k x (plan_in x l)) R.1 told.1.0 in
     let recovers = subst (λ x. Recovers s k x (plan_in x l) (marks_in x ms)) R.1 told.1.1.1 in
     (R.0, (E.1.0, (E.1.1.0, (E.1.1.1.0, (complete, (bounded, (subst (Ceiling s k) R.1 told.1.1.0, recovers)))))))
 
-pub mardiskos-plan-spec : {M : Type 1} → statement M
-mardiskos-plan-spec =
-    tie.close (tie.spec plan-requires flat-requires same_length same-length-2 same-length-3 returns)
+pub mardiskos_plan_spec : {M : Type 1} → statement M
+mardiskos_plan_spec = tie.close (tie.spec plan-requires flat-requires shape_of-plan shape_of-work shape_of-marks returns)

@@ -4,22 +4,22 @@ use borrow.Author.Rules.{rules}
 use Rattle.mardiskos.proofs.runs.found_code.Statement.{statement}
 use Rattle.mardiskos.proofs.runs.found_code.Tie as tie
 
-enum-known-a : tie.Need-enum-known-a
-enum-known-a c = search rules
+enum_known-a : tie.Need-enum_known-a
+enum_known-a c = search rules
 
-enum_told : tie.Need-enum-told
-enum_told c = search rules
+enum_told-1 : tie.Need-enum_told-1
+enum_told-1 c = search rules
+
+returns-in_default : tie.Need-returns-in_default
+unfolding code
+returns-in_default c = rw c.in_default.is refl
+
+code_of-requires : tie.Need-code_of-requires
+code_of-requires c κs = search rules
 
 returns : tie.Need-returns
 unfolding code
-returns c = rw c.enum_told.given.1 refl
+returns c = rw c.in-Refused.is c.code_of.ensures
 
-code-of-requires : tie.Need-code-of-requires
-code-of-requires c κs = search rules
-
-returns-2 : tie.Need-returns-2
-unfolding code
-returns-2 c = rw c.before.before.a.given.1 c.code_of_lem.ensures
-
-pub found-code-spec : {M : Type 1} → statement M
-found-code-spec = tie.close (tie.spec enum-known-a enum_told returns code-of-requires returns-2)
+pub found_code_spec : {M : Type 1} → statement M
+found_code_spec = tie.close (tie.spec enum_known-a enum_told-1 returns-in_default code_of-requires returns)

@@ -6,40 +6,30 @@ use borrow.Author.Rules.{rules}
 use Rattle.mardiskos.proofs.runs.mardiskos_newest.Statement.{statement}
 use Rattle.mardiskos.proofs.runs.mardiskos_newest.Tie as tie
 
-newest-requires : tie.Need-newest-requires
-newest-requires c κs = search rules
+newest-a-requires : tie.Need-newest-a-requires
+newest-a-requires c κs = search rules
 
-enum-known-a : tie.Need-enum-known-a
-enum-known-a c = search rules
+enum_known-a : tie.Need-enum_known-a
+enum_known-a c = search rules
 
-enum_told : tie.Need-enum-told
-enum_told c = search rules
+enum_told-1 : tie.Need-enum_told-1
+enum_told-1 c = search rules
 
-progress-code-requires : tie.Need-progress-code-requires
-progress-code-requires c κs = search rules
+progress_code-requires : tie.Need-progress_code-requires
+progress_code-requires c κs = search rules
 
-same_length : tie.Need-same-length
-same_length c = search rules
+shape_of-values-in_default : tie.Need-shape_of-values-in_default
+shape_of-values-in_default c = search rules
+
+returns-in_default : tie.Need-returns-in_default
+unfolding code
+returns-in_default c = let z = c.newest-a.ensures in (rw (← z.0, c.progress_code.ensures, c.in_default.is) refl, z.1)
+
+shape_of-values : tie.Need-shape_of-values
+shape_of-values c = search rules
 
 returns : tie.Need-returns
-unfolding code
-returns c = let z = c.before.before.before.before.before.newest.ensures in (rw (← z.0, c.progress-code.ensures, c.before.enum_told.given.1) refl, z.1)
+returns c = let z = c.newest-a.ensures in (ap (λ x. newest_values_of (answer_of x)) (sym c.in-Run.is) ∙ ap newest_values_of z.0, z.1)
 
-same-length-2 : tie.Need-same-length-2
-same-length-2 c = search rules
-
-returns-2 : tie.Need-returns-2
-returns-2 c = let z = c.before.before.before.before.before.newest.ensures in (ap (λ x. newest_values_of (answer_of x)) (sym c.before.a.given.1) ∙ ap newest_values_of z.0, z.1)
-
-pub mardiskos-newest-spec : {M : Type 1} → statement M
-mardiskos-newest-spec =
-    tie.close
-    (tie.spec
-    newest-requires
-    enum-known-a
-    enum_told
-    progress-code-requires
-    same_length
-    returns
-    same-length-2
-    returns-2)
+pub mardiskos_newest_spec : {M : Type 1} → statement M
+mardiskos_newest_spec = tie.close (tie.spec newest-a-requires enum_known-a enum_told-1 progress_code-requires shape_of-values-in_default returns-in_default shape_of-values returns)

@@ -9,60 +9,47 @@ use borrow.Author.Rules.{rules}
 use Rattle.mardiskos.proofs.sheets.mardiskos_read_sheet.Statement.{statement}
 use Rattle.mardiskos.proofs.sheets.mardiskos_read_sheet.Tie as tie
 
-read-requires : tie.Need-read-requires
-read-requires c κs = search rules
+read-a-requires : tie.Need-read-a-requires
+read-a-requires c κs = search rules
 
-enum-known-a : tie.Need-enum-known-a
-enum-known-a c = search rules
+enum_known-a : tie.Need-enum_known-a
+enum_known-a c = search rules
 
-enum_told : tie.Need-enum-told
-enum_told c = search rules
+enum_told-1 : tie.Need-enum_told-1
+enum_told-1 c = search rules
 
-reading-code-requires : tie.Need-reading-code-requires
-reading-code-requires c κs = search rules
+reading_code-requires : tie.Need-reading_code-requires
+reading_code-requires c κs = search rules
 
-same_length : tie.Need-same-length
-same_length c = search rules
+shape_of-list-in_default : tie.Need-shape_of-list-in_default
+shape_of-list-in_default c = search rules
 
-same-length-2 : tie.Need-same-length-2
-same-length-2 c = search rules
+shape_of-marks-in_default : tie.Need-shape_of-marks-in_default
+shape_of-marks-in_default c = search rules
 
-returns : tie.Need-returns
+returns-in_default : tie.Need-returns-in_default
 unfolding code reading_as
-returns c =
-    let at_read = c.before.before.before.before.before.before.before in
-    let o = at_read.before.before.before.before.before.before.args in
-    let w = at_read.read.ensures in
-    let t = sym w.0 ∙ ap reading_as c.before.enum_told.given.1 in
-    let v = c.reading-code.ensures ∙ ap code w.0 in (
-      rw (← w.0, c.reading-code.ensures, c.before.enum_told.given.1) refl,
+returns-in_default c =
+    let o = c.args in
+    let w = c.read-a.ensures in
+    let t = sym w.0 ∙ ap reading_as c.in_default.is in
+    let v = c.reading_code.ensures ∙ ap code w.0 in (
+      rw (← w.0, c.reading_code.ensures, c.in_default.is) refl,
       (w.1.0, (w.1.1.0, λ z. absurd (reading_zero o.bytes.now (length o.list.now) (length o.marks.now) _ _ _ t v z))),
     )
 
-same-length-3 : tie.Need-same-length-3
-same-length-3 c = search rules
+shape_of-list : tie.Need-shape_of-list
+shape_of-list c = search rules
 
-same-length-4 : tie.Need-same-length-4
-same-length-4 c = search rules
+shape_of-marks : tie.Need-shape_of-marks
+shape_of-marks c = search rules
 
-returns-2 : tie.Need-returns-2
+returns : tie.Need-returns
 unfolding reading_as
-returns-2 c =
-    let w = c.before.before.before.before.before.before.before.read.ensures in
-    let e = ap reading_as c.before.a.given.1 in
+returns c =
+    let w = c.read-a.ensures in
+    let e = ap reading_as c.in-Plan.is in
     (ap sheet_read_of (sym e ∙ w.0), (w.1.0, (w.1.1.0, λ _. w.1.1.1 _ e)))
 
-pub mardiskos-read-sheet-spec : {M : Type 1} → statement M
-mardiskos-read-sheet-spec =
-    tie.close
-    (tie.spec
-    read-requires
-    enum-known-a
-    enum_told
-    reading-code-requires
-    same_length
-    same-length-2
-    returns
-    same-length-3
-    same-length-4
-    returns-2)
+pub mardiskos_read_sheet_spec : {M : Type 1} → statement M
+mardiskos_read_sheet_spec = tie.close (tie.spec read-a-requires enum_known-a enum_told-1 reading_code-requires shape_of-list-in_default shape_of-marks-in_default returns-in_default shape_of-list shape_of-marks returns)

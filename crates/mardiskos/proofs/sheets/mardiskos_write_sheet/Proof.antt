@@ -10,50 +10,39 @@ use borrow.Author.Rules.{rules}
 use Rattle.mardiskos.proofs.sheets.mardiskos_write_sheet.Statement.{statement}
 use Rattle.mardiskos.proofs.sheets.mardiskos_write_sheet.Tie as tie
 
-write-requires : tie.Need-write-requires
-write-requires c κs = search rules
+write-a-requires : tie.Need-write-a-requires
+write-a-requires c κs = search rules
 
-enum-known-a : tie.Need-enum-known-a
-enum-known-a c = search rules
+enum_known-a : tie.Need-enum_known-a
+enum_known-a c = search rules
 
-enum_told : tie.Need-enum-told
-enum_told c = search rules
+enum_told-1 : tie.Need-enum_told-1
+enum_told-1 c = search rules
 
-number-code-requires : tie.Need-number-code-requires
-number-code-requires c κs = search rules
+number_code-requires : tie.Need-number_code-requires
+number_code-requires c κs = search rules
 
-same_length : tie.Need-same-length
-same_length c = search rules
+shape_of-bytes-in_default : tie.Need-shape_of-bytes-in_default
+shape_of-bytes-in_default c = search rules
 
-returns : tie.Need-returns
+returns-in_default : tie.Need-returns-in_default
 unfolding size_in
-returns c =
-    let at-write = c.before.before.before.before.before in
-    let o = at-write.before.before.before.before.before.args in
-    let w = at-write.write.ensures in
-    let t = sym w.0 ∙ ap value_of c.before.enum_told.given.1 in
-    let v = c.number-code.ensures ∙ ap code w.0 in
+returns-in_default c =
+    let o = c.args in
+    let w = c.write-a.ensures in
+    let t = sym w.0 ∙ ap value_of c.in_default.is in
+    let v = c.number_code.ensures ∙ ap code w.0 in
     (v, (sym (ap size_in t), (w.1.0, λ z. absurd (written_zero (sheet o.edition o.list.now o.marks.now o.cost o.real) (length o.bytes.now) _ _ _ t v z))))
 
-same-length-2 : tie.Need-same-length-2
-same-length-2 c = search rules
+shape_of-bytes : tie.Need-shape_of-bytes
+shape_of-bytes c = search rules
 
-returns-2 : tie.Need-returns-2
+returns : tie.Need-returns
 unfolding size_in code
-returns-2 c =
-    let w = c.before.before.before.before.before.write.ensures in
-    let t = sym w.0 ∙ ap value_of c.before.a.given.1 in
-    (sym (ap code t), (sym (ap size_in t), (w.1.0, λ _. w.1.1 _ (ap value_of c.before.a.given.1))))
+returns c =
+    let w = c.write-a.ensures in
+    let t = sym w.0 ∙ ap value_of c.in-Value.is in
+    (sym (ap code t), (sym (ap size_in t), (w.1.0, λ _. w.1.1 _ (ap value_of c.in-Value.is))))
 
-pub mardiskos-write-sheet-spec : {M : Type 1} → statement M
-mardiskos-write-sheet-spec =
-    tie.close
-    (tie.spec
-    write-requires
-    enum-known-a
-    enum_told
-    number-code-requires
-    same_length
-    returns
-    same-length-2
-    returns-2)
+pub mardiskos_write_sheet_spec : {M : Type 1} → statement M
+mardiskos_write_sheet_spec = tie.close (tie.spec write-a-requires enum_known-a enum_told-1 number_code-requires shape_of-bytes-in_default returns-in_default shape_of-bytes returns)
