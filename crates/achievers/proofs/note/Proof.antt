@@ -19,9 +19,6 @@ invariant-loop-k task i first₀ to k₀ first k = (to ≡ end_at task i) × Not
 abbrev decreases-loop-k : tie.decreases-loop-k
 decreases-loop-k task i first₀ to k₀ first k = to - k
 
-abbrev start : tie.At-loop-k invariant-loop-k decreases-loop-k → tie.Start invariant-loop-k decreases-loop-k
-start c = c.before.before.before.before
-
 listed : (c : tie.At-loop-k invariant-loop-k decreases-loop-k) → Listed c.args.task.now c.args.i
 listed c = loaded_listed _ c.requires.0 _ c.requires.1
 

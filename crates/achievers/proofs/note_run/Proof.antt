@@ -17,9 +17,6 @@ invariant-loop-k task run n first₀ k₀ first k = (k ≤ n) × (length first �
 abbrev decreases-loop-k : tie.decreases-loop-k
 decreases-loop-k task run n first₀ k₀ first k = k
 
-abbrev start : tie.At-loop-k invariant-loop-k decreases-loop-k → tie.Start invariant-loop-k decreases-loop-k
-start c = c.before.before
-
 -- the place that a turn looks at is within the run
 within : (c : tie.In-loop-k invariant-loop-k decreases-loop-k) → c.loop-k.k - 1 < c.args.n
 within c = omega (arith, c.loop-k.invariant.0)

@@ -16,9 +16,6 @@ invariant-loop-v task first₀ n v₀ first v = (n ≡ variables (task_in task))
 abbrev decreases-loop-v : tie.decreases-loop-v
 decreases-loop-v task first₀ n v₀ first v = n - v
 
-abbrev start : tie.At-loop-v invariant-loop-v decreases-loop-v → tie.Start invariant-loop-v decreases-loop-v
-start c = c.before.before.before
-
 formed : (c : tie.At-loop-v invariant-loop-v decreases-loop-v) → Formed (task_in c.args.task.now)
 formed c = c.requires.0.formed
 

@@ -30,10 +30,6 @@ module _ (c : tie.In-loop-k invariant-loop-k decreases-loop-k) where
   below : entry < actions (task_in (start_of c).args.task.now)
   below = (start_of c).requires.0.entries c.loop-k.k (omega arith)
 
--- the turn in which the action was tested
-abbrev turn_of : tie.After-applies invariant-loop-k decreases-loop-k → tie.In-loop-k invariant-loop-k decreases-loop-k
-turn_of c = c.before.before.before
-
 loop-k-init : tie.Need-loop-k-init invariant-loop-k decreases-loop-k
 loop-k-init c = going_at _ _ _ _ _ c.requires.1.runs c.requires.1.held
 

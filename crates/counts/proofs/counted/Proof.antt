@@ -9,9 +9,6 @@ use Rattle.task.proofs.Reading.{task_in_act}
 use Rattle.counts.proofs.counted.Statement.{statement}
 use Rattle.counts.proofs.counted.Tie as tie
 
-abbrev start_of : tie.After-cost → tie.Start
-start_of c = c.before.before.before.before
-
 cost_is : (c : tie.After-cost) → c.cost.result ≡ (act (task_in c.args.task.now) c.args.i).cost
 unfolding action_in
 cost_is c = c.cost.ensures ∙ ap (λ (a : Action). a.cost) (sym (task_in_act c.args.task.now c.args.i c.requires.1))

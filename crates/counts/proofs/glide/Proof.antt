@@ -23,19 +23,6 @@ invariant-loop-r task plan to plain k i₀ r₀ now₀ i r now = Gliding (task_i
 abbrev decreases-loop-r : tie.decreases-loop-r
 decreases-loop-r task plan to plain k i₀ r₀ now₀ i r now = to - r.steps
 
--- the points of a turn, from the last to the first
-abbrev first_of : tie.After-counted-r invariant-loop-r decreases-loop-r → tie.After-wide-i invariant-loop-r decreases-loop-r
-first_of c = c.before.before
-
-abbrev begin_of : tie.After-wide-i invariant-loop-r decreases-loop-r → tie.Start invariant-loop-r decreases-loop-r
-begin_of c = c.before.before.before.before
-
-abbrev start_of : tie.At-loop-r invariant-loop-r decreases-loop-r → tie.Start invariant-loop-r decreases-loop-r
-start_of c = c.before.before.before.before.before.before.before.before
-
-abbrev head_of : tie.After-wide-i-in-loop-r invariant-loop-r decreases-loop-r → tie.At-loop-r invariant-loop-r decreases-loop-r
-head_of c = c.before.before.before.before
-
 -- an entry of the part that is gone along
 below : (s : tie.Start invariant-loop-r decreases-loop-r) (k i : ℕ) → k < s.args.to → i ≡ get_or s.args.plan.now k 0 → i < actions (task_in s.args.task.now)
 below s k i b e =
@@ -90,9 +77,6 @@ passed-r-requires c κs =
 
 step-now-requires-in-loop-r : tie.Need-step-now-requires-in-loop-r invariant-loop-r decreases-loop-r
 step-now-requires-in-loop-r c κs = (c.requires.0, below_next c.before.before.before)
-
-abbrev wide_of : tie.After-passed-r invariant-loop-r decreases-loop-r → tie.After-wide-i-in-loop-r invariant-loop-r decreases-loop-r
-wide_of c = c.before.before.before
 
 loop-r-smaller : tie.Need-loop-r-smaller invariant-loop-r decreases-loop-r
 loop-r-smaller c =

@@ -14,12 +14,6 @@ use Rattle.counts.proofs.passed.Statement.{statement}
 use Rattle.counts.proofs.passed.Tie as tie
 use Rattle.counts.proofs.passed.Lts.{then-runs-c, else-runs-c}
 
-abbrev joined_of : tie.After-cost → tie.Joined-runs-c
-joined_of c = c.before.before
-
-abbrev start_of : tie.After-cost → tie.Start
-start_of c = c.before.before.before.before.before
-
 cost_is : (c : tie.After-cost) → c.cost.result ≡ (act (task_in c.args.task.now) c.args.i).cost
 unfolding action_in
 cost_is c = c.cost.ensures ∙ ap (λ (a : Action). a.cost) (sym (task_in_act c.args.task.now c.args.i c.requires.1))

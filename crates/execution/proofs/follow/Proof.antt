@@ -24,19 +24,12 @@ invariant-loop-k task list paint s₀ known₀ k₀ runs₀ s known k runs =
 abbrev decreases-loop-k : tie.decreases-loop-k
 decreases-loop-k task list paint s₀ known₀ k₀ runs₀ s known k runs = length list - k
 
-abbrev start_of : tie.In-loop-k invariant-loop-k decreases-loop-k → tie.Start invariant-loop-k decreases-loop-k
-start_of c = c.before.before.before.before.before.before
-
 module _ (c : tie.In-loop-k invariant-loop-k decreases-loop-k) where
   abbrev entry : ℕ
   entry = get_or c.args.list.now c.loop-k.k 0
 
   below : entry < actions (task_in c.args.task.now)
   below = c.requires.entries c.loop-k.k (omega arith)
-
--- the turn in which the action was counted
-abbrev turn_of : tie.After-further-runs invariant-loop-k decreases-loop-k → tie.In-loop-k invariant-loop-k decreases-loop-k
-turn_of c = c.before.before.before
 
 -- the action applies to the state shown by a painting
 module _ (c : tie.In-loop-k invariant-loop-k decreases-loop-k) where

@@ -19,24 +19,6 @@ invariant-loop-k task first n facts count run wanted₀ k₀ m₀ kept wanted k 
 abbrev decreases-loop-k : tie.decreases-loop-k
 decreases-loop-k task first n facts count run wanted₀ k₀ m₀ kept wanted k m = k
 
-abbrev want_to_start : tie.After-want invariant-loop-k decreases-loop-k → tie.Start invariant-loop-k decreases-loop-k
-want_to_start c = c.before.before.before.before
-
-abbrev start : tie.In-loop-k invariant-loop-k decreases-loop-k → tie.Start invariant-loop-k decreases-loop-k
-start c = c.before.before.before.before.before.before
-
-abbrev wide_to_turn : tie.After-wide invariant-loop-k decreases-loop-k → tie.In-loop-k invariant-loop-k decreases-loop-k
-wide_to_turn c = c.before.before.before.before
-
-abbrev tested_to_turn : tie.After-is_listed invariant-loop-k decreases-loop-k → tie.In-loop-k invariant-loop-k decreases-loop-k
-tested_to_turn c = c.before.before.before.before.before
-
-abbrev then1_to_turn : tie.Then-is_listed invariant-loop-k decreases-loop-k → tie.In-loop-k invariant-loop-k decreases-loop-k
-then1_to_turn c = c.before.before.before.before.before.before
-
-abbrev wide2_to_then1 : tie.After-wide-then-is_listed invariant-loop-k decreases-loop-k → tie.Then-is_listed invariant-loop-k decreases-loop-k
-wide2_to_then1 c = c.before.before
-
 -- the entry that a turn looks at, and what is kept behind it
 within : (c : tie.In-loop-k invariant-loop-k decreases-loop-k) → c.loop-k.k - 1 < c.args.n
 within c = omega (arith, c.loop-k.invariant.within)

@@ -7,13 +7,6 @@ use borrow.Author.Rules.{rules}
 use Rattle.forward.proofs.forward_in.Statement.{statement}
 use Rattle.forward.proofs.forward_in.Tie as tie
 
--- the points of the code, from the last to the first
-abbrev start_of : tie.After-read-c → tie.Start
-start_of c = c.before.before.before.before.before
-
-abbrev read_of : tie.In_default → tie.After-read-c
-read_of c = c.before.before.before
-
 read-c-requires : tie.Need-read-c-requires
 read-c-requires c κs = search rules
 

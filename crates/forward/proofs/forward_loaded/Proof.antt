@@ -11,15 +11,6 @@ use borrow.Author.Rules.{rules}
 use Rattle.forward.proofs.forward_loaded.Statement.{statement}
 use Rattle.forward.proofs.forward_loaded.Tie as tie
 
-abbrev run_to_start : tie.After-run_forward-ran → tie.Start
-run_to_start c = c.before.before.before.before
-
-abbrev reached_to_run : tie.After-reached-reached → tie.After-run_forward-ran
-reached_to_run c = c.before.before
-
-abbrev else1_to_reached : tie.Else-not-ran → tie.After-reached-reached
-else1_to_reached c = c.before.before
-
 run_forward-ran-requires : tie.Need-run_forward-ran-requires
 run_forward-ran-requires c κs = search rules
 

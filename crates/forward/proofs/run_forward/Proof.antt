@@ -4,10 +4,6 @@ use Rattle.waiting.proofs.Chains.{free_new}
 use Rattle.forward.proofs.run_forward.Statement.{statement}
 use Rattle.forward.proofs.run_forward.Tie as tie
 
--- the point of the code behind the number of variables
-abbrev start : tie.After-variables → tie.Start
-start c = c.before.before.before.before
-
 by_cost-requires : tie.Need-by_cost-requires
 by_cost-requires c κs = search rules
 

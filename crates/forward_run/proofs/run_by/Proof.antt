@@ -24,46 +24,6 @@ abbrev decreases-loop-g : tie.decreases-loop-g
 decreases-loop-g task order work₀ plan₀ goals count s₀ ready₀ steps₀ g₀ from₀ to₀ work plan s ready steps g from to =
     left task s.sets ready from to
 
--- the points of the code, from the last to the first
-abbrev initial_to_start : tie.After-initial-s invariant-loop-g decreases-loop-g → tie.Start invariant-loop-g decreases-loop-g
-initial_to_start c = c.before.before.before.before
-
-abbrev ready_to_initial : tie.After-ready-1 invariant-loop-g decreases-loop-g → tie.After-initial-s invariant-loop-g decreases-loop-g
-ready_to_initial c = c.before.before.before
-
-abbrev settle_each_to_initial : tie.After-settle_each invariant-loop-g decreases-loop-g → tie.After-initial-s invariant-loop-g decreases-loop-g
-settle_each_to_initial c = c.before.before.before.before
-
-abbrev start : tie.At-loop-g invariant-loop-g decreases-loop-g → tie.Start invariant-loop-g decreases-loop-g
-start c = c.before.before.before.before.before.before.before.before.before.before.before
-
-abbrev wake_to_head : tie.After-wake invariant-loop-g decreases-loop-g → tie.At-loop-g invariant-loop-g decreases-loop-g
-wake_to_head c = c.before.before.before.before
-
-abbrev unmet_to_work2 : tie.After-unmet-g invariant-loop-g decreases-loop-g → tie.After-work-in-loop-g-1 invariant-loop-g decreases-loop-g
-unmet_to_work2 c = c.before.before.before.before.before
-
-abbrev unmet_to_wake : tie.After-unmet-g invariant-loop-g decreases-loop-g → tie.After-wake invariant-loop-g decreases-loop-g
-unmet_to_wake c = c.before.before.before.before.before.before
-
-abbrev lowest_to_unmet : tie.After-lowest-rank invariant-loop-g decreases-loop-g → tie.After-unmet-g invariant-loop-g decreases-loop-g
-lowest_to_unmet c = c.before.before
-
-abbrev unmark_to_lowest : tie.After-unmark invariant-loop-g decreases-loop-g → tie.After-lowest-rank invariant-loop-g decreases-loop-g
-unmark_to_lowest c = c.before.before.before.before
-
-abbrev wide_to_unmark : tie.After-wide-i invariant-loop-g decreases-loop-g → tie.After-unmark invariant-loop-g decreases-loop-g
-wide_to_unmark c = c.before.before.before
-
-abbrev tested_to_wide : tie.After-has_effects invariant-loop-g decreases-loop-g → tie.After-wide-i invariant-loop-g decreases-loop-g
-tested_to_wide c = c.before.before
-
-abbrev unmark_to_head : tie.After-unmark invariant-loop-g decreases-loop-g → tie.At-loop-g invariant-loop-g decreases-loop-g
-unmark_to_head c = c.before.before.before.before.before.before.before.before.before.before.before.before.before.before.before.before
-
-abbrev step_to_tested : tie.After-step-s invariant-loop-g decreases-loop-g → tie.After-has_effects invariant-loop-g decreases-loop-g
-step_to_tested c = c.before.before.before.before.before
-
 load-goals-requires : tie.Need-load-goals-requires invariant-loop-g decreases-loop-g
 load-goals-requires c κs = search rules
 

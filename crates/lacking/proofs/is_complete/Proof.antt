@@ -16,16 +16,6 @@ use borrow.Author.Rules.{rules}
 use Rattle.lacking.proofs.is_complete.Statement.{statement}
 use Rattle.lacking.proofs.is_complete.Tie as tie
 
--- the points of the code, from the last to the first
-abbrev mark_to_eff : tie.After-mark → tie.After-eff_start
-mark_to_eff c = c.before.before
-
-abbrev mark_to_start : tie.After-mark → tie.Start
-mark_to_start c = c.before.before.before.before.before.before
-
-abbrev else_to_mark : tie.Else-not-is_returned → tie.After-mark
-else_to_mark c = c.before.before.before.before.before
-
 abbrev own_facts : tie.After-mark → List Fact
 own_facts m = facts_in m.args.task.now m.pre_start.result m.eff_start.result
 

@@ -4,12 +4,6 @@ use borrow.Author.Rules.{rules}
 use Rattle.lacking.proofs.keep.Statement.{statement}
 use Rattle.lacking.proofs.keep.Tie as tie
 
-abbrev actions_to_start : tie.After-actions → tie.Start
-actions_to_start c = c.before.before.before.before.before.before.before.before
-
-abbrev complete_to_start : tie.After-is_complete → tie.Start
-complete_to_start c = c.before.before.before.before.before.before.before.before.before.before.before.before
-
 bounds-last-1024 : tie.Need-bounds-last-1024
 bounds-last-1024 c = search rules
 

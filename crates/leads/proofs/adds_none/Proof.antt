@@ -21,9 +21,6 @@ invariant-loop-k task ever i set end k₀ k = (eff_at task i ≤ k) × (k ≤ en
 abbrev decreases-loop-k : tie.decreases-loop-k
 decreases-loop-k task ever i set end k₀ k = end - k
 
-abbrev start_of : tie.At-loop-k invariant-loop-k decreases-loop-k → tie.Start invariant-loop-k decreases-loop-k
-start_of c = c.before.before.before.before
-
 eff_end-end-requires : tie.Need-eff_end-end-requires invariant-loop-k decreases-loop-k
 eff_end-end-requires c κs = search rules
 

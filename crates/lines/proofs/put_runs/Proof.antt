@@ -7,22 +7,6 @@ use Rattle.lines.proofs.Texts.{kept_le, put_runs}
 use Rattle.lines.proofs.put_runs.Statement.{statement}
 use Rattle.lines.proofs.put_runs.Tie as tie
 
--- the points of the code, from the last to the first
-abbrev reached_to_start : tie.After-reached → tie.Start
-reached_to_start c = c.before.before.before.before.before.before.before.before
-
-abbrev relaxed_to_line : tie.After-relaxed-n → tie.After-put_line-end
-relaxed_to_line c = c.before.before.before.before
-
-abbrev to_reached : tie.After-relaxed-n → tie.After-reached
-to_reached c = c.before.before.before.before.before.before.before
-
-abbrev to_start : tie.After-relaxed-n → tie.Start
-to_start c = c.before.before.before.before.before.before.before.before.before.before.before.before.before.before.before
-
-abbrev front_to_relaxed : tie.After-front → tie.After-relaxed-n
-front_to_relaxed c = c.before.before.before.before
-
 -- the forward run left the list its length
 same : (c : tie.After-relaxed-n) → length c.reached.new.list ≡ length c.args.list.now
 same c = search rules

@@ -21,9 +21,6 @@ invariant-loop-i bytes variables count counts task₀ at₀ to₀ i₀ task at t
 abbrev decreases-loop-i : tie.decreases-loop-i
 decreases-loop-i bytes variables count counts task₀ at₀ to₀ i₀ task at to i = count - i
 
-abbrev start : tie.At-loop-i invariant-loop-i decreases-loop-i → tie.Start invariant-loop-i decreases-loop-i
-start c = c.before.before.before
-
 overflow_mul-at : tie.Need-overflow_mul-at invariant-loop-i decreases-loop-i
 overflow_mul-at c = omega (arith, header_range _ c.requires.header, c.requires.variables_is)
 

@@ -16,13 +16,6 @@ blank_from-requires c κs = search rules
 shape_of-values : tie.Need-shape_of-values
 shape_of-values c = search rules
 
--- the points of the code, from the last to the first
-abbrev put_to_tell : tie.After-put → tie.After-tell-b
-put_to_tell c = c.before.before.before
-
-abbrev blank_to_put : tie.After-blank_from → tie.After-put
-blank_to_put c = c.before.before.before.before
-
 -- the board has the answer, and the list is filled from it
 returns : tie.Need-returns
 returns c =

@@ -43,16 +43,6 @@ returns-then-room-n c =
     subst (Tells _ _ _) (sym c.empty-then-room-n.ensures) (room_refused _ _ _
     (passed _ _ _ _ c.in-Value.is c.check_list-l.ensures).0 _ c.variables-n.ensures (omega arith))
 
--- the points of the code, from the last to the first
-abbrev list_to_start : tie.After-check_list-l → tie.Start
-list_to_start c = c.before.before.before
-
-abbrev told_to_list : tie.In-Value → tie.After-check_list-l
-told_to_list c = c.before
-
-abbrev follow_to_told : tie.After-follow-x → tie.In-Value
-follow_to_told c = c.before.before.before
-
 follow-x-requires : tie.Need-follow-x-requires
 follow-x-requires c κs =
     let R = list_ready _ _ (passed _ _ _ _ c.in-Value.is c.check_list-l.ensures).0 in

@@ -16,9 +16,6 @@ invariant-loop-i task paint marks₀ n kept₀ last₀ i₀ marks kept last i = 
 abbrev decreases-loop-i : tie.decreases-loop-i
 decreases-loop-i task paint marks₀ n kept₀ last₀ i₀ marks kept last i = n - i
 
-abbrev loop_of : tie.After-is_lacking invariant-loop-i decreases-loop-i → tie.At-loop-i invariant-loop-i decreases-loop-i
-loop_of c = c.before.before.before.before.before
-
 actions-n-requires : tie.Need-actions-n-requires invariant-loop-i decreases-loop-i
 actions-n-requires c κs = search rules
 

@@ -17,9 +17,6 @@ invariant-loop-k task v list e k₀ k = (k ≤ e) × (unasked (task_in task) v (
 abbrev decreases-loop-k : tie.decreases-loop-k
 decreases-loop-k task v list e k₀ k = e - k
 
-abbrev start_of : tie.At-loop-k invariant-loop-k decreases-loop-k → tie.Start invariant-loop-k decreases-loop-k
-start_of c = c.before.before.before
-
 loop-k-init : tie.Need-loop-k-init invariant-loop-k decreases-loop-k
 loop-k-init c = (omega arith, refl)
 

@@ -7,9 +7,6 @@ use Rattle.asking.proofs.Putting.{lead_there, not_there, lead_some}
 use Rattle.passes.proofs.lead_to.Statement.{statement}
 use Rattle.passes.proofs.lead_to.Tie as tie
 
-abbrev start_of : tie.After-is_there → tie.Start
-start_of c = c.before.before.before.before
-
 is_there-requires : tie.Need-is_there-requires
 is_there-requires c κs = search rules
 

@@ -31,32 +31,6 @@ invariant-loop-j task ever memo₀ f want plan₀ at v c₀ e₀ k₀ j₀ memo 
 abbrev decreases-loop-j : tie.decreases-loop-j
 decreases-loop-j task ever memo₀ f want plan₀ at v c₀ e₀ k₀ j₀ memo plan c e k j = length plan₀ - j
 
--- the points of a turn, from the last to the first
-abbrev plan_of : tie.In-Upto invariant-loop-j decreases-loop-j → tie.After-plan-1 invariant-loop-j decreases-loop-j
-plan_of c = c.before.before
-
-abbrev lead_of : tie.After-plan-1 invariant-loop-j decreases-loop-j → tie.After-lead_to-w invariant-loop-j decreases-loop-j
-lead_of c = c.before.before.before
-
-abbrev need_of : tie.After-lead_to-w invariant-loop-j decreases-loop-j → tie.After-need-d invariant-loop-j decreases-loop-j
-need_of c = c.before.before.before
-
-abbrev in_of : tie.After-need-d invariant-loop-j decreases-loop-j → tie.In-loop-j invariant-loop-j decreases-loop-j
-in_of c = c.before.before.before
-
-abbrev start_of : tie.At-loop-j invariant-loop-j decreases-loop-j → tie.Start invariant-loop-j decreases-loop-j
-start_of c = c.before.before.before.before.before
-
--- the points behind the loop
-abbrev last_of : tie.After-asked_for invariant-loop-j decreases-loop-j → tie.After-lead_to-w-2 invariant-loop-j decreases-loop-j
-last_of c = c.before.before.before.before.before
-
-abbrev asked_of : tie.After-lead_to-w-2 invariant-loop-j decreases-loop-j → tie.After-asked-d invariant-loop-j decreases-loop-j
-asked_of c = c.before.before.before
-
-abbrev head_of : tie.After-lead_to-w-2 invariant-loop-j decreases-loop-j → tie.At-loop-j invariant-loop-j decreases-loop-j
-head_of c = c.before.before.before.before.before
-
 formed : (s : tie.Start invariant-loop-j decreases-loop-j) → Formed (task_in s.args.task.now)
 formed s = s.requires.0.0.loaded.formed
 
@@ -77,9 +51,6 @@ led c =
       long = c.plan-1.given.0;
       put = c.lead_to-w.ensures.0;
     }
-
-abbrev turn_of : tie.In-Upto invariant-loop-j decreases-loop-j → tie.In-loop-j invariant-loop-j decreases-loop-j
-turn_of c = c.before.before.before.before.before.before.before.before.before.before.before
 
 -- the entry's place is within the list
 stored : (c : tie.In-Upto invariant-loop-j decreases-loop-j) → c.in-Upto.x < length (left_by c.before.before.before.before.before ++ drop c.loop-j.j c.loop-j.plan)

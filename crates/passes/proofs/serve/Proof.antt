@@ -21,24 +21,11 @@ use Rattle.passes.proofs.Serving.{served_behind, served_counts, served_moved}
 use Rattle.passes.proofs.serve.Statement.{statement}
 use Rattle.passes.proofs.serve.Tie as tie
 
-abbrev start_of : tie.After-idle → tie.Start
-start_of c = c.before.before.before.before.before
-
-abbrev idle_of : tie.After-plan-2-1 → tie.After-idle
-idle_of c = c.before.before.before.before
-
 idle-requires : tie.Need-idle-requires
 idle-requires c κs = search rules
 
 asked-d-requires : tie.Need-asked-d-requires
 asked-d-requires c κs = search rules
-
--- the path behind the list, where no entry needs the variable
-abbrev asked_of : tie.After-is_there → tie.After-asked-d
-asked_of c = c.before
-
-abbrev begin_of : tie.After-is_there → tie.Start
-begin_of c = c.before.before.before.before.before.before.before.before
 
 is_there-requires : tie.Need-is_there-requires
 is_there-requires c κs = search rules

@@ -24,16 +24,6 @@ invariant-loop-l task ever memo v c d list₀ at k x₀ e₀ l₀ list x e l = W
 abbrev decreases-loop-l : tie.decreases-loop-l
 decreases-loop-l task ever memo v c d list₀ at k x₀ e₀ l₀ list x e l = length (paths_of (task_in task) (sets_of ever) v x d)
 
--- the points of the code: where the slot is known, where the lead from c is, where the loop begins
-abbrev begin_of : tie.After-slot-k invariant-loop-l decreases-loop-l → tie.Start invariant-loop-l decreases-loop-l
-begin_of c = c.before.before.before.before
-
-abbrev start_of : tie.After-prepare invariant-loop-l decreases-loop-l → tie.Start invariant-loop-l decreases-loop-l
-start_of c = c.before.before.before.before.before.before
-
-abbrev found_at : tie.At-loop-l invariant-loop-l decreases-loop-l → tie.After-prepare invariant-loop-l decreases-loop-l
-found_at c = c.before.before.before.before.before
-
 formed : (s : tie.Start invariant-loop-l decreases-loop-l) → Formed (task_in s.args.task.now)
 formed s = s.requires.0.0.loaded.formed
 

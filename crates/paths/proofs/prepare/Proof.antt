@@ -32,10 +32,6 @@ small s =
       lead-in = omega (arith, s.requires.1.1.long, memo_lead (task_in s.args.task.now) s.args.v s.args.c s.args.k p.1 p.2 (F.count_max s.args.v) b);
     }
 
--- the start, seen from the test of the mark
-abbrev start_of : tie.After-wide → tie.Start
-start_of c = c.before.before.before.before
-
 offset_bounds-memo-k : tie.Need-offset_bounds-memo-k
 offset_bounds-memo-k c = let r = small c.before.before in omega (arith, r.slotted)
 

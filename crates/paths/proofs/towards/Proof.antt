@@ -18,9 +18,6 @@ invariant-loop-x task ever memo₀ v c d k whole labels rest n x₀ memo x = Fil
 abbrev decreases-loop-x : tie.decreases-loop-x
 decreases-loop-x task ever memo₀ v c d k whole labels rest n x₀ memo x = n - x
 
-abbrev start_of : tie.After-count-n invariant-loop-x decreases-loop-x → tie.Start invariant-loop-x decreases-loop-x
-start_of c = c.before.before.before.before.before
-
 formed : (s : tie.Start invariant-loop-x decreases-loop-x) → Formed (task_in s.args.task.now)
 formed s = s.requires.0.0.loaded.formed
 

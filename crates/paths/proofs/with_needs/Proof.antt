@@ -21,9 +21,6 @@ invariant-loop-k task i set end m₀ k₀ m k = (pre_at task i ≤ k) × (k ≤ 
 abbrev decreases-loop-k : tie.decreases-loop-k
 decreases-loop-k task i set end m₀ k₀ m k = end - k
 
-abbrev start_of : tie.At-loop-k invariant-loop-k decreases-loop-k → tie.Start invariant-loop-k decreases-loop-k
-start_of c = c.before.before.before.before
-
 eff_start-end-requires : tie.Need-eff_start-end-requires invariant-loop-k decreases-loop-k
 eff_start-end-requires c κs = search rules
 

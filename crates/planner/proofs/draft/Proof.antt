@@ -9,9 +9,6 @@ use Rattle.planner.proofs.Drafts.{plan_entries, drafted_repair}
 use Rattle.planner.proofs.draft.Statement.{statement}
 use Rattle.planner.proofs.draft.Tie as tie
 
-abbrev start_of : tie.After-repair-arg-2-1 → tie.Start
-start_of c = c.before.before.before.before.before.before.before
-
 repair-requires : tie.Need-repair-requires
 repair-requires c κs =
     record { prepared = c.requires.0; entries = plan_entries (task_in c.args.task.now) relaxed c.args.list.now c.requires.1; is_red_black_plan = c.requires.1 }

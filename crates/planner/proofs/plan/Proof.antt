@@ -7,9 +7,6 @@ use borrow.Author.Rules.{rules}
 use Rattle.planner.proofs.plan.Statement.{statement}
 use Rattle.planner.proofs.plan.Tie as tie
 
-abbrev start_of : tie.After-plan_checked-r → tie.Start
-start_of c = c.before.before.before.before.before.before.before.before.before
-
 plan_checked-r-requires : tie.Need-plan_checked-r-requires
 plan_checked-r-requires c κs = tt
 

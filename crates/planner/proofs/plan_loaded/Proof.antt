@@ -22,16 +22,6 @@ refusal_in-requires c κs = search rules
 shape_of-task-in_default : tie.Need-shape_of-task-in_default
 shape_of-task-in_default c = search rules
 
--- the points of the code, from the last to the first
-abbrev prepare_to_start : tie.After-prepare-p → tie.Start
-prepare_to_start c = c.before.before.before.before.before.before.before
-
-abbrev told_to_prepare : tie.In-Accepted → tie.After-prepare-p
-told_to_prepare c = c.before.before.before
-
-abbrev told2_to_prepare : tie.In_default → tie.After-prepare-p
-told2_to_prepare c = c.before.before.before
-
 returns-in_default : tie.Need-returns-in_default
 unfolding painting_check
 returns-in_default c =

@@ -14,17 +14,6 @@ use borrow.Author.Rules.{rules}
 use Rattle.planner.proofs.plan_prepared.Statement.{statement}
 use Rattle.planner.proofs.plan_prepared.Tie as tie
 
--- where the function starts, from the way with a caller's list
-abbrev given_to_start : tie.Then-given → tie.Start
-given_to_start c = c.before.before.before.before.before.before
-
--- the points of the way without a caller's list
-abbrev own_of : tie.In-Value-k → tie.Else-given
-own_of c = c.before.before.before
-
-abbrev start_of : tie.Else-given → tie.Start
-start_of c = c.before.before.before.before.before.before
-
 check_relaxed-l-requires : tie.Need-check_relaxed-l-requires
 check_relaxed-l-requires c κs = search rules
 

@@ -4,9 +4,6 @@ use borrow.Author.Rules.{rules}
 use Rattle.planner.proofs.plan_sized.Statement.{statement}
 use Rattle.planner.proofs.plan_sized.Tie as tie
 
-abbrev start_of : tie.After-slice_known-2-1 → tie.Start
-start_of c = c.before.before.before.before.before
-
 slice_bounds-plan_in-end : tie.Need-slice_bounds-plan_in-end
 slice_bounds-plan_in-end c = search rules
 

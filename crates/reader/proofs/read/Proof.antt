@@ -50,9 +50,6 @@ returns-in_default c =
     let p = read_refused o.bytes.now n m _ _ _ _ t c.blank.ensures c.clear.ensures in
     (w, (p.list, (p.marks, λ h z. p.again h (sym w ∙ z))))
 
-abbrev known_told_to_start : tie.In-Plan → tie.Start
-known_told_to_start c = c.before.before.before.before.before.before
-
 called : (c : tie.In-Plan)
     → read_call c.args.bytes.now (length c.args.list.now) (length c.args.marks.now)
     ≡ done (heading c.in-Plan.steps c.in-Plan.cost c.in-Plan.edition c.in-Plan.real)

@@ -9,9 +9,6 @@ use Rattle.laws.proofs.Fields.{bits_at_below}
 use Rattle.record.proofs.check_action_fields.Statement.{statement}
 use Rattle.record.proofs.check_action_fields.Tie as tie
 
-abbrev take3_to_take2 : tie.After-take-e → tie.After-take-p
-take3_to_take2 c = c.before.before
-
 take-c-requires : tie.Need-take-c-requires
 take-c-requires c κs = omega arith
 

@@ -8,9 +8,6 @@ use borrow.Author.Rules.{rules}
 use Rattle.record.proofs.check_fact.Statement.{statement}
 use Rattle.record.proofs.check_fact.Tie as tie
 
-abbrev a_to_start : tie.In-Value-2 → tie.Start
-a_to_start c = c.before.before.before.before
-
 take-a-requires : tie.Need-take-a-requires
 take-a-requires c κs = search rules
 

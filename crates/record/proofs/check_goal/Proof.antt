@@ -8,9 +8,6 @@ use Rattle.laws.proofs.Fields.{bits_at_below}
 use Rattle.record.proofs.check_goal.Statement.{statement}
 use Rattle.record.proofs.check_goal.Tie as tie
 
-abbrev take2_to_take : tie.After-take-g → tie.After-take-p
-take2_to_take c = c.before.before
-
 overflow_add-at : tie.Need-overflow_add-at
 overflow_add-at c = omega arith
 

@@ -8,12 +8,6 @@ use mathlib.Core.Path.{refl}
 use Rattle.record.proofs.sound_few.Statement.{statement}
 use Rattle.record.proofs.sound_few.Tie as tie
 
-abbrev else3_to_start : tie.Else-not-is_sound-2 → tie.Start
-else3_to_start c = c.before.before.before.before.before
-
-abbrev else5_to_start : tie.Else-not-is_sound-3 → tie.Start
-else5_to_start c = c.before.before.before.before.before.before.before.before
-
 is_sound-requires : tie.Need-is_sound-requires
 is_sound-requires c κs = omega arith
 

@@ -11,12 +11,6 @@ use Rattle.relax.proofs.Answers.{relax_unsolved, relax_whole, relax_short, relax
 use Rattle.relax.proofs.relax_loaded.Statement.{statement}
 use Rattle.relax.proofs.relax_loaded.Tie as tie
 
-abbrev found_to_start : tie.After-relaxed_plan-k → tie.Start
-found_to_start c = c.before.before.before.before
-
-abbrev known_to_found : tie.In-Value → tie.After-relaxed_plan-k
-known_to_found c = c.before
-
 relaxed_plan-k-requires : tie.Need-relaxed_plan-k-requires
 relaxed_plan-k-requires c κs = search rules
 

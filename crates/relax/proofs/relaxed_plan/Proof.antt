@@ -9,12 +9,6 @@ use Rattle.forward.proofs.Answers.{reached_facts}
 use Rattle.relax.proofs.relaxed_plan.Statement.{statement}
 use Rattle.relax.proofs.relaxed_plan.Tie as tie
 
-abbrev run_to_start : tie.After-run_forward-ran → tie.Start
-run_to_start c = c.before.before.before
-
-abbrev reached_to_run : tie.After-reached-reached → tie.After-run_forward-ran
-reached_to_run c = c.before.before.before.before
-
 run_forward-ran-requires : tie.Need-run_forward-ran-requires
 run_forward-ran-requires c κs = search rules
 

@@ -9,9 +9,6 @@ use Rattle.repair.proofs.Ending.{room_is, room_bounds, front_length, area_length
 use Rattle.repair.proofs.repair.Statement.{statement}
 use Rattle.repair.proofs.repair.Tie as tie
 
-abbrev start_of : tie.After-capacity-room → tie.Start
-start_of c = c.before.before.before.before.before.before.before.before
-
 bounds : (c : tie.After-capacity-room) → let a = c.args in let n = c.capacity-room.result in (n ≤ length a.plan.now) × (n ≤ length a.marks.now) × (n ≤ 32768)
 bounds c = let a = c.args in room_bounds a.plan.now a.work.now a.marks.now _ _ _ c.lesser-lists.ensures c.lesser.ensures c.capacity-room.ensures
 

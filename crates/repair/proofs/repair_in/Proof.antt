@@ -4,9 +4,6 @@ use Rattle.repair.proofs.Ending.{few_memo, whole_memo}
 use Rattle.repair.proofs.repair_in.Statement.{statement}
 use Rattle.repair.proofs.repair_in.Tie as tie
 
-abbrev start_of : tie.After-has_few_values → tie.Start
-start_of c = c.before.before.before.before.before
-
 has_few_values-requires : tie.Need-has_few_values-requires
 has_few_values-requires c κs = c.requires.0.prepared.loaded
 

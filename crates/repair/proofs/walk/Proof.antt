@@ -34,36 +34,8 @@ invariant-loop-c task list plan₀ marks₀ memo₀ rules s₀ plain₀ c₀ n�
 abbrev decreases-loop-c : tie.decreases-loop-c
 decreases-loop-c task list plan₀ marks₀ memo₀ rules s₀ plain₀ c₀ n₀ at₀ j₀ plan marks memo s plain c n at j = (length list + 1 - j) * (length plan₀ + 1) + (at - c.steps)
 
--- the points of a turn, from the last to the first
-abbrev start_of : tie.At-loop-c invariant-loop-c decreases-loop-c → tie.Start invariant-loop-c decreases-loop-c
-start_of c = c.before.before.before.before.before.before.before.before.before
-
-abbrev stage_of : tie.After-plan-1 invariant-loop-c decreases-loop-c → tie.After-stage-w invariant-loop-c decreases-loop-c
-stage_of c = c.before.before.before
-
-abbrev again_of : tie.After-stage-w invariant-loop-c decreases-loop-c → tie.Then-c-at-2 invariant-loop-c decreases-loop-c
-again_of c = c.before.before.before.before.before.before
-
 abbrev left_by : tie.After-stage-w invariant-loop-c decreases-loop-c → List ℕ
 left_by c = c.stage-w.new.plan
-
-abbrev head_in : tie.Then-c-at-2 invariant-loop-c decreases-loop-c → tie.At-loop-c invariant-loop-c decreases-loop-c
-head_in c = c.before.before.before.before
-
-abbrev wide_of : tie.After-effects_held invariant-loop-c decreases-loop-c → tie.After-wide-i invariant-loop-c decreases-loop-c
-wide_of c = c.before.before.before
-
-abbrev held_of : tie.After-glide-g invariant-loop-c decreases-loop-c → tie.Then-effects_held invariant-loop-c decreases-loop-c
-held_of c = c.before.before.before
-
-abbrev adds_of : tie.After-counted-c invariant-loop-c decreases-loop-c → tie.After-effects_held invariant-loop-c decreases-loop-c
-adds_of c = c.before.before.before
-
-abbrev counted_of : tie.After-refresh invariant-loop-c decreases-loop-c → tie.After-counted-c invariant-loop-c decreases-loop-c
-counted_of c = c.before.before.before
-
-abbrev head_of : tie.After-wide-i invariant-loop-c decreases-loop-c → tie.At-loop-c invariant-loop-c decreases-loop-c
-head_of c = c.before.before.before.before.before.before
 
 -- a stage is left where one is placed
 here_of : (e : tie.Then-c-at-2 invariant-loop-c decreases-loop-c) → e.loop-c.j ≤ length e.args.list.now

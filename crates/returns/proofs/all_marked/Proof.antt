@@ -11,9 +11,6 @@ use borrow.Author.Tests.{eq-eqb, ne_eqb}
 use Rattle.returns.proofs.all_marked.Statement.{statement}
 use Rattle.returns.proofs.all_marked.Tie as tie
 
-abbrev start_of : tie.After-eff_start-end → tie.Start
-start_of c = c.before.before.before.before
-
 front : (e : tie.After-eff_start-end) → Facts e.args.task.now e.pre_start-start.result e.eff_start-end.result
 front e =
     let p = e.requires in

@@ -19,9 +19,6 @@ invariant-loop-k task j marks i end k₀ k = (k₀ ≤ k) × Walking Bool (holds
 abbrev decreases-loop-k : tie.decreases-loop-k
 decreases-loop-k task j marks i end k₀ k = end - k
 
-abbrev start_of : tie.At-loop-k invariant-loop-k decreases-loop-k → tie.Start invariant-loop-k decreases-loop-k
-start_of c = c.before.before.before.before.before
-
 eff_start-end-requires : tie.Need-eff_start-end-requires invariant-loop-k decreases-loop-k
 eff_start-end-requires c κs = search rules
 

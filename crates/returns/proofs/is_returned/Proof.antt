@@ -7,9 +7,6 @@ use Rattle.returns.proofs.is_returned.Statement.{statement}
 use Rattle.returns.proofs.is_returned.Tie as tie
 use Rattle.returns.proofs.is_returned.Lts.{then-j-eq65535, else-j-eq65535}
 
-abbrev start_of : tie.After-later_return-j → tie.Start
-start_of c = c.before.before.before.before.before.before.before
-
 offset_bounds-last-f : tie.Need-offset_bounds-last-f
 offset_bounds-last-f c = search rules
 

@@ -15,9 +15,6 @@ invariant-loop-i task ever labels₀ v x rest front key i₀ g₀ labels i g = A
 abbrev decreases-loop-i : tie.decreases-loop-i
 decreases-loop-i task ever labels₀ v x rest front key i₀ g₀ labels i g = 65536 - i
 
-abbrev start_of : tie.At-loop-i invariant-loop-i decreases-loop-i → tie.Start invariant-loop-i decreases-loop-i
-start_of c = c.before.before.before.before.before
-
 chain : (s : tie.Start invariant-loop-i decreases-loop-i) → Chain s.args.task.now s.args.v s.args.x s.args.rest
 chain s = record { prepared = s.requires.0.0; painted = s.requires.0.1; near = s.requires.1.0; outside = s.requires.1.2 }
 

@@ -18,9 +18,6 @@ invariant-loop-x task ever labels₀ v c d whole rest₀ front₀ x₀ labels re
 abbrev decreases-loop-x : tie.decreases-loop-x
 decreases-loop-x task ever labels₀ v c d whole rest₀ front₀ x₀ labels rest front x = tally 64 (in_set rest)
 
-abbrev start_of : tie.At-loop-x invariant-loop-x decreases-loop-x → tie.Start invariant-loop-x decreases-loop-x
-start_of c = c.before.before.before.before.before
-
 formed : (s : tie.Start invariant-loop-x decreases-loop-x) → Formed (task_in s.args.task.now)
 formed s = s.requires.0.loaded.formed
 
@@ -47,10 +44,6 @@ loop-x-init c = rw c.requires.3 (started _ (formed c.before.before.before.before
 
 single-one-requires : tie.Need-single-one-requires invariant-loop-x decreases-loop-x
 single-one-requires c κs = omega arith
-
--- what is known where x is the next to be settled
-abbrev loop_of : tie.After-single-one invariant-loop-x decreases-loop-x → tie.At-loop-x invariant-loop-x decreases-loop-x
-loop_of c = c.before.before
 
 returns-then-not-whole : tie.Need-returns-then-not-whole invariant-loop-x decreases-loop-x
 returns-then-not-whole c =

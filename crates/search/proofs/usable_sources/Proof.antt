@@ -28,12 +28,6 @@ invariant-loop-k ever task i v rest to k₀ k =
 abbrev decreases-loop-k : tie.decreases-loop-k
 decreases-loop-k ever task i v rest to k₀ k = to - k
 
-abbrev start : tie.At-loop-k invariant-loop-k decreases-loop-k → tie.Start invariant-loop-k decreases-loop-k
-start c = c.before.before.before.before
-
-abbrev wide_to_head : tie.After-wide-f invariant-loop-k decreases-loop-k → tie.At-loop-k invariant-loop-k decreases-loop-k
-wide_to_head c = c.before.before.before
-
 listed : (c : tie.At-loop-k invariant-loop-k decreases-loop-k) → Listed c.args.task.now c.args.i
 listed c = loaded_listed _ c.requires.0 _ c.requires.1
 

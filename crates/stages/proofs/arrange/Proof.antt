@@ -11,12 +11,6 @@ use Rattle.stages.proofs.Arranging.{pre_bounds, part_wanted, moves_pre, searches
 use Rattle.stages.proofs.arrange.Statement.{statement}
 use Rattle.stages.proofs.arrange.Tie as tie
 
-abbrev wide_of : tie.After-eff_start-to → tie.After-wide-k
-wide_of c = c.before.before
-
-abbrev start_of : tie.After-wide-k → tie.Start
-start_of c = c.before.before.before.before
-
 bounds : (c : tie.After-eff_start-to) → (c.pre_start-from.result ≤ c.eff_start-to.result) × (c.eff_start-to.result ≤ length c.args.task.now)
 bounds c =
     let p = c.requires.0 in

@@ -21,9 +21,6 @@ invariant-loop-k task newest facts k₀ k =
 abbrev decreases-loop-k : tie.decreases-loop-k
 decreases-loop-k task newest facts k₀ k = length facts - k
 
-abbrev start_of : tie.At-loop-k invariant-loop-k decreases-loop-k → tie.Start invariant-loop-k decreases-loop-k
-start_of c = c.before.before.before
-
 loop-k-init : tie.Need-loop-k-init invariant-loop-k decreases-loop-k
 loop-k-init c = (omega arith, refl)
 

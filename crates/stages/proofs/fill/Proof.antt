@@ -26,19 +26,6 @@ invariant-loop-p task newest ever memo₀ wanted plan₀ n e₀ k₀ p₀ memo p
 abbrev decreases-loop-p : tie.decreases-loop-p
 decreases-loop-p task newest ever memo₀ wanted plan₀ n e₀ k₀ p₀ memo plan e k p = n - p
 
--- the points of a turn, from the last to the first
-abbrev serve_of : tie.In-Upto invariant-loop-p decreases-loop-p → tie.After-serve-w invariant-loop-p decreases-loop-p
-serve_of c = c.before.before.before.before.before
-
-abbrev present_of : tie.After-serve-w invariant-loop-p decreases-loop-p → tie.After-present-f invariant-loop-p decreases-loop-p
-present_of c = c.before.before.before
-
-abbrev head_of : tie.After-present-f invariant-loop-p decreases-loop-p → tie.At-loop-p invariant-loop-p decreases-loop-p
-head_of c = c.before.before.before
-
-abbrev start_of : tie.At-loop-p invariant-loop-p decreases-loop-p → tie.Start invariant-loop-p decreases-loop-p
-start_of c = c.before.before.before.before.before.before
-
 abbrev left_by : tie.After-serve-w invariant-loop-p decreases-loop-p → List ℕ
 left_by c = c.serve-w.new.plan
 

@@ -12,9 +12,6 @@ use Rattle.stages.proofs.Finishing.{goals_wanted, goals_moves, goals_searches}
 use Rattle.stages.proofs.finish.Statement.{statement}
 use Rattle.stages.proofs.finish.Tie as tie
 
-abbrev start_of : tie.After-load-goals → tie.Start
-start_of c = c.before.before.before.before
-
 few : (c : tie.After-load-goals) → c.load-goals.result.count ≤ length c.load-goals.result.facts
 few c =
     let l : length c.load-goals.result.facts ≡ 64 = search rules in

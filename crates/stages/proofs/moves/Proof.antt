@@ -12,15 +12,6 @@ use Rattle.stages.proofs.Arranging.{Passed, moves_none, moves_long, moves_some, 
 use Rattle.stages.proofs.moves.Statement.{statement}
 use Rattle.stages.proofs.moves.Tie as tie
 
-abbrev met_of : tie.After-fill-w → tie.Else-black_met
-met_of c = c.before.before.before
-
-abbrev start_of : tie.Else-black_met → tie.Start
-start_of c = c.before.before.before.before.before.before
-
-abbrev fill_of : tie.After-plan-1 → tie.After-fill-w
-fill_of c = c.before.before.before
-
 abbrev left_by : tie.After-fill-w → List ℕ
 left_by c = c.fill-w.new.plan
 

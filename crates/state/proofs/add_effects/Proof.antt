@@ -18,9 +18,6 @@ decreases-loop-k sets₀ task i end k₀ sets k = end - k
 listed : (s : tie.Start invariant-loop-k decreases-loop-k) → Listed s.args.task.now s.args.i
 listed s = loaded_listed _ s.requires.0 _ s.requires.1
 
-abbrev start_of : tie.At-loop-k invariant-loop-k decreases-loop-k → tie.Start invariant-loop-k decreases-loop-k
-start_of c = c.before.before.before.before
-
 eff_end-end-requires : tie.Need-eff_end-end-requires invariant-loop-k decreases-loop-k
 eff_end-end-requires c κs = search rules
 

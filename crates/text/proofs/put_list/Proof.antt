@@ -37,13 +37,6 @@ overflow_add-k c = search rules
 loop-k-smaller : tie.Need-loop-k-smaller invariant-loop-k decreases-loop-k
 loop-k-smaller c = search rules
 
--- the points of the code, from the last to the first
-abbrev start : tie.At-loop-k invariant-loop-k decreases-loop-k → tie.Start invariant-loop-k decreases-loop-k
-start c = c.before.before.before
-
-abbrev wide_to_head : tie.After-wide invariant-loop-k decreases-loop-k → tie.At-loop-k invariant-loop-k decreases-loop-k
-wide_to_head c = c.before.before.before.before
-
 loop-k-preserved : tie.Need-loop-k-preserved invariant-loop-k decreases-loop-k
 loop-k-preserved c =
     let a = c.args in

@@ -20,13 +20,6 @@ put_rest-requires c κs = search rules
 shape_of-out : tie.Need-shape_of-out
 shape_of-out c = search rules
 
--- the points of the code, from the last to the first
-abbrev number_to_head : tie.After-put_number-end → tie.After-put_head-steps
-number_to_head c = c.before.before.before.before
-
-abbrev rest_to_number : tie.After-put_rest → tie.After-put_number-end
-rest_to_number c = c.before.before.before.before
-
 returns : tie.Need-returns
 returns c =
     let P = c.put_head-steps.ensures in

@@ -19,13 +19,6 @@ put-requires c κs = search rules
 shape_of-out : tie.Need-shape_of-out
 shape_of-out c = search rules
 
--- the points of the code, from the last to the first
-abbrev number_to_head : tie.After-put_number-place → tie.After-put_head-number
-number_to_head c = c.before.before.before.before
-
-abbrev put_to_number : tie.After-put → tie.After-put_number-place
-put_to_number c = c.before.before.before.before.before.before
-
 returns : tie.Need-returns
 returns c =
     put_then (line_end _ _ _) (put_then refl c.put_head-number.ensures.0 c.put_number-place.ensures.0) c.put.ensures

@@ -12,22 +12,6 @@ use Rattle.waiting.proofs.Places.{passing_more, Waits, unmet_waits, unmet_goes}
 use Rattle.waiting.proofs.settle.Statement.{statement}
 use Rattle.waiting.proofs.settle.Tie as tie
 
--- the points of the code, from the last to the first
-abbrev wide2_to_wide : tie.After-wide → tie.After-wide-r
-wide2_to_wide c = c.before.before.before
-
-abbrev wide3_to_wide2 : tie.After-wide-2 → tie.After-wide
-wide3_to_wide2 c = c.before.before.before
-
-abbrev start₂ : tie.After-wide → tie.Start
-start₂ c = c.before.before.before.before.before.before
-
-abbrev start : tie.After-unmet-k → tie.Start
-start c = c.before.before.before.before.before.before.before.before.before.before
-
-abbrev wide4_to_unmet : tie.After-wide-then-k-to → tie.After-unmet-k
-wide4_to_unmet c = c.before.before.before.before
-
 wide-r-requires : tie.Need-wide-r-requires
 wide-r-requires c κs = tt
 

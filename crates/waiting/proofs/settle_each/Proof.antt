@@ -39,9 +39,6 @@ named c = c.requires.1.named _ (below c)
 listed : (c : tie.In-loop-j invariant-loop-j decreases-loop-j) → Listed c.args.task.now (order_at c.before)
 listed c = loaded_listed _ c.requires.0 _ (named c)
 
-abbrev pre_start_to_in : tie.After-pre_start invariant-loop-j decreases-loop-j → tie.In-loop-j invariant-loop-j decreases-loop-j
-pre_start_to_in c = c.before.before.before.before
-
 place : (c : tie.After-pre_start invariant-loop-j decreases-loop-j) → c.pre_start.result ≡ pre_at c.args.task.now (order_at c.before.before.before.before.before)
 place c = c.pre_start.ensures ∙ ap (pre_at c.args.task.now) c.wide.ensures
 

@@ -21,9 +21,6 @@ invariant-loop-k sets task order work₀ ready₀ from to k₀ work ready k =
 abbrev decreases-loop-k : tie.decreases-loop-k
 decreases-loop-k sets task order work₀ ready₀ from to k₀ work ready k = to - k
 
-abbrev start : tie.At-loop-k invariant-loop-k decreases-loop-k → tie.Start invariant-loop-k decreases-loop-k
-start c = c.before.before.before
-
 abbrev facts : (c : tie.At-loop-k invariant-loop-k decreases-loop-k) → Headed c.args.task.now c.args.from c.args.to
 facts c = c.requires.1
 

@@ -19,12 +19,6 @@ use Rattle.sheet.proofs.Widths.{step_bits_suc, sheet_size_suc}
 use Rattle.writer.proofs.write.Statement.{statement}
 use Rattle.writer.proofs.write.Tie as tie
 
-abbrev known_told_to_start : tie.In-Value → tie.Start
-known_told_to_start c = c.before.before.before.before.before
-
-abbrev steps_to_mark : tie.After-write_steps → tie.After-mark_width-mark
-steps_to_mark c = c.before.before.before.before.before.before.before
-
 abbrev given : tie.Start → Sheet
 given o = sheet o.args.edition o.args.list.now o.args.marks.now o.args.cost o.args.real
 

@@ -16,9 +16,6 @@ invariant-loop-i list marks mark head size bytes₀ five₀ at₀ i₀ bytes fiv
 abbrev decreases-loop-i : tie.decreases-loop-i
 decreases-loop-i list marks mark head size bytes₀ five₀ at₀ i₀ bytes five at i = length list - i
 
-abbrev from_loop : tie.At-loop-i invariant-loop-i decreases-loop-i → tie.Start invariant-loop-i decreases-loop-i
-from_loop c = c.before.before.before.before
-
 -- as many entries as steps, and the size by them
 long : (c : tie.At-loop-i invariant-loop-i decreases-loop-i) → let a = c.args in length (entries (suc a.mark) a.list.now a.marks.now) ≡ length a.list.now
 long c = length_entries _ _ _

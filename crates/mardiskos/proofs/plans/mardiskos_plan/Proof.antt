@@ -11,9 +11,6 @@ use borrow.Author.Rules.{rules}
 use Rattle.mardiskos.proofs.plans.mardiskos_plan.Statement.{statement}
 use Rattle.mardiskos.proofs.plans.mardiskos_plan.Tie as tie
 
-abbrev start_of : tie.After-plan → tie.Start
-start_of c = c.before.before.before.before.before.before.before.before
-
 plan-requires : tie.Need-plan-requires
 plan-requires c κs = search rules
 

@@ -9,9 +9,6 @@ use borrow.Author.Rules.{rules}
 use Rattle.mardiskos.proofs.plans.mardiskos_repair.Statement.{statement}
 use Rattle.mardiskos.proofs.plans.mardiskos_repair.Tie as tie
 
-abbrev start_of : tie.After-repair → tie.Start
-start_of c = c.before.before.before.before.before.before.before.before.before
-
 repair-requires : tie.Need-repair-requires
 repair-requires c κs = search rules
 
