@@ -4,7 +4,6 @@ use mathlib.Core.Path.{◌≡◌, refl, sym, ◌∙◌}
 use mathlib.Core.List.{List}
 use Prim.Native.Nat.{ℕ, ◌-◌, ◌≤◌, ◌<◌}
 use native.Mathlib.Omega.{arith}
-use borrow.Author.Tests.{not-true, not-false}
 use Rattle.planning.specs.Runs.{State, holds}
 use Rattle.task.specs.Task.{facts_in}
 use Rattle.sets.specs.Sets.{sets_of, values_of, mode_of, red_black_of}

@@ -1,7 +1,6 @@
 -- The step counts if it is the next one and applies; else the count stays.
 use borrow.Author.Rules.{rules}
 use mathlib.Core.Path.{sym, ◌∙◌}
-use mathlib.Core.Logic.{⊎_elim}
 use Rattle.applying.proofs.Running.{further_on, further_fails, further_stopped}
 use Rattle.applying.proofs.further.Statement.{statement}
 use Rattle.applying.proofs.further.Tie as tie

@@ -1,5 +1,4 @@
 -- The bits in front are shifted out.
-use native.Mathlib.Omega.{arith}
 use Rattle.bits.proofs.Window.{bits_at_shl}
 use borrow.Author.Rules.{rules}
 use Rattle.bits.proofs.window_from.Statement.{statement}

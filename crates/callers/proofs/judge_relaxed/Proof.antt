@@ -1,10 +1,9 @@
 -- What is left of the list is judged from the present state (`Going`); an action whose effects are held leaves that state as it is.
 use borrow.Author.Rules.{rules}
-use mathlib.Core.Bool.{Bool, true, false, not}
+use mathlib.Core.Bool.{true, false}
 use mathlib.Core.Path.{◌≡◌, refl, sym, ap, ◌∙◌}
 use Prim.Native.Nat.{ℕ, ◌-◌, ◌<◌}
 use native.Mathlib.Omega.{arith}
-use borrow.Author.Tests.{not-true, not-false}
 use lib.ListN.{length, get_or}
 use Rattle.planning.specs.Runs.{act, actions, holds, relaxed}
 use Rattle.task.specs.Task.{task_in}

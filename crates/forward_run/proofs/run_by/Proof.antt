@@ -2,12 +2,11 @@
 -- adds a fact it is the definition's next action: it is taken, and the state grows. If not, it never will add one. Either way less is left.
 use borrow.Author.Rules.{rules}
 use mathlib.Core.Path.{◌≡◌, refl, sym, ◌∙◌}
-use mathlib.Core.Logic.{inl, inr}
 use mathlib.Core.Bool.{true, false}
 use Prim.Native.Nat.{◌<◌}
 use native.Mathlib.Omega.{arith}
 use lib.ListN.{length}
-use borrow.Author.Tests.{not-true, not-false, eq-eqb, ne_eqb, leb-true, leb-false}
+use borrow.Author.Tests.{eq-eqb, ne_eqb}
 use Rattle.planning.specs.Runs.{act, holds, actions}
 use Rattle.task.specs.Task.{task_in, Loaded}
 use Rattle.sets.specs.Sets.{sets_of}

@@ -1,6 +1,5 @@
 -- The set so far with the black variables that the effects still to come change are those that all of them change.
 use mathlib.Core.Path.{refl, ap, ◌∙◌}
-use mathlib.Core.Logic.{inl, inr}
 use mathlib.Core.Bool.{◌&&◌}
 use mathlib.Core.List.{List}
 use Prim.Native.Nat.{◌-◌, ◌<◌}

@@ -1,6 +1,5 @@
 -- Of the members before c the one at r has the least label.
 use borrow.Author.Rules.{rules}
-use mathlib.Core.Logic.{inl, inr}
 use Prim.Native.Nat.{◌-◌}
 use native.Mathlib.Omega.{arith}
 use Rattle.labels.proofs.Seeking.{Seeking, seeking_none, seeking_start, seeking_less, seeking_more, seeking_end}

@@ -1,7 +1,6 @@
 -- Every value from `from` up to d has its return.
 use Prim.Native.Nat.{◌/◌, ◌%◌, ◌-◌}
 use native.Mathlib.Omega.{arith}
-use borrow.Author.Tests.{not-true, not-false}
 use Rattle.task.specs.Task.{task_in}
 use Rattle.returns.specs.Returns.{marked}
 use Rattle.lacking.proofs.Arcs.{Trying, trying_start, trying_turn, trying_hit, trying_end}

@@ -132,11 +132,10 @@ loop-j-smaller : tie.Need-loop-j-smaller invariant-loop-j decreases-loop-j
 loop-j-smaller c = omega (arith, c.loop-j-test.true, c.loop-j.invariant.0.long)
 
 loop-j-preserved : tie.Need-loop-j-preserved invariant-loop-j decreases-loop-j
-loop-j-preserved c =
-    (
-      led_turn (led c.before.before.before.before) _ c.in-Upto.is (formed c.before.before.before.before.before.before.before.before.before.before.before.before.before.before.before.before.before.before.before) _ _ c.lead_to-w.ensures.1 c.next_value-c.ensures,
-      led_tally (led c.before.before.before.before) _ c.in-Upto.is _ _ c.loop-j.invariant.1 _ c.asked_for-searches.ensures,
-    )
+loop-j-preserved c = (
+  led_turn (led c.before.before.before.before) _ c.in-Upto.is (formed c.before.before.before.before.before.before.before.before.before.before.before.before.before.before.before.before.before.before.before) _ _ c.lead_to-w.ensures.1 c.next_value-c.ensures,
+  led_tally (led c.before.before.before.before) _ c.in-Upto.is _ _ c.loop-j.invariant.1 _ c.asked_for-searches.ensures,
+)
 
 asked-d-requires : tie.Need-asked-d-requires invariant-loop-j decreases-loop-j
 asked-d-requires c κs = search rules

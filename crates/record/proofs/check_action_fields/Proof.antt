@@ -60,19 +60,18 @@ returns-in_default-e c =
 
 check_action_facts-requires : tie.Need-check_action_facts-requires
 unfolding preconditions_in effects_in
-check_action_facts-requires c κs =
-    (
-      search rules,
-      sym (passed _ _ _ _ c.in-Value-p.is c.take-p.ensures).1,
-      sym (passed _ _ _ _ c.in-Value-e.is c.take-e.ensures).1,
-      omega (arith, (passed _ _ _ _ c.in-Value-p.is c.take-p.ensures).1, bits_at_below c.args.bytes.now (c.args.at + 16) 4),
-      omega (arith, (passed _ _ _ _ c.in-Value-e.is c.take-e.ensures).1, bits_at_below c.args.bytes.now (c.args.at + 20) 4),
-      (
-        search rules,
-        search rules,
-        search rules,
-      ),
-    )
+check_action_facts-requires c κs = (
+  search rules,
+  sym (passed _ _ _ _ c.in-Value-p.is c.take-p.ensures).1,
+  sym (passed _ _ _ _ c.in-Value-e.is c.take-e.ensures).1,
+  omega (arith, (passed _ _ _ _ c.in-Value-p.is c.take-p.ensures).1, bits_at_below c.args.bytes.now (c.args.at + 16) 4),
+  omega (arith, (passed _ _ _ _ c.in-Value-e.is c.take-e.ensures).1, bits_at_below c.args.bytes.now (c.args.at + 20) 4),
+  (
+    search rules,
+    search rules,
+    search rules,
+  ),
+)
 
 returns : tie.Need-returns
 unfolding action_checks action_facts_checks

@@ -19,15 +19,14 @@ returns-in_default : tie.Need-returns-in_default
 returns-in_default c = variables_refused _ _ (search rules) _ _ _ _ c.in_default.is c.check_variables-v.ensures.0
 
 check_from_actions-requires : tie.Need-check_from_actions-requires
-check_from_actions-requires c κs =
-    (
-      search rules,
-      search rules,
-      search rules,
-      search rules,
-      c.check_variables-v.ensures.1
-          (answer_passes _ _ _ c.check_variables-v.ensures.0 (passed _ _ _ _ c.in-Value.is c.check_variables-v.ensures.0).0),
-    )
+check_from_actions-requires c κs = (
+  search rules,
+  search rules,
+  search rules,
+  search rules,
+  c.check_variables-v.ensures.1
+      (answer_passes _ _ _ c.check_variables-v.ensures.0 (passed _ _ _ _ c.in-Value.is c.check_variables-v.ensures.0).0),
+)
 
 returns : tie.Need-returns
 returns c =

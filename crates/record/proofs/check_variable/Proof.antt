@@ -1,7 +1,6 @@
 -- The quick test found the 20 bits sound, or the checks are made field by field.
 use Rattle.record.proofs.Laws.{variable_sound}
 use native.Mathlib.Omega.{arith}
-use borrow.Author.Tests.{not-false}
 use borrow.Author.Rules.{rules}
 use Rattle.record.proofs.check_variable.Statement.{statement}
 use Rattle.record.proofs.check_variable.Tie as tie

@@ -1,7 +1,6 @@
 -- The two counts are the 8 bits behind the cost; fields that are there and two lists that pass make the action pass.
 use Rattle.record.proofs.Laws.{pre_count, eff_count, action_sound}
 use native.Mathlib.Omega.{arith}
-use borrow.Author.Tests.{not-false}
 use borrow.Author.Rules.{rules}
 use Rattle.record.proofs.sound_action.Statement.{statement}
 use Rattle.record.proofs.sound_action.Tie as tie

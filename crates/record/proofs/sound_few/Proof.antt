@@ -3,7 +3,6 @@ use Rattle.record.proofs.Laws.{few_none, few_more, few_stops, few_as}
 use Rattle.record.specs.Stages.{Few}
 use Prim.Native.Nat.{◌+◌, ◌/◌, ◌%◌, ◌^◌}
 use native.Mathlib.Omega.{arith}
-use borrow.Author.Tests.{not-true, not-false}
 use mathlib.Core.Path.{refl}
 use Rattle.record.proofs.sound_few.Statement.{statement}
 use Rattle.record.proofs.sound_few.Tie as tie

@@ -2,14 +2,13 @@
 -- are those behind them. In the end nothing is left, and counts and searches are those of the whole repair.
 use borrow.Author.Rules.{rules}
 use mathlib.Core.List.{List}
-use mathlib.Core.Logic.{⊎_elim}
 use mathlib.Core.Path.{◌≡◌, refl, sym, ap, ◌∙◌}
 use Prim.Native.Nat.{ℕ, ◌+◌, ◌-◌, ◌*◌, ◌<◌, ◌≤◌}
 use native.Mathlib.Omega.{arith}
 use lib.Dec.{T}
 use lib.ListN.{length, take, drop}
 use Rattle.planning.specs.Basics.{refused}
-use borrow.Author.Tests.{ltb-true, leb-true, leb-false}
+use borrow.Author.Tests.{ltb-true}
 use Rattle.planning.specs.Runs.{runs, actions, act, black, initial}
 use Rattle.planning.specs.Repair.{repaired}
 use Rattle.laws.proofs.Plans.{is_plan_elim}

@@ -54,8 +54,7 @@ bounds-marks-wide c = omega (arith, inside c.before)
 
 returns-then-marks-wide : tie.Need-returns-then-marks-wide invariant-loop-k decreases-loop-k
 returns-then-marks-wide c =
-    let e = walking_hit _ _ _ _ _ _ c.loop-k.invariant.1 (omega arith) _ c.wide.ensures _ (marked_hit _ _ _ c.if-marks-wide.true) in
-    (
+    let e = walking_hit _ _ _ _ _ _ c.loop-k.invariant.1 (omega arith) _ c.wide.ensures _ (marked_hit _ _ _ c.if-marks-wide.true) in (
       omega (arith, c.pre_start-k.ensures),
       omega (arith, c.eff_start-end.ensures),
       stops_before _ c.loop-k.k c.eff_start-end.result e (omega arith) ∙ rw c.eff_start-end.ensures refl,

@@ -1,4 +1,3 @@
-use mathlib.Core.Logic.{⊎_elim}
 use native.Mathlib.Omega.{arith}
 use Rattle.laws.proofs.Painting.{black_inside}
 use Rattle.returns.proofs.Returns.{next_serves, head_chain, serves_near, served, served_first}

@@ -4,7 +4,6 @@ use Prim.Native.Nat.{◌-◌, ◌<◌}
 use native.Mathlib.Omega.{arith}
 use lib.ListN.{set}
 use Rattle.task.specs.Task.{task_in}
-use mathlib.Core.Logic.{⊎_elim}
 use Rattle.sets.proofs.Loading.{Painting, painting_start, painting_black, painting_red, painting_end}
 use Rattle.sets.proofs.painted.Statement.{statement}
 use Rattle.sets.proofs.painted.Tie as tie

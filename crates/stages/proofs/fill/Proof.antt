@@ -76,12 +76,11 @@ shape_of-plan-in_default c =
     c.plan-1.given ∙ c.loop-p.invariant.long
 
 returns-in_default : tie.Need-returns-in_default invariant-loop-p decreases-loop-p
-returns-in_default c =
-    (
-      filling_long c.loop-p.invariant (within c.before.before.before.before.before.before.before.before.before.before) _ _ c.order_at-v.ensures (shown c.before.before.before.before.before.before.before.before) (left_by c.before.before.before.before.before) c.serve-w.result c.serve-w.ensures.0 c.in_default.is
-          c.requires.0.0.ordered,
-      (c.serve-w.ensures.1.0, tt),
-    )
+returns-in_default c = (
+  filling_long c.loop-p.invariant (within c.before.before.before.before.before.before.before.before.before.before) _ _ c.order_at-v.ensures (shown c.before.before.before.before.before.before.before.before) (left_by c.before.before.before.before.before) c.serve-w.result c.serve-w.ensures.0 c.in_default.is
+      c.requires.0.0.ordered,
+  (c.serve-w.ensures.1.0, tt),
+)
 
 overflow_add-k : tie.Need-overflow_add-k invariant-loop-p decreases-loop-p
 overflow_add-k c =

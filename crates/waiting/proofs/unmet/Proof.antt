@@ -1,5 +1,4 @@
 -- Each fact before place k is in the state.
-use borrow.Author.Tests.{not-true, not-false}
 use Rattle.sets.specs.Sets.{sets_of}
 use Rattle.waiting.specs.Waiting.{Passing}
 use Rattle.waiting.proofs.Places.{passing_turn, open_at}
