@@ -74,13 +74,13 @@ pub stops_at : (b : Bool) (k end : ℕ) → true ≡ b → k ≡ end → b ≡ e
 stops_at b k end e h = sym e ∙ sym (eq-eqb k end h)
 
 -- one precondition that is not marked is enough
-and-false : (x : Bool) → (x && false) ≡ false
-and-false true = refl
-and-false false = refl
+and_false : (x : Bool) → (x && false) ≡ false
+and_false true = refl
+and_false false = refl
 
 holds_rest : (s : State) (f : Fact) (fs : List Fact) → holds s fs ≡ false → holds s (f ∷ fs) ≡ false
 unfolding holds
-holds_rest s f fs e = rw e (and-false (s f.var f.val))
+holds_rest s f fs e = rw e (and_false (s f.var f.val))
 
 pub unmarked_at : (task marks : List ℕ) (i n a b k : ℕ) → Facts task a b → k ≡ a + n → k < b → (get_or marks (get_or task k 0) 0 ≡ i → ⊥) → holds (marked i marks) (facts_in task a b) ≡ false
 unmarked_at task marks i zero a b k F e h t =
