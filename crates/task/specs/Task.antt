@@ -7,7 +7,7 @@
 --   behind         facts, each 64 × variable + value
 --   behind these   the heads: for each fact 64 × variable + value the first action that changes to it; 64 places a variable
 -- The loader writes all but the order, the next actions and the heads, which are written once the painting is looked at (Links.antt).
-use Rattle.std.specs.Prelude.{List, [], ◌∷◌, map, ℕ, zero, suc, ◌+◌, ◌*◌, ◌/◌, ◌%◌, ◌<◌, ◌≤◌, eqb, length, get_or}
+use Rattle.std.specs.Prelude.{◌≡◌, List, [], ◌∷◌, map, ℕ, zero, suc, ◌+◌, ◌*◌, ◌/◌, ◌%◌, ◌<◌, ◌≤◌, eqb, length, get_or}
 use Rattle.std.proofs.Math.Seq.{slice}
 use Rattle.planning.specs.Record.{Fact, Action, Variable, Task, goal_of}
 use Rattle.planning.specs.Runs.{variables, actions}
@@ -37,8 +37,21 @@ unfoldable pub fact_of : ℕ → Fact
 fact_of w = record { var = w / 64; val = w % 64 }
 
 -- the facts in the numbers from place a up to place b
+-- the facts in a list of numbers
+unfoldable pub facts_of : List ℕ → List Fact
+facts_of facts = map fact_of facts
+
 unfoldable pub facts_in : List ℕ → ℕ → ℕ → List Fact
 facts_in task a b = map fact_of (slice a b task)
+
+-- each number is a fact
+abbrev pub AllFacts : List ℕ → Type 0
+AllFacts facts = (k : ℕ) → k < length facts → get_or facts k 0 < 4096
+
+-- the numbers are facts, and these are they
+pub record States (facts : List ℕ) (fs : List Fact) : Type 0 where
+  pub stated : facts_of facts ≡ fs
+  pub small : AllFacts facts
 
 unfoldable pub variable_in : List ℕ → ℕ → Variable
 variable_in task v = record {

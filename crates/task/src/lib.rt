@@ -2,8 +2,8 @@
 #![tactic(auto)]
 
 ghost use Rattle.std.specs.Prelude.{◌≡◌, ◌+◌, ◌*◌, ◌<◌, ◌≤◌, length, get_or, set};
-ghost use Rattle.planning.specs.Runs.{variables, actions, variable, count, black};
-ghost use Rattle.task.specs.Task.{order_from, links_end, task_in, Heads, Loaded, cost_at, pre_at, eff_at, end_at};
+ghost use Rattle.planning.specs.Runs.{variables, actions, act, variable, count, black};
+ghost use Rattle.task.specs.Task.{order_from, links_end, task_in, Heads, Loaded, States, cost_at, pre_at, eff_at, end_at};
 ghost use Rattle.task.specs.Links.{head_at, next_at, order_in, linked, Unlinked, Prepared};
 ghost use Rattle.task.specs.Rows.{RowWritten};
 ghost use Rattle.task.specs.Goals.{option_of};
@@ -21,7 +21,7 @@ pub fn variables(task: &[u16]) -> usize
     requires { Loaded task.now }
     ensures { result ≡ variables (task_in task.now) }
 {
-    lists::wide(task[0])
+    usize::from(task[0])
 }
 
 // The number of actions.
@@ -29,7 +29,7 @@ pub fn actions(task: &[u16]) -> usize
     requires { Loaded task.now }
     ensures { result ≡ actions (task_in task.now) }
 {
-    lists::wide(task[1])
+    usize::from(task[1])
 }
 
 // The count of values of variable v.
@@ -37,7 +37,7 @@ pub fn count(task: &[u16], v: usize) -> usize
     requires { Loaded task.now × (v < variables (task_in task.now)) }
     ensures { result ≡ count (task_in task.now) v }
 {
-    lists::wide(task[4 * (1 + v)])
+    usize::from(task[4 * (1 + v)])
 }
 
 // Variable v is painted black.
@@ -45,7 +45,7 @@ pub fn is_black(task: &[u16], v: usize) -> bool
     requires { Loaded task.now × (v < variables (task_in task.now)) }
     ensures { result ≡ black (task_in task.now) v }
 {
-    lists::wide(task[4 * (1 + v) + 1]) == 1
+    usize::from(task[4 * (1 + v) + 1]) == 1
 }
 
 // The initial value of variable v.
@@ -53,25 +53,19 @@ pub fn initial(task: &[u16], v: usize) -> usize
     requires { Loaded task.now × (v < variables (task_in task.now)) }
     ensures { result ≡ (variable (task_in task.now) v).init }
 {
-    lists::wide(task[4 * (1 + v) + 2])
-}
-
-#[derive(Clone, Copy)]
-pub enum Goal {
-    Value(u32),
-    Absent,
+    usize::from(task[4 * (1 + v) + 2])
 }
 
 // The goal value of variable v, if it has one.
-pub fn goal_of(task: &[u16], v: usize) -> Goal
+pub fn goal_of(task: &[u16], v: usize) -> Option<u32>
     requires { Loaded task.now × (v < variables (task_in task.now)) }
     ensures { option_of result ≡ (variable (task_in task.now) v).goal }
 {
-    let g = lists::wide(task[4 * (1 + v) + 3]);
+    let g = task[4 * (1 + v) + 3];
     if g < 64 {
-        return Goal::Absent;
+        return None;
     }
-    Goal::Value((g % 64) as u32)
+    Some(u32::from(g % 64))
 }
 
 // The cost of action i.
@@ -79,7 +73,7 @@ pub fn cost(task: &[u16], i: usize) -> usize
     requires { Loaded task.now × (i < actions (task_in task.now)) }
     ensures { result ≡ cost_at task.now i }
 {
-    lists::wide(task[4 * (ACTION_ROWS + i)])
+    usize::from(task[4 * (ACTION_ROWS + i)])
 }
 
 // Where the preconditions of action i start.
@@ -87,7 +81,7 @@ pub fn pre_start(task: &[u16], i: usize) -> usize
     requires { Loaded task.now × (i < actions (task_in task.now)) }
     ensures { result ≡ pre_at task.now i }
 {
-    lists::wide(task[4 * (ACTION_ROWS + i) + 1])
+    usize::from(task[4 * (ACTION_ROWS + i) + 1])
 }
 
 // Where they end and its effects start.
@@ -95,7 +89,7 @@ pub fn eff_start(task: &[u16], i: usize) -> usize
     requires { Loaded task.now × (i < actions (task_in task.now)) }
     ensures { result ≡ eff_at task.now i }
 {
-    lists::wide(task[4 * (ACTION_ROWS + i) + 2])
+    usize::from(task[4 * (ACTION_ROWS + i) + 2])
 }
 
 // Where its effects end.
@@ -103,7 +97,23 @@ pub fn eff_end(task: &[u16], i: usize) -> usize
     requires { Loaded task.now × (i < actions (task_in task.now)) }
     ensures { result ≡ end_at task.now i }
 {
-    lists::wide(task[4 * (ACTION_ROWS + i) + 3])
+    usize::from(task[4 * (ACTION_ROWS + i) + 3])
+}
+
+// The preconditions of action i.
+pub fn preconditions<'a>(task: &'a [u16], i: usize) -> &'a [u16]
+    requires { Loaded task.now × (i < actions (task_in task.now)) }
+    ensures { States result.now (act (task_in task.now) i).pre }
+{
+    &task[pre_start(task, i)..eff_start(task, i)]
+}
+
+// Its effects.
+pub fn effects<'a>(task: &'a [u16], i: usize) -> &'a [u16]
+    requires { Loaded task.now × (i < actions (task_in task.now)) }
+    ensures { States result.now (act (task_in task.now) i).eff }
+{
+    &task[eff_start(task, i)..eff_end(task, i)]
 }
 
 // The first action that changes a black variable to fact f, as it was linked.
@@ -111,8 +121,8 @@ pub fn first_mover(task: &[u16], f: usize) -> usize
     requires { Loaded task.now × (f < 64 * variables (task_in task.now)) }
     ensures { result ≡ head_at task.now f }
 {
-    let heads = lists::wide(task[3]);
-    lists::wide(task[heads + f])
+    let heads = usize::from(task[3]);
+    usize::from(task[heads + f])
 }
 
 // The next action that changes it to the same fact as action i, as it was linked.
@@ -120,7 +130,7 @@ pub fn next_mover(task: &[u16], i: usize) -> usize
     requires { Loaded task.now × (i < 1024) }
     ensures { result ≡ next_at task.now i }
 {
-    lists::wide(task[NEXTS + i])
+    usize::from(task[NEXTS + i])
 }
 
 // The number of black variables in the clients-first order.
@@ -128,7 +138,7 @@ pub fn ordered(task: &[u16]) -> usize
     requires { Prepared task.now }
     ensures { result ≡ length (order_in task.now) }
 {
-    lists::wide(task[2])
+    usize::from(task[2])
 }
 
 // The black variable at place p of that order.
@@ -136,7 +146,7 @@ pub fn order_at(task: &[u16], p: usize) -> usize
     requires { Prepared task.now × (p < length (order_in task.now)) }
     ensures { result ≡ get_or (order_in task.now) p 0 }
 {
-    lists::wide(task[ORDER + p])
+    usize::from(task[ORDER + p])
 }
 
 // No action is linked for the first n facts.
@@ -144,12 +154,8 @@ pub fn unlink(task: &mut [u16], n: usize)
     requires { Heads n task.old }
     ensures { Unlinked n task.old task.new }
 {
-    let heads = lists::wide(task[3]);
-    let mut f = 0;
-    while f < n {
-        task[heads + f] = 65535;
-        f += 1;
-    }
+    let heads = usize::from(task[3]);
+    task[heads..heads + n].fill(65535);
 }
 
 // Action i in front of the chain of fact f.
@@ -157,7 +163,7 @@ pub fn link(task: &mut [u16], f: usize, i: usize)
     requires { Heads (f + 1) task.old × (i < 1024) }
     ensures { task.new ≡ linked f i task.old }
 {
-    let heads = lists::wide(task[3]);
+    let heads = usize::from(task[3]);
     task[NEXTS + i] = task[heads + f];
     task[heads + f] = i as u16;
 }
