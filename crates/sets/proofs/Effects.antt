@@ -11,11 +11,12 @@ use lib.Bits.{bit_or}
 use lib.Dec.{eqb}
 use lib.ListN.{length, get_or, set, length-set}
 use lib.Seq.{slice-cons, slice_empty, get_or-set_same, get_or-set_other}
+use Rattle.std.specs.Prelude.{Some, None}
 use Rattle.planning.specs.Record.{Fact, Action}
-use Rattle.planning.specs.Runs.{State, has, look, holds, step, relaxed, act}
-use Rattle.task.specs.Task.{fact_of, facts_in, action_in, task_in, eff_at, end_at}
+use Rattle.planning.specs.Runs.{State, has, look, holds, step, relaxed}
+use Rattle.task.specs.Task.{fact_of, facts_in}
 use Rattle.sets.specs.Sets.{in_set, sets_of, Asked}
-use Rattle.sets.proofs.Listed.{Rising, Listed}
+use Rattle.sets.proofs.Listed.{Rising}
 use Rattle.sets.proofs.Members.{in_set_added}
 
 -- the sets with one effect, and with each effect of a list in turn
@@ -70,17 +71,13 @@ module _ (l : List ℕ) (k t : ℕ) (h : k < t) (b : t ≤ length l) where
   unfolding holds fact_of
   holds_passes s f ef e = rw (facts_in_cons, ← ef, e) refl
 
-  pub look_here : (v f : ℕ) → f ≡ get_or l k 0 → f / 64 ≡ v → Asked (look (facts_in l k t) v) (f % 64)
+  pub look_here : (v f : ℕ) → f ≡ get_or l k 0 → f / 64 ≡ v → Asked (look (facts_in l k t) v) (Some (f % 64))
   unfolding look fact_of
-  look_here v f ef e = rw (facts_in_cons, ← ef, eq-eqb v (f / 64) (sym e), look) (ap (λ (w : ℕ). w % 64) ef, omega arith)
+  look_here v f ef e = rw (facts_in_cons, ← ef, eq-eqb v (f / 64) (sym e), look) (ap (λ (w : ℕ). Some (w % 64)) ef, omega arith)
 
   pub look_later : (v f : ℕ) → f ≡ get_or l k 0 → (f / 64 ≡ v → ⊥) → look (facts_in l k t) v ≡ look (facts_in l (k + 1) t) v
   unfolding look fact_of
   look_later v f ef e = rw (facts_in_cons, ← ef, ne_eqb v (f / 64) (λ q. e (sym q)), look) refl
-
-  pub put_all_turn : (ms : List ℕ) → put_all (facts_in l k t) ms ≡ put_all (facts_in l (k + 1) t) (put (fact_of (get_or l k 0)) ms)
-  unfolding put_all
-  put_all_turn ms = rw facts_in_cons refl
 
 pub facts_in_none : (l : List ℕ) (k t : ℕ) → k ≡ t → facts_in l k t ≡ []
 unfolding facts_in
@@ -90,54 +87,6 @@ pub holds_end : (s : State) (l : List ℕ) (k t : ℕ) → k ≡ t → holds s (
 unfolding holds
 holds_end s l k t e = rw (facts_in_none l k t e) refl
 
-pub look_end : (l : List ℕ) (k t v : ℕ) → k ≡ t → Asked (look (facts_in l k t) v) 64
+pub look_end : (l : List ℕ) (k t v : ℕ) → k ≡ t → Asked (look (facts_in l k t) v) None
 unfolding look
 look_end l k t v e = rw (facts_in_none l k t e) refl
-
-pub put_all_end : (ms l : List ℕ) (k t : ℕ) → k ≡ t → put_all (facts_in l k t) ms ≡ ms
-unfolding put_all
-put_all_end ms l k t e = rw (facts_in_none l k t e) refl
-
--- a loop over the effects of action i, at k
-pub record Walking (task : List ℕ) (i end k : ℕ) : Type 0 where
-  pub at_end : end ≡ end_at task i
-  pub from : eff_at task i ≤ k
-  pub within : k ≤ end
-
-module _ (task : List ℕ) (i : ℕ) (L : Listed task i) where
-  pub walking_start : (end k : ℕ) → end ≡ end_at task i → k ≡ eff_at task i → Walking task i end k
-  walking_start end k e h = record { at_end = e; from = omega arith; within = omega (arith, L.eff_below) }
-
-  module _ (end k : ℕ) (w : Walking task i end k) where
-    pub walking_inside : k < end → k < length task
-    walking_inside h = omega (arith, L.end_below, w.at_end)
-
-    pub walking_small : k < end → get_or task k 0 < 4096
-    walking_small h = L.small k (omega (arith, L.pre_below, w.from)) (omega (arith, w.at_end))
-
-    pub walking_turn : k < end → Walking task i end (k + 1)
-    walking_turn h = record { at_end = w.at_end; from = omega (arith, w.from); within = omega arith }
-
--- effects from k on are left to put into the sets ms
-pub record Putting (task : List ℕ) (i : ℕ) (ms₀ ms : List ℕ) (k : ℕ) : Type 0 where
-  pub long₀ : length ms₀ ≡ 64
-  pub long : length ms ≡ 64
-  pub so_far : put_all (facts_in task (eff_at task i) (end_at task i)) ms₀ ≡ put_all (facts_in task k (end_at task i)) ms
-
-pub putting_start : (task : List ℕ) (i : ℕ) (ms : List ℕ) (k : ℕ) → k ≡ eff_at task i → length ms ≡ 64 → Putting task i ms ms k
-putting_start task i ms k h n = record { long₀ = n; long = n; so_far = rw h refl }
-
-module _ (task : List ℕ) (i : ℕ) (L : Listed task i) (end k : ℕ) (ms₀ ms : List ℕ) (w : Walking task i end k) (p : Putting task i ms₀ ms k) where
-  pub putting_turn : k < end → (f v x y : ℕ) → f ≡ get_or task k 0 → v ≡ f / 64 → x ≡ f % 64 → y ≡ 2 ^ x → Putting task i ms₀ (set ms v (bit_or (get_or ms v 0) y)) (k + 1)
-  unfolding put fact_of
-  putting_turn h f v x y ef ev ex ey = record {
-    long₀ = p.long₀;
-    long = length-set ms v (bit_or (get_or ms v 0) y) ∙ p.long;
-    so_far = p.so_far ∙ put_all_turn task k (end_at task i) (omega (arith, w.at_end)) L.end_below ms ∙ rw (ey, ex, ev, ef) refl;
-  }
-
-  pub putting_end : end ≤ k → sets_of ms ≡ step relaxed (act (task_in task) i) (sets_of ms₀)
-  unfolding action_in
-  putting_end h =
-      ap sets_of (sym (p.so_far ∙ put_all_end ms task k (end_at task i) (omega (arith, w.within, w.at_end))))
-      ∙ put_all_step (action_in task i) ms₀ L.rises p.long₀ ∙ ap (λ (a : Action). step relaxed a (sets_of ms₀)) L.states

@@ -6,4 +6,5 @@ pub mod Loading
 pub mod Listed
 pub mod Facts
 pub mod Listing
+pub mod Slices
 pub mod Asking

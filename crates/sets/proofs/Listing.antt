@@ -6,7 +6,7 @@ use Prim.Native.Nat.{ℕ, ◌+◌, ◌<◌, ◌≤◌}
 use native.Mathlib.Omega.{arith}
 use lib.ListN.{length, get_or}
 use Rattle.planning.specs.Record.{Fact, Task}
-use Rattle.planning.specs.Runs.{variables, actions, count, goals}
+use Rattle.planning.specs.Runs.{variables, actions, count, act, goals}
 use Rattle.laws.proofs.Formed.{Sorted, Formed, goals_sorted}
 use Rattle.task.specs.Task.{facts_in, task_in, Loaded, eff_at, end_at}
 use Rattle.task.proofs.Reading.{task_in_act}
@@ -31,6 +31,9 @@ loaded_listed task L i b =
       rises = sorted_rising (variables (task_in task)) (count (task_in task)) 0 (facts_in task (eff_at task i) (end_at task i)) F.variables_max (rw (eff_facts task L i b) (F.eff_sorted i));
       states = sym (task_in_act task i b);
     }
+
+pub effects_rise : (task : List ℕ) → Loaded task → (i : ℕ) → i < actions (task_in task) → Rising 0 (act (task_in task) i).eff
+effects_rise task L i b = let F = L.formed in sorted_rising (variables (task_in task)) (count (task_in task)) 0 (act (task_in task) i).eff F.variables_max (F.eff_sorted i)
 
 -- a list that states the goals
 pub goals_small : (t : Task) (l : List ℕ) (n : ℕ) → Formed t → n ≤ length l → facts_in l 0 n ≡ goals t → (k : ℕ) → k < n → get_or l k 0 < 4096

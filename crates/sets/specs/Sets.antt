@@ -1,6 +1,6 @@
 -- Sets of values as numbers, and the states that 64 of them, with 64 newest values, stand for.
-use Rattle.std.specs.Prelude.{◌≡◌, ◌⊎◌, Bool, true, false, ◌&&◌, List, ℕ, suc, ◌/◌, ◌%◌, ◌^◌, ◌<◌, ◌≤◌, T, eqb, length, get_or}
-use Rattle.std.proofs.Math.Option.{Option, none, some}
+use Rattle.std.specs.Prelude.{◌≡◌, ◌⊎◌, Bool, true, false, ◌&&◌, List, ℕ, suc, ◌/◌, ◌%◌, ◌^◌, ◌<◌, ◌≤◌, T, eqb, length, get_or, Option, None, Some}
+use Rattle.std.proofs.Math.Option as math
 use Rattle.planning.specs.Record.{Task}
 use Rattle.planning.specs.Runs.{State, Mode, holds, act, variables, count}
 use Rattle.planning.specs.Newest.{Values, alone}
@@ -60,7 +60,7 @@ WithOnly i before after = (j : ℕ) → j < 1024 → T (listed after j) → (j �
 abbrev pub Within : Task → State → Type 0
 Within t s = (v d : ℕ) → s v d ≡ true → (v < variables t) × (d < count t v)
 
--- r is the value asked, 64 for none
-abbrev pub Asked : Option ℕ → ℕ → Type 0
-Asked none r = r ≡ 64
-Asked (some d) r = (r ≡ d) × (d < 64)
+-- r is the value asked, which is below 64, if one is
+abbrev pub Asked : math.Option ℕ → Option ℕ → Type 0
+Asked math.none r = r ≡ None
+Asked (math.some d) r = (r ≡ Some d) × (d < 64)
