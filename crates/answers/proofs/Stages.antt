@@ -4,14 +4,15 @@ use mathlib.Core.List.{List, [], ◌∷◌, ◌++◌}
 use mathlib.Core.Option.{none, some}
 use Prim.Native.Nat.{ℕ}
 use native.Mathlib.Omega.{arith}
+use Rattle.std.specs.Prelude.{Result, Ok, Err}
 use Rattle.answers.specs.declared.Refusal.{Refusal}
-use Rattle.answers.specs.declared.Checked.{Checked}
-use Rattle.answers.specs.declared.Checked.TheVariants as checked
-use Rattle.answers.specs.declared.Number.{Number}
-use Rattle.answers.specs.declared.Number.TheVariants.{Value, Refused}
-use Rattle.answers.specs.Answers.{check_of, value_of, refusal_in, refusal_of}
+use Rattle.answers.specs.Answers.{number_of, check_of, answer_by}
 use Rattle.planning.specs.Basics.{Check, refuse, and_then, in_order, Answer, answer, refused, done}
 use Rattle.laws.proofs.Checks.{in_order-++}
+
+-- a refusal as a check has it
+abbrev pub refusal : Refusal → Check
+refusal f = refuse (number_of f.reason) f.place
 
 -- what the answer says of the checks
 pub answer_refused : {A : Type 0} (c : Check) (a : A) (n p : ℕ) → answer c a ≡ refused n p → c ≡ refuse n p
@@ -24,53 +25,73 @@ unfolding answer
 answer_done none a b e = (refl, cc)
 answer_done (some r) a b e = let z : ◌≡◌ {A = ℕ} 0 1 = cc in absurd (omega arith)
 
--- a stage that passes leaves the rest
+-- checks that pass, and those of which one refuses, as an answer
+pub answer_passing : {A : Type 0} (c : Check) (b : A) → c ≡ none → done b ≡ answer c b
+unfolding answer
+answer_passing c b e = rw e refl
+
+pub answer_refusing : {A : Type 0} (c : Check) (b : A) (n p : ℕ) → c ≡ refuse n p → refused n p ≡ answer c b
+unfolding answer
+answer_refusing c b n p e = rw e refl
+
+-- an answer whose checks pass
+pub answer_passes : {A : Type 0} (x : Answer A) (c : Check) (b : A) → x ≡ answer c b → c ≡ none → x ≡ done b
+answer_passes x c b h e = h ∙ sym (answer_passing c b e)
+
+-- what a layer below answered, taken apart: it passed with a value, or its refusal is handed on
+module _ {A B : Type 0} (g : A → B) where
+  pub passed : (r : Result A Refusal) (v : A) (c : Check) (b : B) → r ≡ Ok v → answer_by g r ≡ answer c b → (c ≡ none) × (b ≡ g v)
+  passed r v c b e h = answer_done c b (g v) (sym h ∙ ap (answer_by g) e)
+
+  pub handed_on : (r : Result A Refusal) (f : Refusal) (c : Check) (b : B) → r ≡ Err f → answer_by g r ≡ answer c b → c ≡ refusal f
+  handed_on r f c b e h = answer_refused c b (number_of f.reason) f.place (sym h ∙ ap (answer_by g) e)
+
+-- the same of a check
+pub check_passed : (r : Result Unit Refusal) (u : Unit) (k : Check) → r ≡ Ok u → check_of r ≡ k → k ≡ none
+check_passed r u k e h = sym h ∙ ap check_of e
+
+pub check_refused : (r : Result Unit Refusal) (f : Refusal) (k : Check) → r ≡ Err f → check_of r ≡ k → k ≡ refusal f
+check_refused r f k e h = sym h ∙ ap check_of e
+
+-- checks one by one: the first passes, and the rest says; or it refuses
+pub skip_one : (c : Check) (xs : List Check) → c ≡ none → in_order (c ∷ xs) ≡ in_order xs
+unfolding in_order and_then
+skip_one c xs e = rw e refl
+
+pub hit_one : (c : Check) (xs : List Check) (n p : ℕ) → c ≡ refuse n p → in_order (c ∷ xs) ≡ refuse n p
+unfolding in_order and_then
+hit_one c xs n p e = rw e refl
+
+pub none_left : in_order [] ≡ none
+unfolding in_order
+none_left = refl
+
+-- stage by stage
 pub stage_passes : (xs ys : List Check) → in_order xs ≡ none → in_order (xs ++ ys) ≡ in_order ys
 unfolding and_then
 stage_passes xs ys e = rw (in_order-++ xs ys, e) refl
 
--- what a layer below answered, taken apart: it passed with a value, or its refusal is handed on
-pub passed : (r : Number) (v : ℕ) (c : Check) (b : ℕ) → r ≡ Value v → value_of r ≡ answer c b → (c ≡ none) × (b ≡ v)
-passed r v c b e h = answer_done c b v (sym h ∙ ap value_of e)
+pub stage_stops : (xs ys : List Check) (n p : ℕ) → in_order xs ≡ refuse n p → in_order (xs ++ ys) ≡ refuse n p
+unfolding and_then
+stage_stops xs ys n p e = rw (in_order-++ xs ys, e) refl
 
-pub handed_on : (r : Number) (f g : Refusal) (c : Check) (b : ℕ) → r ≡ Refused f → g ≡ refusal_of r → value_of r ≡ answer c b → c ≡ refuse g.number g.place
-handed_on r f g c b e k h = rw (k ∙ ap refusal_of e) (answer_refused c b f.number f.place (sym h ∙ ap value_of e))
-
--- the same of a check
-pub passed_by_lem : (c : Checked) (k : Check) → c ≡ checked.Accepted → check_of c ≡ k → k ≡ none
-passed_by_lem c k e h = sym h ∙ ap check_of e
-
-pub refused_by : (c : Checked) (f g : Refusal) (k : Check) → c ≡ checked.Refused f → g ≡ refusal_in c → check_of c ≡ k → k ≡ refuse g.number g.place
-refused_by c f g k e q h = sym h ∙ ap check_of e ∙ rw (q ∙ ap refusal_in e) refl
-
--- the refusal of the first check is the answer of them all
-pub stops : (r : Number) (f : Refusal) (c : Check) (b : ℕ) (xs : List Check) (d : ℕ) → r ≡ Refused f → value_of r ≡ answer c b → value_of r ≡ answer (in_order (c ∷ xs)) d
-unfolding in_order and_then answer
-stops r f c b xs d e h = rw (e, answer_refused c b f.number f.place (sym h ∙ ap value_of e)) refl
-
--- checks one by one, and stage by stage: the first passes, and the rest says
+-- the same of an answer, with the value that comes where all pass
 pub skip : {A : Type 0} (c : Check) (xs : List Check) (a : Answer A) (b : A) → c ≡ none → a ≡ answer (in_order xs) b → a ≡ answer (in_order (c ∷ xs)) b
-unfolding in_order and_then
-skip c xs a b e h = rw e h
+skip c xs a b e h = rw (skip_one c xs e) h
+
+pub hit : {A : Type 0} (c : Check) (xs : List Check) (n p : ℕ) (b : A) → c ≡ refuse n p → refused n p ≡ answer (in_order (c ∷ xs)) b
+hit c xs n p b e = answer_refusing _ b n p (hit_one c xs n p e)
+
+pub pass_end : {A : Type 0} (b : A) → done b ≡ answer (in_order []) b
+pass_end b = answer_passing _ b none_left
 
 pub skip_stage : {A : Type 0} (xs ys : List Check) (a : Answer A) (b : A) → in_order xs ≡ none → a ≡ answer (in_order ys) b → a ≡ answer (in_order (xs ++ ys)) b
 skip_stage xs ys a b e h = rw (stage_passes xs ys e) h
 
--- the first refuses
-pub hit : {A : Type 0} (c : Check) (xs : List Check) (n p : ℕ) (b : A) → c ≡ refuse n p → refused n p ≡ answer (in_order (c ∷ xs)) b
-unfolding in_order and_then answer
-hit c xs n p b e = rw e refl
+-- a layer below refuses
+module _ {A B : Type 0} (g : A → B) (r : Result A Refusal) (f : Refusal) where
+  pub stops : {D : Type 0} (c : Check) (b : B) (xs : List Check) (d : D) → r ≡ Err f → answer_by g r ≡ answer c b → refused (number_of f.reason) f.place ≡ answer (in_order (c ∷ xs)) d
+  stops c b xs d e h = hit c xs (number_of f.reason) f.place d (handed_on g r f c b e h)
 
-pub stops_stage : (r : Number) (f : Refusal) (xs ys : List Check) (b d : ℕ) → r ≡ Refused f → value_of r ≡ answer (in_order xs) b → value_of r ≡ answer (in_order (xs ++ ys)) d
-unfolding and_then answer
-stops_stage r f xs ys b d e h = rw (e, in_order-++ xs ys, answer_refused (in_order xs) b f.number f.place (sym h ∙ ap value_of e)) refl
-
--- no check is left
-pub pass_end : {A : Type 0} (b : A) → done b ≡ answer (in_order []) b
-unfolding in_order answer
-pass_end b = refl
-
--- an answer whose checks pass
-pub answer_passes : {A : Type 0} (x : Answer A) (c : Check) (b : A) → x ≡ answer c b → c ≡ none → x ≡ done b
-unfolding answer
-answer_passes x c b h e = h ∙ rw e refl
+  pub stops_stage : {D : Type 0} (xs ys : List Check) (b : B) (d : D) → r ≡ Err f → answer_by g r ≡ answer (in_order xs) b → refused (number_of f.reason) f.place ≡ answer (in_order (xs ++ ys)) d
+  stops_stage xs ys b d e h = answer_refusing _ d _ _ (stage_stops xs ys (number_of f.reason) f.place (handed_on g r f (in_order xs) b e h))

@@ -1,15 +1,18 @@
--- 9.2 and 9.5: number, place and values for each case of the planner's answer.
-use Rattle.std.specs.Prelude.{ℕ}
-use Rattle.planning.specs.Basics.{Answer, refused, done}
-use Rattle.planning.specs.Calls.{Planned as Result}
-use Rattle.answers.specs.declared.Planned.{Planned}
-use Rattle.answers.specs.declared.Planned.TheVariants.{Plan, Refused}
+-- 9.2: the planner's answer as the definitions have it.
+use Rattle.std.specs.Prelude.{ℕ, Result, Ok, Err}
+use Rattle.planning.specs.Basics.{Answer}
+use Rattle.planning.specs.Calls.{Planned}
+use Rattle.answers.specs.Answers.{answer_by}
+use Rattle.answers.specs.declared.Refusal.{Refusal}
+use Rattle.answers.specs.declared.Plan.{Plan}
 
-abbrev pub answer_of : Planned → Answer Result
-answer_of (Plan s c n k v) = done (record { steps = s; cost = c; real' = v; runs = n; searches' = k })
-answer_of (Refused f) = refused f.number f.place
+abbrev pub planned_of : Plan → Planned
+planned_of p = record { steps = p.steps; cost = p.cost; real' = p.real; runs = p.runs; searches' = p.searches }
+
+abbrev pub answer_of : Result Plan Refusal → Answer Planned
+answer_of = answer_by planned_of
 
 -- the steps, 0 after a refusal
-abbrev pub steps_of : Planned → ℕ
-steps_of (Plan s c n k v) = s
-steps_of (Refused f) = 0
+abbrev pub steps_of : Result Plan Refusal → ℕ
+steps_of (Ok p) = p.steps
+steps_of (Err f) = 0
