@@ -17,7 +17,7 @@ use Rattle.laws.proofs.Facts.{holds→sub, sub→holds}
 use Rattle.laws.proofs.Steps.{step_eff, step_keep}
 use Rattle.sets.specs.Sets.{in_set, listed, Known, WithOnly}
 use Rattle.sets.proofs.Members.{in_set_empty, in_set_or, in_set_single}
-use Rattle.applying.proofs.RedBlack.{step_held}
+use Rattle.applying.proofs.RedBlackSteps.{step_held}
 
 -- action i joins the set
 module _ (set₀ : List ℕ) (long : length set₀ ≡ 16) (i w : ℕ) (near : i < 1024) (e : w ≡ bit_or (get_or set₀ (i / 64) 0) (2 ^ (i % 64))) where

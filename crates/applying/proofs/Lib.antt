@@ -1,3 +1,3 @@
-pub mod RedBlack
+pub mod RedBlackSteps
 pub mod Knowing
 pub mod Running
