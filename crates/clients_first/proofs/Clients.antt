@@ -183,9 +183,12 @@ module _ (t : Task) (rows : List ℕ) (n : ℕ) (arcs : sets_of rows ≡ black_a
         (sym (append-nil (slice order_from (order_from + k) task))
         ∙ sym (ap (λ (l : List ℕ). slice order_from (order_from + k) task ++ l) (takes_none (n - k) P.taken (same_first none e))) ∙ P.so_far)
 
-    pub taking_end : n ≤ k → t ≡ task_in task₀ → Filled k task₀ task
+    pub taking_end : n ≤ k → t ≡ task_in task₀ → Filled n task₀ task
     unfolding clients_first
-    taking_end h = let z : n - k ≡ 0 = omega arith in filled (sym (append-nil (slice order_from (order_from + k) task)) ∙ (rw z at P.so_far))
+    taking_end h e =
+        let z : n - k ≡ 0 = omega arith in
+        let q : k ≡ n = omega (arith, P.within) in
+        subst (λ (x : ℕ). Filled x task₀ task) q (filled (sym (append-nil (slice order_from (order_from + k) task)) ∙ (rw z at P.so_far)) e)
 
 -- the count is written behind the places
 pub ordered_end : (n : ℕ) (before filled after : List ℕ) → links_end ≤ length before → Filled n before filled → after ≡ set filled 2 n → Ordered before after

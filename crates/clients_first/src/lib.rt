@@ -7,36 +7,23 @@ ghost use Rattle.planning.specs.Runs.{black};
 ghost use Rattle.planning.specs.Painting.{black_arc};
 ghost use Rattle.task.specs.Task.{task_in, Loaded};
 ghost use Rattle.sets.specs.Sets.{in_set, sets_of, mode_of};
-ghost use Rattle.graph.specs.Graph.{found_of};
+ghost use Rattle.task.specs.Goals.{option_of};
 ghost use Rattle.clients_first.specs.Order.{Filled, Ordered};
-
-use graph::Found;
 
 // Variable v is of `left`, and its row leads to none of them.
 fn is_ready(row: u64, left: u64, v: usize) -> bool
     requires { v < 64 }
     ensures { result ≡ (in_set left v && not (some_below 64 (λ u. in_set left u && in_set row u))) }
 {
-    if sets::member(left, v) {
-        row & left == 0
-    } else {
-        false
-    }
+    sets::member(left, v) && row & left == 0
 }
 
 // The lowest variable of `left` with no arc to another of them.
-fn lowest_ready(rows: &[u64; 64], left: u64, n: usize) -> Found
+fn lowest_ready(rows: &[u64; 64], left: u64, n: usize) -> Option<usize>
     requires { n ≤ 64 }
-    ensures { found_of result ≡ first n (λ v. in_set left v && not (some_below 64 (λ u. in_set left u && sets_of rows.now v u))) }
+    ensures { option_of result ≡ first n (λ v. in_set left v && not (some_below 64 (λ u. in_set left u && sets_of rows.now v u))) }
 {
-    let mut v: usize = 0;
-    while v < n {
-        if is_ready(rows[v], left, v) {
-            return Found::At(v);
-        }
-        v += 1;
-    }
-    Found::Nothing
+    (0..n).find(|v| is_ready(rows[*v], left, *v))
 }
 
 // The black variables in the places of the order, clients first. The answer is their number.
@@ -46,17 +33,14 @@ fn fill_order(task: &mut [u16], rows: &[u64; 64], paint: u64) -> usize
 {
     let n = task::variables(task);
     let mut left = paint;
-    let mut k: usize = 0;
-    while k < n {
-        let f = lowest_ready(rows, left, n);
-        let Found::At(v) = f else {
+    for k in 0..n {
+        let Some(v) = lowest_ready(rows, left, n) else {
             return k;
         };
         task::set_order(task, k, v);
-        left = left ^ sets::single(v);
-        k += 1;
+        left ^= sets::single(v);
     }
-    k
+    n
 }
 
 // The clients-first order of the black variables.

@@ -7,10 +7,9 @@ ghost use Rattle.planning.specs.Basics.{first};
 ghost use Rattle.planning.specs.Painting.{black_arc, cyclic};
 ghost use Rattle.task.specs.Task.{task_in, Loaded};
 ghost use Rattle.sets.specs.Sets.{in_set, sets_of, mode_of};
-ghost use Rattle.graph.specs.Graph.{Rows, found_of};
+ghost use Rattle.task.specs.Goals.{option_of};
+ghost use Rattle.graph.specs.Graph.{Rows};
 ghost use Rattle.cycles.specs.Cycles.{through, via, StartBelow};
-
-use graph::Found;
 
 // A row with what `onward`, the row of k, leads to, if it leads to k.
 fn extended(row: u64, k: usize, onward: u64) -> u64
@@ -30,10 +29,8 @@ fn join_at(rows: &mut [u64; 64], n: usize, k: usize)
     ensures { Rows rows.new (through k (sets_of rows.old)) }
 {
     let onward = rows[k];
-    let mut u: usize = 0;
-    while u < n {
+    for u in 0..n {
         rows[u] = extended(rows[u], k, onward);
-        u += 1;
     }
 }
 
@@ -42,33 +39,24 @@ fn closure(mut rows: [u64; 64], n: usize) -> [u64; 64]
     requires { (n ≤ 64) × StartBelow n (sets_of rows) }
     ensures { sets_of result ≡ via (sets_of rows) n }
 {
-    let mut k: usize = 0;
-    while k < n {
+    for k in 0..n {
         join_at(&mut rows, n, k);
-        k += 1;
     }
     rows
 }
 
 // The lowest variable below n with a way to itself.
-fn lowest_on_cycle(rows: &[u64; 64], n: usize) -> Found
+fn lowest_on_cycle(rows: &[u64; 64], n: usize) -> Option<usize>
     requires { n ≤ 64 }
-    ensures { found_of result ≡ first n (λ v. sets_of rows.now v v) }
+    ensures { option_of result ≡ first n (λ v. sets_of rows.now v v) }
 {
-    let mut v: usize = 0;
-    while v < n {
-        if sets::member(rows[v], v) {
-            return Found::At(v);
-        }
-        v += 1;
-    }
-    Found::Nothing
+    (0..n).find(|v| sets::member(rows[*v], *v))
 }
 
 // Check 7: the lowest black variable on a cycle.
-pub fn cycle(task: &[u16], rows: [u64; 64]) -> Found
+pub fn cycle(task: &[u16], rows: [u64; 64]) -> Option<usize>
     requires { Loaded task.now × (sets_of rows ≡ black_arc (task_in task.now)) }
-    ensures { found_of result ≡ cyclic (task_in task.now) }
+    ensures { option_of result ≡ cyclic (task_in task.now) }
 {
     let n = task::variables(task);
     let ways = closure(rows, n);

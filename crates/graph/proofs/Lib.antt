@@ -1,2 +1,3 @@
 pub mod Bits
+pub mod Found
 pub mod Rows

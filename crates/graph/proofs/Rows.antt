@@ -2,7 +2,7 @@
 use mathlib.Core.Path.{◌≡◌, refl, sym, ap, ◌∙◌, fun_ext, subst}
 use mathlib.Core.Logic.{inl, inr}
 use mathlib.Core.Bool.{Bool, true, false, not, ◌&&◌, ◌||◌, or-false, or_assoc, and-false}
-use mathlib.Core.List.{List, [], ◌∷◌, ◌++◌}
+use mathlib.Core.List.{List, ◌∷◌}
 use Prim.Native.Nat.{ℕ, ◌+◌, ◌/◌, ◌%◌, ◌^◌, ◌<◌, ◌≤◌}
 use native.Mathlib.Numerals.{add-one}
 use native.Mathlib.Omega.{arith}
@@ -10,7 +10,7 @@ use native.Mathlib.Decide.{ℕ_discrete}
 use borrow.Author.Tests.{eq-eqb, ne_eqb}
 use lib.Bits.{bit_or, bit_xor}
 use lib.Dec.{T, T_not, eqb}
-use lib.ListN.{length, get_or, set, replicate, length-set}
+use lib.ListN.{length, get_or, set, drop, replicate, length-set}
 use lib.Seq.{get_or-set_same, get_or-set_other}
 use Rattle.planning.specs.Basics.{some_below}
 use Rattle.planning.specs.Record.{Fact, Action, Task}
@@ -20,31 +20,22 @@ use Rattle.laws.proofs.Tests.{T→true, bool_same, or_l, or_r, or_cases, and_l, 
 use Rattle.laws.proofs.Facts.{has→touches, touches→has}
 use Rattle.laws.proofs.Arcs.{reduced_elim, unchanged}
 use Rattle.laws.proofs.Lists.{get_d_zeros}
-use Rattle.task.specs.Task.{fact_of, facts_in, pre_at, eff_at, end_at, task_in, Loaded}
-use Rattle.sets.specs.Sets.{in_set, sets_of, mode_of, Facts}
+use Rattle.task.specs.Task.{fact_of, facts_of}
+use Rattle.sets.specs.Sets.{in_set, sets_of, mode_of}
 use Rattle.sets.proofs.Members.{in_set_single, in_set_empty, in_set_or}
-use Rattle.sets.proofs.Effects.{facts_in_cons, facts_in_none}
-use Rattle.sets.proofs.Facts.{eff_facts, all_facts}
+use Rattle.sets.proofs.Slices.{facts_of_drop, facts_of_end}
 use Rattle.graph.specs.Graph.{Rows, with_action}
 use Rattle.graph.proofs.Bits.{in_set_without}
 
-pub touches-++ : (fs gs : List Fact) (v : ℕ) → touches (fs ++ gs) v ≡ (touches fs v || touches gs v)
-unfolding touches
-touches-++ [] gs v = refl
-touches-++ (f ∷ fs) gs v = rw (touches-++ fs gs v) (sym (or_assoc (eqb v f.var) (touches fs v) (touches gs v)))
-
-pub fact_variable : (task : List ℕ) (a b : ℕ) → Facts task a b → (k f : ℕ) → a ≤ k → k < b → f ≡ get_or task k 0 → f / 64 < 64
-fact_variable task a b F k f p q e = omega (arith, F.small k p q)
-
 -- what is touched by the facts from place k on
-module _ (task : List ℕ) (a b : ℕ) (F : Facts task a b) where
-  touches_more : (k : ℕ) → k < b → (v : ℕ) → touches (facts_in task k b) v ≡ (eqb v (get_or task k 0 / 64) || touches (facts_in task (k + 1) b) v)
+module _ (facts : List ℕ) (k : ℕ) where
+  touches_more : k < length facts → (v : ℕ) → touches (facts_of (drop k facts)) v ≡ (eqb v (get_or facts k 0 / 64) || touches (facts_of (drop (k + 1) facts)) v)
   unfolding touches fact_of
-  touches_more k h v = rw (facts_in_cons task k b h F.within) refl
+  touches_more h v = rw (facts_of_drop facts k h) refl
 
-  touches_none : (k : ℕ) → k ≡ b → (v : ℕ) → touches (facts_in task k b) v ≡ false
+  touches_none : length facts ≤ k → (v : ℕ) → touches (facts_of (drop k facts)) v ≡ false
   unfolding touches
-  touches_none k e v = rw (facts_in_none task k b e) refl
+  touches_none h v = rw (facts_of_end facts k h) refl
 
 -- one fact in front of a list without those of pre
 touches_without : (pre : List Fact) (f : Fact) (fs : List Fact) (v : ℕ)
@@ -56,78 +47,62 @@ touches_without pre f fs v = go (has pre f.var f.val)
     go true = refl
     go false = refl
 
--- the black variables of the effects from a up to b that are not among those of pre, collected in a set
-pub record Changing (task : List ℕ) (pre : List Fact) (paint a b m k : ℕ) : Type 0 where
-  pub facts : Facts task a b
-  pub from : a ≤ k
-  pub to : k ≤ b
-  pub so_far : (v : ℕ) → (in_set m v || (in_set paint v && touches (without pre (facts_in task k b)) v)) ≡ (in_set paint v && touches (without pre (facts_in task a b)) v)
+-- the black variables of facts that are not among those of pre, collected in a set: the facts from k on are left
+pub record Changing (facts : List ℕ) (pre : List Fact) (paint m k : ℕ) : Type 0 where
+  pub so_far : (v : ℕ) → (in_set m v || (in_set paint v && touches (without pre (facts_of (drop k facts))) v)) ≡ (in_set paint v && touches (without pre (facts_of facts)) v)
 
-module _ (task : List ℕ) (pre : List Fact) (paint a b : ℕ) where
-  pub changing_start : Facts task a b → (k : ℕ) → k ≡ a → Changing task pre paint a b 0 k
-  changing_start F k e = record { facts = F; from = omega arith; to = omega (arith, F.rises); so_far = λ v. rw (in_set_empty v, e) refl }
+pub changing_start : (facts : List ℕ) (pre : List Fact) (paint : ℕ) → Changing facts pre paint 0 0
+changing_start facts pre paint = record { so_far = λ v. rw (in_set_empty v) refl }
 
-  module _ (m k : ℕ) (p : Changing task pre paint a b m k) where
-    -- the set w gains the variable of fact f exactly where that is black and not needed
-    changing_next : k < b → (f w : ℕ) → f ≡ get_or task k 0
-        → ((v : ℕ) (t : Bool) → (in_set w v || (in_set paint v && t)) ≡ (in_set m v || (in_set paint v && ((not (has pre (f / 64) (f % 64)) && eqb v (f / 64)) || t))))
-        → Changing task pre paint a b w (k + 1)
-    unfolding fact_of
-    changing_next h f w e ew = record {
-      facts = p.facts;
-      from = omega (arith, p.from);
-      to = omega arith;
-      so_far = λ v.
-          ew v (touches (without pre (facts_in task (k + 1) b)) v)
-          ∙ (rw (facts_in_cons task k b h p.facts.within, touches_without pre (fact_of (get_or task k 0)) (facts_in task (k + 1) b) v, ← e) at (p.so_far v));
-    }
+module _ (facts : List ℕ) (pre : List Fact) (paint m k : ℕ) (p : Changing facts pre paint m k) where
+  -- the set w gains the variable of fact f exactly where that is black and not needed
+  changing_next : k < length facts → (f w : ℕ) → f ≡ get_or facts k 0
+      → ((v : ℕ) (t : Bool) → (in_set w v || (in_set paint v && t)) ≡ (in_set m v || (in_set paint v && ((not (has pre (f / 64) (f % 64)) && eqb v (f / 64)) || t))))
+      → Changing facts pre paint w (k + 1)
+  unfolding fact_of
+  changing_next h f w e ew = record {
+    so_far = λ v.
+        ew v (touches (without pre (facts_of (drop (k + 1) facts))) v)
+        ∙ (rw (facts_of_drop facts k h, touches_without pre (fact_of (get_or facts k 0)) (facts_of (drop (k + 1) facts)) v, ← e) at (p.so_far v));
+  }
 
-    module _ (h : k < b) (f : ℕ) (e : f ≡ get_or task k 0) (r : Bool) (c : r ≡ (in_set paint (f / 64) && not (has pre (f / 64) (f % 64)))) where
-      pub changing_turn : r ≡ true → (w x : ℕ) → w ≡ 2 ^ (f / 64) → x ≡ bit_or m w → Changing task pre paint a b x (k + 1)
-      changing_turn q w x ew ex = changing_next h f x e (λ v t. rw (ex, in_set_or m w v, ew, in_set_single (f / 64) v) (go v t (ℕ_discrete v (f / 64))))
-        where
-          n : Bool
-          n = not (has pre (f / 64) (f % 64))
+  module _ (h : k < length facts) (f : ℕ) (e : f ≡ get_or facts k 0) (r : Bool) (c : r ≡ (in_set paint (f / 64) && not (has pre (f / 64) (f % 64)))) where
+    pub changing_turn : r ≡ true → (w x : ℕ) → w ≡ 2 ^ (f / 64) → x ≡ bit_or m w → Changing facts pre paint x (k + 1)
+    changing_turn q w x ew ex = changing_next h f x e (λ v t. rw (ex, in_set_or m w v, ew, in_set_single (f / 64) v) (go v t (ℕ_discrete v (f / 64))))
+      where
+        n : Bool
+        n = not (has pre (f / 64) (f % 64))
 
-          yes_both : T (in_set paint (f / 64) && n)
-          yes_both = rw (← c, q) tt
+        yes_both : T (in_set paint (f / 64) && n)
+        yes_both = rw (← c, q) tt
 
-          go : (v : ℕ) (t : Bool) → Dec (v ≡ f / 64) → ((in_set m v || eqb v (f / 64)) || (in_set paint v && t)) ≡ (in_set m v || (in_set paint v && ((n && eqb v (f / 64)) || t)))
-          go v t (yes z) =
-              rw (z, T→true (in_set paint (f / 64)) (and_l (in_set paint (f / 64)) n yes_both), T→true n (and_r (in_set paint (f / 64)) n yes_both), eq-eqb (f / 64) (f / 64) refl)
-              (or_assoc (in_set m (f / 64)) true t)
-          go v t (no z) = rw (ne_eqb v (f / 64) z, and-false n, or-false (in_set m v)) refl
+        go : (v : ℕ) (t : Bool) → Dec (v ≡ f / 64) → ((in_set m v || eqb v (f / 64)) || (in_set paint v && t)) ≡ (in_set m v || (in_set paint v && ((n && eqb v (f / 64)) || t)))
+        go v t (yes z) =
+            rw (z, T→true (in_set paint (f / 64)) (and_l (in_set paint (f / 64)) n yes_both), T→true n (and_r (in_set paint (f / 64)) n yes_both), eq-eqb (f / 64) (f / 64) refl)
+            (or_assoc (in_set m (f / 64)) true t)
+        go v t (no z) = rw (ne_eqb v (f / 64) z, and-false n, or-false (in_set m v)) refl
 
-      pub changing_skip : r ≡ false → (x : ℕ) → x ≡ m → Changing task pre paint a b x (k + 1)
-      changing_skip q x ex = changing_next h f x e (λ v t. rw ex (ap (λ (x : Bool). in_set m v || x) (go v t (ℕ_discrete v (f / 64)))))
-        where
-          n : Bool
-          n = not (has pre (f / 64) (f % 64))
+    pub changing_skip : r ≡ false → (x : ℕ) → x ≡ m → Changing facts pre paint x (k + 1)
+    changing_skip q x ex = changing_next h f x e (λ v t. rw ex (ap (λ (x : Bool). in_set m v || x) (go v t (ℕ_discrete v (f / 64)))))
+      where
+        n : Bool
+        n = not (has pre (f / 64) (f % 64))
 
-          -- where the variable is black, the fact is needed
-          drop : (x y z t : Bool) → (x && y) ≡ false → (x && t) ≡ (x && ((y && z) || t))
-          drop true true z t e = let w : ◌≡◌ {A = ℕ} 0 1 = cc in absurd (omega arith)
-          drop true false z t e = refl
-          drop false y z t e = refl
+        -- where the variable is black, the fact is needed
+        drop : (x y z t : Bool) → (x && y) ≡ false → (x && t) ≡ (x && ((y && z) || t))
+        drop true true z t e = let w : ◌≡◌ {A = ℕ} 0 1 = cc in absurd (omega arith)
+        drop true false z t e = refl
+        drop false y z t e = refl
 
-          go : (v : ℕ) (t : Bool) → Dec (v ≡ f / 64) → (in_set paint v && t) ≡ (in_set paint v && ((n && eqb v (f / 64)) || t))
-          go v t (yes z) = rw z (drop (in_set paint (f / 64)) n (eqb (f / 64) (f / 64)) t (sym c ∙ q))
-          go v t (no z) = rw (ne_eqb v (f / 64) z, and-false n) refl
+        go : (v : ℕ) (t : Bool) → Dec (v ≡ f / 64) → (in_set paint v && t) ≡ (in_set paint v && ((n && eqb v (f / 64)) || t))
+        go v t (yes z) = rw z (drop (in_set paint (f / 64)) n (eqb (f / 64) (f / 64)) t (sym c ∙ q))
+        go v t (no z) = rw (ne_eqb v (f / 64) z, and-false n) refl
 
-    pub changing_small : k < b → (f : ℕ) → f ≡ get_or task k 0 → f < 4096
-    changing_small h f e = omega (arith, p.facts.small k p.from h)
-
-    pub changing_end : b ≤ k → (v : ℕ) → in_set m v ≡ (in_set paint v && touches (without pre (facts_in task a b)) v)
-    unfolding without touches
-    changing_end h v =
-        let q : facts_in task k b ≡ [] = facts_in_none task k b (omega (arith, p.to)) in
-        sym (or-false (in_set m v)) ∙ (rw (q, and-false (in_set paint v)) at (p.so_far v))
-
--- the effects of an action of the loaded task, reduced
-pub reduced_loaded : (task : List ℕ) → Loaded task → (i : ℕ) → i < actions (task_in task) → (b : ℕ) → b ≡ end_at task i
-    → without (act (task_in task) i).pre (facts_in task (eff_at task i) b) ≡ reduced_effects (act (task_in task) i)
-unfolding reduced_effects
-reduced_loaded task L i h b e = rw (e, eff_facts task L i h) refl
+-- at the end, where the facts are the effects of an action
+pub changing_end : (facts : List ℕ) (a : Action) (paint m k : ℕ) → Changing facts a.pre paint m k → length facts ≤ k → facts_of facts ≡ a.eff
+    → (v : ℕ) → in_set m v ≡ (in_set paint v && touches (reduced_effects a) v)
+unfolding without touches reduced_effects
+changing_end facts a paint m k p h e v = sym (or-false (in_set m v)) ∙ (rw (facts_of_end facts k h, and-false (in_set paint v), e) at (p.so_far v))
 
 -- one row
 pub joined_row : (row changed u paint w : ℕ) → w ≡ 2 ^ u → in_set paint u ≡ true
@@ -151,44 +126,41 @@ kept_row row changed u paint e = fun_ext (λ v. rw e (sym (or-false (in_set row 
 abbrev arcs : ℕ → ℕ → ℕ → ℕ → Bool
 arcs changed paint u v = (in_set paint u && not (eqb u v)) && in_set changed v
 
-pub record Adding (task : List ℕ) (a b changed paint : ℕ) (rows₀ rows : List ℕ) (k : ℕ) : Type 0 where
-  pub from : a ≤ k
-  pub to : k ≤ b
+-- the arcs from the facts from k on are left
+pub record Adding (facts : List ℕ) (changed paint : ℕ) (rows₀ rows : List ℕ) (k : ℕ) : Type 0 where
   pub long : length rows ≡ 64
-  pub so_far : (u v : ℕ) → (sets_of rows u v || (touches (facts_in task k b) u && arcs changed paint u v)) ≡ (sets_of rows₀ u v || (touches (facts_in task a b) u && arcs changed paint u v))
+  pub so_far : (u v : ℕ) → (sets_of rows u v || (touches (facts_of (drop k facts)) u && arcs changed paint u v)) ≡ (sets_of rows₀ u v || (touches (facts_of facts) u && arcs changed paint u v))
 
 own_turn : (r x t : Bool) → ((r || x) || (t && x)) ≡ (r || x)
 own_turn true x t = refl
 own_turn false true t = refl
 own_turn false false t = and-false t
 
-module _ (task : List ℕ) (a b changed paint : ℕ) (rows₀ : List ℕ) (F : Facts task a b) where
-  pub adding_start : length rows₀ ≡ 64 → Adding task a b changed paint rows₀ rows₀ a
-  adding_start n = record { from = omega arith; to = F.rises; long = n; so_far = λ u v. refl }
+module _ (facts : List ℕ) (changed paint : ℕ) (rows₀ : List ℕ) where
+  pub adding_start : length rows₀ ≡ 64 → Adding facts changed paint rows₀ rows₀ 0
+  adding_start n = record { long = n; so_far = λ u v. refl }
 
-  module _ (rows : List ℕ) (k : ℕ) (p : Adding task a b changed paint rows₀ rows k) where
-    pub adding_turn : k < b → (f u w : ℕ) → f ≡ get_or task k 0 → u ≡ f / 64 → mode_of w ≡ (λ v. in_set (get_or rows u 0) v || arcs changed paint u v)
-        → Adding task a b changed paint rows₀ (set rows u w) (k + 1)
+  module _ (rows : List ℕ) (k : ℕ) (p : Adding facts changed paint rows₀ rows k) where
+    pub adding_turn : k < length facts → (f u w : ℕ) → f ≡ get_or facts k 0 → f < 4096 → u ≡ f / 64 → mode_of w ≡ (λ v. in_set (get_or rows u 0) v || arcs changed paint u v)
+        → Adding facts changed paint rows₀ (set rows u w) (k + 1)
     unfolding mode_of sets_of
-    adding_turn h f u w e eu ew = record {
-      from = omega (arith, p.from);
-      to = omega arith;
+    adding_turn h f u w e l eu ew = record {
       long = length-set rows u w ∙ p.long;
-      so_far = λ x v. go x v (ℕ_discrete x u) ∙ (rw (touches_more task a b F k h x, ← e, ← eu) at (p.so_far x v));
+      so_far = λ x v. go x v (ℕ_discrete x u) ∙ (rw (touches_more facts k h x, ← e, ← eu) at (p.so_far x v));
     }
       where
         rest : ℕ → Bool
-        rest x = touches (facts_in task (k + 1) b) x
+        rest x = touches (facts_of (drop (k + 1) facts)) x
 
         go : (x v : ℕ) → Dec (x ≡ u) → (in_set (get_or (set rows u w) x 0) v || (rest x && arcs changed paint x v)) ≡ (in_set (get_or rows x 0) v || ((eqb x u || rest x) && arcs changed paint x v))
         go x v (yes q) =
-            let n : u < length rows = omega (arith, p.long, F.small k p.from h) in
+            let n : u < length rows = omega (arith, p.long) in
             let z : in_set w v ≡ (in_set (get_or rows u 0) v || arcs changed paint u v) = ap (λ (g : ℕ → Bool). g v) ew in
             rw (q, get_or-set_same rows u w 0 n, z, eq-eqb u u refl) (own_turn (in_set (get_or rows u 0) v) (arcs changed paint u v) (rest u))
         go x v (no q) = rw (get_or-set_other rows u x w 0 q, ne_eqb x u q) refl
 
-    pub adding_end : b ≤ k → sets_of rows ≡ (λ u v. sets_of rows₀ u v || (touches (facts_in task a b) u && arcs changed paint u v))
-    adding_end h = fun_ext (λ u. fun_ext (λ v. sym (or-false (sets_of rows u v)) ∙ (rw (touches_none task a b F k (omega (arith, p.to)) u) at (p.so_far u v))))
+    pub adding_end : length facts ≤ k → sets_of rows ≡ (λ u v. sets_of rows₀ u v || (touches (facts_of facts) u && arcs changed paint u v))
+    adding_end h = fun_ext (λ u. fun_ext (λ v. sym (or-false (sets_of rows u v)) ∙ (rw (touches_none facts k h u) at (p.so_far u v))))
 
 -- of what an action mentions, effects that it needs add nothing
 touches_reduced : (a : Action) (u : ℕ) → (touches a.pre u || touches a.eff u) ≡ (touches a.pre u || touches (reduced_effects a) u)
@@ -213,38 +185,40 @@ touches_reduced a u = bool_same (touches a.pre u || touches a.eff u) (touches a.
           or_r (touches a.pre u) (touches a.eff u) (has→touches a.eff u e.0 (reduced_elim a u e.0 e.1).0)
     ]
 
--- the arcs that action i gives, from the loop's equation
-module _ (task : List ℕ) (L : Loaded task) (i : ℕ) (h : i < actions (task_in task)) (paint : ℕ) (s : ℕ → ℕ → Bool) (a c w : ℕ) (ea : a ≡ pre_at task i) (ec : c ≡ end_at task i)
-    (change : (v : ℕ) → in_set w v ≡ (in_set paint v && touches (reduced_effects (act (task_in task) i)) v)) where
-  action : Action
-  action = act (task_in task) i
-
+-- the arcs that an action gives
+module _ (a : Action) (paint : ℕ) (s : ℕ → ℕ → Bool) (w : ℕ) (change : (v : ℕ) → in_set w v ≡ (in_set paint v && touches (reduced_effects a) v)) where
   regroup : (r t : Bool) (mu ne tv mv : Bool) → r ≡ t → (r && ((mu && ne) && (mv && tv))) ≡ ((mu && mv) && (ne && (tv && t)))
   regroup r t mu ne tv mv e = bool_same (r && ((mu && ne) && (mv && tv))) ((mu && mv) && (ne && (tv && t)))
       (λ h. let z : T t = subst T e (search and_l) in search (and_i, and_l, and_r))
       (λ h. let z : T r = subst T (sym e) (search and_r) in search (and_i, and_l, and_r))
 
-  mentions : (u : ℕ) → touches (facts_in task a c) u ≡ (touches action.pre u || touches (reduced_effects action) u)
-  unfolding action
-  mentions u =
-      rw (ea, ec, all_facts task L i h) (touches-++ (act (task_in task) i).pre (act (task_in task) i).eff u)
-      ∙ touches_reduced (act (task_in task) i) u
+  -- those from the preconditions and those from the effects
+  both : (s p e x : Bool) → ((s || (p && x)) || (e && x)) ≡ (s || ((p || e) && x))
+  both true p e x = refl
+  both false true e true = refl
+  both false true true false = refl
+  both false true false false = refl
+  both false false e x = refl
 
-  pub action_arcs : (λ u v. s u v || (touches (facts_in task a c) u && arcs w paint u v)) ≡ with_action (mode_of paint) (act (task_in task) i) s
-  unfolding with_action mode_of action
-  action_arcs = fun_ext (λ u. fun_ext (λ v.
-      let tu : Bool = touches (facts_in task a c) u in
-      let tv : Bool = touches (reduced_effects action) v in
+  all_arcs : (λ u v. s u v || ((touches a.pre u || touches a.eff u) && arcs w paint u v)) ≡ with_action (mode_of paint) a s
+  unfolding with_action mode_of
+  all_arcs = fun_ext (λ u. fun_ext (λ v.
       rw (change v)
       (ap (λ (x : Bool). s u v || x)
-      (regroup tu (touches action.pre u || touches (reduced_effects action) u) (in_set paint u) (not (eqb u v)) tv (in_set paint v) (mentions u)))))
+      (regroup (touches a.pre u || touches a.eff u) (touches a.pre u || touches (reduced_effects a) u) (in_set paint u) (not (eqb u v)) (touches (reduced_effects a) v) (in_set paint v) (touches_reduced a u)))))
+
+  pub action_arcs : (pre eff rows rows' : List ℕ) → facts_of pre ≡ a.pre → facts_of eff ≡ a.eff
+      → sets_of rows ≡ (λ u v. s u v || (touches (facts_of pre) u && arcs w paint u v)) → sets_of rows' ≡ (λ u v. sets_of rows u v || (touches (facts_of eff) u && arcs w paint u v))
+      → sets_of rows' ≡ with_action (mode_of paint) a s
+  action_arcs pre eff rows rows' ep ee er er' =
+      er' ∙ rw (er, ep, ee) (fun_ext (λ u. fun_ext (λ v. both (s u v) (touches a.pre u) (touches a.eff u) (arcs w paint u v))) ∙ all_arcs)
 
   -- nothing black is changed
-  pub action_none : w ≡ 0 → s ≡ with_action (mode_of paint) (act (task_in task) i) s
-  action_none e = fun_ext (λ u. fun_ext (λ v. none_at u v)) ∙ action_arcs
+  pub action_none : w ≡ 0 → s ≡ with_action (mode_of paint) a s
+  action_none e = fun_ext (λ u. fun_ext (λ v. none_at u v)) ∙ all_arcs
     where
-      none_at : (u v : ℕ) → s u v ≡ (s u v || (touches (facts_in task a c) u && arcs w paint u v))
-      none_at u v = rw (e, in_set_empty v, and-false (in_set paint u && not (eqb u v)), and-false (touches (facts_in task a c) u)) (sym (or-false (s u v)))
+      none_at : (u v : ℕ) → s u v ≡ (s u v || ((touches a.pre u || touches a.eff u) && arcs w paint u v))
+      none_at u v = rw (e, in_set_empty v, and-false (in_set paint u && not (eqb u v)), and-false (touches a.pre u || touches a.eff u)) (sym (or-false (s u v)))
 
 -- action i gives the arc from u to v; the whole graph: arcs of the actions below i
 abbrev gives_arc : Task → ℕ → ℕ → ℕ → Bool

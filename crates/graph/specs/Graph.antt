@@ -1,16 +1,9 @@
--- The rows of the graph, and what a search answers.
+-- The rows of the graph.
 use Rattle.std.specs.Prelude.{◌≡◌, Bool, not, ◌||◌, ◌&&◌, List, ℕ, eqb, length}
-use Rattle.std.proofs.Math.Option.{Option, none, some}
 use Rattle.planning.specs.Record.{Action}
 use Rattle.planning.specs.Runs.{Mode, touches}
 use Rattle.planning.specs.Painting.{reduced_effects}
 use Rattle.sets.specs.Sets.{sets_of}
-use Rattle.graph.specs.declared.Found.{Found}
-use Rattle.graph.specs.declared.Found.TheVariants.{At, Nothing}
-
-abbrev pub found_of : Found → Option ℕ
-found_of (At i) = some i
-found_of Nothing = none
 
 -- 64 rows, and the graph that they state
 pub record Rows (rows : List ℕ) (s : ℕ → ℕ → Bool) : Type 0 where

@@ -4,8 +4,8 @@
 ghost use Rattle.std.specs.Prelude.{◌≡◌, ◌||◌, ◌&&◌, not, ℕ, ◌/◌, ◌%◌, ◌<◌, eqb, length};
 ghost use Rattle.planning.specs.Runs.{has, touches, actions, act, black};
 ghost use Rattle.planning.specs.Painting.{reduced_effects, black_arc};
-ghost use Rattle.task.specs.Task.{facts_in, task_in, Loaded};
-ghost use Rattle.sets.specs.Sets.{in_set, sets_of, mode_of, Facts};
+ghost use Rattle.task.specs.Task.{facts_of, task_in, AllFacts, Loaded};
+ghost use Rattle.sets.specs.Sets.{in_set, sets_of, mode_of};
 ghost use Rattle.graph.specs.Graph.{Rows, with_action};
 
 // Effect f of action i is of a black variable and not among its preconditions.
@@ -13,10 +13,7 @@ pub fn changes(task: &[u16], i: usize, f: usize, paint: u64) -> bool
     requires { Loaded task.now × (i < actions (task_in task.now)) × (f < 4096) }
     ensures { result ≡ (in_set paint (f / 64) && not (has (act (task_in task.now) i).pre (f / 64) (f % 64))) }
 {
-    if sets::member(paint, f / 64) {
-        return !sets::needs_fact(task, i, f);
-    }
-    false
+    sets::member(paint, f / 64) && !sets::needs_fact(task, i, f)
 }
 
 // The black variables that action i changes, as a set: those of its reduced effects.
@@ -24,15 +21,13 @@ fn changed(task: &[u16], i: usize, paint: u64) -> u64
     requires { Loaded task.now × (i < actions (task_in task.now)) }
     ensures { (v : ℕ) → in_set result v ≡ (in_set paint v && touches (reduced_effects (act (task_in task.now) i)) v) }
 {
-    let end = task::eff_end(task, i);
+    let effects = task::effects(task, i);
     let mut set: u64 = 0;
-    let mut k = task::eff_start(task, i);
-    while k < end {
-        let f = lists::wide(task[k]);
+    for f in effects {
+        let f = usize::from(*f);
         if changes(task, i, f, paint) {
-            set = set | sets::single(f / 64);
+            set |= sets::single(f / 64);
         }
-        k += 1;
     }
     set
 }
@@ -50,16 +45,14 @@ fn joined(row: u64, targets: u64, u: usize, paint: u64) -> u64
     }
 }
 
-// Arcs from each black variable of the facts from place `from` up to `to`.
-fn add_arcs(rows: &mut [u64; 64], task: &[u16], from: usize, to: usize, targets: u64, paint: u64)
-    requires { Facts task.now from to × (length rows.old ≡ 64) }
-    ensures { Rows rows.new (λ u v. sets_of rows.old u v || (touches (facts_in task.now from to) u && ((in_set paint u && not (eqb u v)) && in_set targets v))) }
+// Arcs from each black variable of the facts.
+fn add_arcs(rows: &mut [u64; 64], facts: &[u16], targets: u64, paint: u64)
+    requires { AllFacts facts.now × (length rows.old ≡ 64) }
+    ensures { Rows rows.new (λ u v. sets_of rows.old u v || (touches (facts_of facts.now) u && ((in_set paint u && not (eqb u v)) && in_set targets v))) }
 {
-    let mut k = from;
-    while k < to {
-        let u = lists::wide(task[k]) / 64;
+    for f in facts {
+        let u = usize::from(*f) / 64;
         rows[u] = joined(rows[u], targets, u, paint);
-        k += 1;
     }
 }
 
@@ -72,14 +65,8 @@ fn add_action(rows: &mut [u64; 64], task: &[u16], i: usize, paint: u64)
     if targets == 0 {
         return;
     }
-    add_arcs(
-        rows,
-        task,
-        task::pre_start(task, i),
-        task::eff_end(task, i),
-        targets,
-        paint,
-    );
+    add_arcs(rows, task::preconditions(task, i), targets, paint);
+    add_arcs(rows, task::effects(task, i), targets, paint);
 }
 
 // The black causal graph; `paint` are the black variables.
@@ -89,17 +76,8 @@ pub fn graph(task: &[u16], paint: u64) -> [u64; 64]
 {
     let n = task::actions(task);
     let mut rows = [0u64; 64];
-    let mut i: usize = 0;
-    while i < n {
+    for i in 0..n {
         add_action(&mut rows, task, i, paint);
-        i += 1;
     }
     rows
-}
-
-// What a search for the lowest variable or action answers.
-#[derive(Clone, Copy)]
-pub enum Found {
-    At(usize),
-    Nothing,
 }
