@@ -1,30 +1,15 @@
 -- A result laid into a lent list: entry by entry to the front, if the capacity is enough.
 use mathlib.Core.Path.{◌≡◌, refl}
-use mathlib.Core.List.{List, ◌++◌, append_assoc}
-use Prim.Native.Nat.{ℕ, suc, ◌+◌, ◌-◌, ◌<◌, ◌≤◌}
-use native.Mathlib.Numerals.{add-one}
+use mathlib.Core.List.{List, ◌++◌}
+use Prim.Native.Nat.{ℕ, ◌-◌, ◌<◌, ◌≤◌}
 use native.Mathlib.Omega.{arith}
 use borrow.Author.Tests.{le-leb, lt-leb}
 use mathlib.Core.Option.{none}
-use lib.ListN.{length, get_or, set, take, drop, replicate, length-append, length-drop}
-use lib.Seq.{take-suc, drop-cons, take-length, set_at, length-take-le, take_at}
+use lib.ListN.{length, take, drop, replicate, length-append, length-drop}
+use lib.Seq.{take_at}
 use Rattle.planning.specs.Basics.{check, refuse, answer}
 use Rattle.planning.specs.Calls.{lent, capacity, room_check}
 use Rattle.lists.specs.Lent.{laid}
-
--- one entry more is copied
-pub copy_turn : (d s : List ℕ) (k : ℕ) → k < length s → length s ≤ length d → set (take k s ++ drop k d) k (get_or s k 0) ≡ take (k + 1) s ++ drop (k + 1) d
-copy_turn d s k h b =
-    rw (
-      drop-cons d k 0 (omega arith),
-      set_at (take k s) (get_or d k 0) (drop (suc k) d) (get_or s k 0) k (length-take-le k s (omega arith)),
-      add-one,
-      take-suc s k 0 h,
-      append_assoc,
-    ) refl
-
-pub copy_end : (d s : List ℕ) (k : ℕ) → k ≡ length s → take k s ++ drop k d ≡ s ++ drop (length s) d
-copy_end d s k e = rw (e, take-length s) refl
 
 pub capacity_le : (n : ℕ) → (capacity n ≤ n) × (capacity n ≤ 32768)
 unfolding capacity

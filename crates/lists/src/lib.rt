@@ -7,7 +7,7 @@ ghost use Rattle.answers.specs.Answers.{check_of};
 ghost use Rattle.lists.specs.Lent.{laid};
 ghost use Rattle.lists.specs.Four.{with_four};
 
-use answers::{Checked, Refusal};
+use answers::{Reason, Refusal};
 
 // A 16-bit number as an index.
 pub fn wide(x: u16) -> usize
@@ -28,54 +28,57 @@ pub fn put_four(list: &mut [u16], i: usize, four: u64)
     list[i + 3] = (four >> 48) as u16;
 }
 
+// Every entry from k on becomes x, whose copies are x.
+fn fill_from<T: Copy>(d: &mut [T], k: usize, x: T)
+    requires copies { T.is_infallible x }
+    requires same { (y : T) → T.is_clone x y → y ≡ x }
+    ensures { d.new ≡ take k d.old ++ replicate (length d.old - k) x }
+{
+    if k < d.len() {
+        d[k..].fill(x);
+    }
+}
+
 // Every entry from k on becomes 65,535.
 pub fn blank_from(d: &mut [u16], k: usize)
     ensures { d.new ≡ take k d.old ++ replicate (length d.old - k) 65535 }
 {
-    let mut i = k;
-    while i < d.len() {
-        d[i] = 65535;
-        i += 1;
-    }
+    fill_from(d, k, 65535);
 }
 
 // Every entry becomes 65,535.
 pub fn blank(d: &mut [u16])
     ensures { d.new ≡ replicate (length d.old) 65535 }
 {
-    blank_from(d, 0);
+    d.fill(65535);
 }
 
 // Every byte from k on becomes 0.
 pub fn clear_from(d: &mut [u8], k: usize)
     ensures { d.new ≡ take k d.old ++ replicate (length d.old - k) 0 }
 {
-    let mut i = k;
-    while i < d.len() {
-        d[i] = 0;
-        i += 1;
-    }
+    fill_from(d, k, 0);
 }
 
 // Every byte becomes 0.
 pub fn clear(d: &mut [u8])
     ensures { d.new ≡ replicate (length d.old) 0 }
 {
-    clear_from(d, 0);
+    d.fill(0);
 }
 
 // The lesser of two numbers.
 pub fn lesser(a: usize, b: usize) -> usize
     ensures { result ≡ min a b }
 {
-    if a < b { a } else { b }
+    a.min(b)
 }
 
 // The capacity of a plan list of n entries.
 pub fn capacity(n: usize) -> usize
     ensures { result ≡ capacity n }
 {
-    lesser(n, 32768)
+    n.min(32768)
 }
 
 // The whole list in the front of another.
@@ -83,41 +86,33 @@ pub fn copy(from: &[u16], to: &mut [u16])
     requires { length from.now ≤ length to.old }
     ensures { to.new ≡ from.now ++ drop (length from.now) to.old }
 {
-    let mut k: usize = 0;
-    while k < from.len() {
-        to[k] = from[k];
-        k += 1;
-    }
+    to[..from.len()].copy_from_slice(from);
 }
 
-// The first n entries at the very end, from the last to the first, as both places may overlap; the answer is where they start.
+// The first n entries at the very end, where both places may overlap; the answer is where they start.
 pub fn to_end(d: &mut [u16], n: usize) -> usize
     requires { n ≤ length d.old }
     ensures { (result ≡ length d.old - n) × (drop result d.new ≡ take n d.old) }
 {
     let from = d.len() - n;
-    let mut k = n;
-    while k > 0 {
-        k -= 1;
-        d[from + k] = d[k];
-    }
+    d.copy_within(..n, from);
     from
 }
 
 // The result in the front of the plan list and 65,535 behind it; 65,535 throughout where it is longer than the capacity.
-pub fn lay(list: &[u16], plan: &mut [u16]) -> Checked
+pub fn lay(list: &[u16], plan: &mut [u16]) -> Result<(), Refusal>
     ensures { (check_of result ≡ room_check (length list.now) (capacity (length plan.old))) × (plan.new ≡ laid (length plan.old) list.now) }
 {
     let n = list.len();
     let room = capacity(plan.len());
     if room < n {
         blank(plan);
-        return Checked::Refused(Refusal {
-            number: 11,
+        return Err(Refusal {
+            reason: Reason::Room,
             place: room as u32,
         });
     }
     copy(list, plan);
     blank_from(plan, n);
-    Checked::Accepted
+    Ok(())
 }
