@@ -7,39 +7,37 @@ ghost use Rattle.answers.specs.Answers.{value_of};
 ghost use Rattle.task.specs.Task.{task_in, Loaded};
 ghost use Rattle.entries.specs.Entries.{leading, list_check};
 
-use answers::{Number, Refusal};
+use answers::{Reason, Refusal};
 
 // The entries before the first that is not below n.
 pub fn leading(list: &[u16], n: usize) -> usize
     ensures { (result ≡ leading n list.now) × (result ≤ length list.now) }
 {
-    let mut k: usize = 0;
-    while k < list.len() {
-        if n <= list[k] as usize {
+    for (k, &i) in list.iter().enumerate() {
+        if n <= usize::from(i) {
             return k;
         }
-        k += 1;
     }
-    k
+    list.len()
 }
 
 // A list of actions: 13, then 9.
-pub fn check_list(task: &[u16], list: &[u16]) -> Number
+pub fn check_list(task: &[u16], list: &[u16]) -> Result<u32, Refusal>
     requires { Loaded task.now }
     ensures { value_of result ≡ answer (list_check (task_in task.now) list.now) (length list.now) }
 {
     if 32768 < list.len() {
-        return Number::Refused(Refusal {
-            number: 13,
+        return Err(Refusal {
+            reason: Reason::Length,
             place: 32768,
         });
     }
     let n = leading(list, task::actions(task));
     if n < list.len() {
-        return Number::Refused(Refusal {
-            number: 9,
+        return Err(Refusal {
+            reason: Reason::Entry,
             place: n as u32,
         });
     }
-    Number::Value(n as u32)
+    Ok(n as u32)
 }
