@@ -2,14 +2,17 @@
 use mathlib.Core.Bool.{Bool, true, false, not, ◌&&◌}
 use mathlib.Core.List.{List, [], ◌∷◌, ◌++◌, append_assoc, append-nil}
 use mathlib.Core.Path.{◌≡◌, refl, sym, ap, ◌∙◌}
-use Prim.Native.Nat.{ℕ, zero, suc, ◌+◌, ◌*◌, ◌/◌, ◌^◌, ◌<◌, ◌≤◌}
+use Prim.Native.Nat.{ℕ, zero, suc, ◌+◌, ◌*◌, ◌/◌, ◌%◌, ◌^◌, ◌<◌, ◌≤◌}
 use native.Mathlib.Nat.{zero-add, suc-add, add_comm}
 use native.Mathlib.Numerals.{add-one}
 use native.Mathlib.Omega.{arith}
 use borrow.Author.Tests.{ne_eqb}
 use lib.Dec.{eqb}
+use mir.Val.{bool_byte}
+use Rattle.std.specs.Prelude.{nat_eq}
 use lib.ListN.{length, get_or, drop, get_or-eq_default}
-use lib.Pow.{pow_pos}
+use lib.Pow.{pow_pos, pow-add}
+use Rattle.std.proofs.lemmas.Nat.{mul-add-lt, shl_whole}
 use lib.Seq.{get_or-drop, drop-drop}
 use Rattle.planning.specs.Basics.{one_if}
 use Rattle.planning.specs.Sheet.{bits_of, mark_of, step_bits, sheet_end, sheet_size}
@@ -33,6 +36,21 @@ unfolding mark_of one_if
 mark_byte zero h = refl
 mark_byte (suc m) h = rw (ne_eqb (suc m) 0 (λ e. omega arith)) (omega arith)
 
+-- a test as a number
+pub one_is : (b : Bool) → bool_byte b ≡ one_if b
+unfolding one_if
+one_is true = refl
+one_is false = refl
+
+pub one_if_lt : (b : Bool) → one_if b < 2
+unfolding one_if
+one_if_lt true = omega arith
+one_if_lt false = omega arith
+
+pub mark_bit : (m : ℕ) → bool_byte (not (nat_eq m 0)) ≡ mark_of 2 m
+unfolding mark_of
+mark_bit m = one_is (not (nat_eq m 0))
+
 zero_unmarked : (e : ℕ) → mark_of e 0 ≡ 0
 unfolding mark_of one_if
 zero_unmarked e = go (eqb e 1)
@@ -49,13 +67,8 @@ unfolding mark_of one_if
 no_mark m = refl
 
 pub mark_of_lt : (e m : ℕ) → mark_of e m < 2
-unfolding mark_of one_if
-mark_of_lt e m = go (eqb e 1) (eqb m 0)
-  where
-    go : (b c : Bool) → one_if (not b && not c) < 2
-    go true c = omega arith
-    go false true = omega arith
-    go false false = omega arith
+unfolding mark_of
+mark_of_lt e m = one_if_lt (not (eqb e 1) && not (eqb m 0))
 
 pub mark_fits : (w : ℕ) → w ≤ 1 → (m i : ℕ) → i < 1024 → mark_of (suc w) m * 1024 + i < 2 ^ (w + 10)
 mark_fits zero h m i l = rw (no_mark m) (omega arith)
@@ -165,23 +178,47 @@ entry_in w l ms i m x h em ex = rw (em, ex) (sym (get_d_entries (suc w) l ms i h
 pub entry_behind : (w : ℕ) (l ms : List ℕ) (i : ℕ) → length l ≤ i → 0 ≡ get_or (entries (suc w) l ms) i 0
 entry_behind w l ms i h = sym (get_or-eq_default (entries (suc w) l ms) 0 (rw length_entries h))
 
+-- an entry in a sheet with marks or without
+pub entry_below : (w : ℕ) → w ≤ 1 → (x : ℕ) → x < 1024 * (w + 1) → x < 2 ^ (w + 10)
+entry_below zero h x l = omega arith
+entry_below (suc zero) h x l = omega arith
+entry_below (suc (suc w)) h x l = absurd (omega arith)
+
+-- Four numbers of n bits as one: each is shifted to its place.
+module _ (n a b c d : ℕ) (ha : a < 2 ^ n) (hb : b < 2 ^ n) (hc : c < 2 ^ n) (hd : d < 2 ^ n) where
+  four_below : ((a * 2 ^ n + b) * 2 ^ n + c) * 2 ^ n + d < 2 ^ (4 * n)
+  four_below =
+      let p = 2 ^ n in
+      let k : 4 * n ≡ n + (n + (n + n)) = omega arith in
+      let u = mul-add-lt a p b p ha hb in
+      let v = mul-add-lt (a * p + b) p c (p * p) u hc in
+      rw (k, pow-add 2 n (n + (n + n)), pow-add 2 n (n + n), pow-add 2 n n) (mul-add-lt ((a * p + b) * p + c) p d (p * (p * p)) v hd)
+
+  pub four_shifted : n ≤ 11
+      → let r = a * 2 ^ (3 * n) % 2 ^ 64 + b * 2 ^ (2 * n) % 2 ^ 64 + c * 2 ^ n % 2 ^ 64 + d in (r ≡ ((a * 2 ^ n + b) * 2 ^ n + c) * 2 ^ n + d) × (r < 2 ^ (4 * n))
+  four_shifted h =
+      let p = 2 ^ n in
+      let k : 3 * n ≡ n + (n + n) = omega arith in
+      let j : 2 * n ≡ n + n = omega arith in
+      let three : 2 ^ (3 * n) ≡ p * (p * p) = rw (k, pow-add 2 n (n + n), pow-add 2 n n) refl in
+      let two : 2 ^ (2 * n) ≡ p * p = rw (j, pow-add 2 n n) refl in
+      let x = shl_whole a n (3 * n) 64 ha (omega arith) in
+      let y = shl_whole b n (2 * n) 64 hb (omega arith) in
+      let z = shl_whole c n n 64 hc (omega arith) in
+      let e : a * 2 ^ (3 * n) + b * 2 ^ (2 * n) + c * p + d ≡ ((a * p + b) * p + c) * p + d = rw (three, two) (omega arith) in
+      rw (x, y, z, e) (refl, four_below)
+
+pub four_entries_below : (w : ℕ) → w ≤ 1 → (l ms : List ℕ) → ((k : ℕ) → get_or l k 0 < 1024) → (i : ℕ) → four_of (w + 10) (entries (suc w) l ms) i < 2 ^ (4 * (w + 10))
+four_entries_below w h l ms small i =
+    let s = entries_fit w h l ms small in
+    four_below (w + 10) _ _ _ _ (s i) (s (i + 1)) (s (i + 2)) (s (i + 3))
+
 -- four entries as one number: without marks they are the steps
 pub plain_is : (w : ℕ) → w ≡ 0 → (l ms : List ℕ) (i r : ℕ) → i + 4 ≤ length l → r ≡ four_of 10 l i → r ≡ four_of (w + 10) (entries (suc w) l ms) i
 plain_is w z l ms i r h e = rw z (e ∙ rw (same i (omega arith), same (i + 1) (omega arith), same (i + 2) (omega arith), same (i + 3) (omega arith)) refl)
   where
     same : (k : ℕ) → k < length l → get_or l k 0 ≡ get_or (entries 1 l ms) k 0
     same k b = sym (get_d_entries 1 l ms k b ∙ rw (no_mark (get_or ms k 0)) (omega arith))
-
--- four numbers, each in its place
-pub four_plain : (w : ℕ) → w ≡ 0 → (xs : List ℕ) (i a b c d : ℕ) → a ≡ get_or xs i 0 → b ≡ get_or xs (i + 1) 0 → c ≡ get_or xs (i + 2) 0 → d ≡ get_or xs (i + 3) 0
-    → a < 1024 * (w + 1) → b < 1024 * (w + 1) → c < 1024 * (w + 1) → d < 1024 * (w + 1)
-    → let r = a * 1073741824 + b * 1048576 + c * 1024 + d in (r ≡ four_of (w + 10) xs i) × (r < 2 ^ (4 * (w + 10)))
-four_plain w z xs i a b c d ea eb ec ed ha hb hc hd = rw z (omega (arith, ea, eb, ec, ed), omega arith)
-
-pub four_marked : (w : ℕ) → w ≡ 1 → (xs : List ℕ) (i a b c d : ℕ) → a ≡ get_or xs i 0 → b ≡ get_or xs (i + 1) 0 → c ≡ get_or xs (i + 2) 0 → d ≡ get_or xs (i + 3) 0
-    → a < 1024 * (w + 1) → b < 1024 * (w + 1) → c < 1024 * (w + 1) → d < 1024 * (w + 1)
-    → let r = a * 8589934592 + b * 4194304 + c * 2048 + d in (r ≡ four_of (w + 10) xs i) × (r < 2 ^ (4 * (w + 10)))
-four_marked w z xs i a b c d ea eb ec ed ha hb hc hd = rw z (omega (arith, ea, eb, ec, ed), omega arith)
 
 -- the size of a sheet by its entries
 pub size_entries : (w : ℕ) → w ≤ 1 → (l ms : List ℕ) → sheet_size (suc w) (length l) ≡ (53 + (w + 10) * length (entries (suc w) l ms) + 7) / 8

@@ -142,13 +142,13 @@ pub bits_moved : (a b c d : ℕ) → a < 2 → b < 2 → c < 2 → d < 2
     ≡ a * 8796093022208 + b * 4294967296 + c * 2097152 + d * 1024
 bits_moved = four_bits _ _ tt
 
--- Four steps, each in its place, with the marks before them.
-pub marked_is : (l ms : List ℕ) (i a b c d x m : ℕ) → i + 4 ≤ length l → a ≡ get_or l i 0 → b ≡ get_or l (i + 1) 0 → c ≡ get_or l (i + 2) 0 → d ≡ get_or l (i + 3) 0 → FourTops ms i x
+-- Four steps, each in its place, and the marks before them.
+pub marked_is : (l ms : List ℕ) (i r x m : ℕ) → i + 4 ≤ length l → r ≡ four_of 11 l i → FourTops ms i x
     → m ≡ x / 2147483648 % 2 * 8796093022208 + x / 8388608 % 2 * 4294967296 + x / 32768 % 2 * 2097152 + x / 128 % 2 * 1024
-    → a * 8589934592 + b * 4194304 + c * 2048 + d + m ≡ four_of 11 (entries 2 l ms) i
-marked_is l ms i a b c d x m h ea eb ec ed t e =
+    → r + m ≡ four_of 11 (entries 2 l ms) i
+marked_is l ms i r x m h er t e =
     let p = get_d_entries 2 l ms i (omega arith) in
     let q = get_d_entries 2 l ms (i + 1) (omega arith) in
-    let r = get_d_entries 2 l ms (i + 2) (omega arith) in
-    let s = get_d_entries 2 l ms (i + 3) (omega arith) in
-    rw (e, t.0, t.1, t.2, t.3, p, q, r, s, ea, eb, ec, ed) (omega arith)
+    let s = get_d_entries 2 l ms (i + 2) (omega arith) in
+    let u = get_d_entries 2 l ms (i + 3) (omega arith) in
+    rw (e, t.0, t.1, t.2, t.3, p, q, s, u, er) (omega arith)

@@ -1,7 +1,7 @@
 -- A number left aligned in a word, and the bits of two numbers as those of one.
 use mathlib.Core.List.{◌++◌, append_assoc}
 use mathlib.Core.Path.{◌≡◌, refl, sym, ap, ◌∙◌}
-use Prim.Native.Nat.{ℕ, suc, ◌+◌, ◌-◌, ◌*◌, ◌/◌, ◌%◌, ◌^◌, ◌<◌, ◌≤◌}
+use Prim.Native.Nat.{ℕ, zero, suc, ◌+◌, ◌-◌, ◌*◌, ◌/◌, ◌%◌, ◌^◌, ◌<◌, ◌≤◌}
 use native.Mathlib.Nat.{div-add-mod'}
 use native.Mathlib.Omega.{arith}
 use lib.Pow.{pow_pos}
@@ -22,19 +22,28 @@ word_bits n m v r h e =
 cut_above : (n m a b : ℕ) → b < 2 ^ m → bits_of (n + m) (a % 2 ^ n * 2 ^ m + b) ≡ bits_of (n + m) (a * 2 ^ m + b)
 cut_above n m a b h = rw (bits_of_add n m (a % 2 ^ n) b h, bits_of_add n m a b h, low_bits n a) refl
 
--- both words, with marks of no bit and of one
-module _ (w a b : ℕ) where
-  pub first_plain : w ≡ 0 → bits_of 64 ((b * 1099511627776 + a) * 524288) ≡ bits_of (5 + 4 * (w + 10)) (b * 2 ^ (4 * (w + 10)) + a) ++ bits_of (19 - 4 * w) 0
-  first_plain z = rw z (word_bits 45 19 (b * 2 ^ 40 + a) _ refl refl)
+-- Both words, with marks of no bit and of one.
+pub first_fits : (w : ℕ) → w ≤ 1 → (b a : ℕ) → b < 32 → a < 2 ^ (4 * (w + 10)) → b * 2 ^ (4 * (w + 10)) % 2 ^ 64 + a < 2 ^ 64
+first_fits zero h b a l m = omega arith
+first_fits (suc zero) h b a l m = omega arith
+first_fits (suc (suc w)) h b a l m = absurd (omega arith)
 
-  pub first_marked : w ≡ 1 → bits_of 64 ((b * 17592186044416 + a) * 32768) ≡ bits_of (5 + 4 * (w + 10)) (b * 2 ^ (4 * (w + 10)) + a) ++ bits_of (19 - 4 * w) 0
-  first_marked z = rw z (word_bits 49 15 (b * 2 ^ 44 + a) _ refl refl)
+pub first_bits : (w : ℕ) → w ≤ 1 → (b a : ℕ) → b < 32 → a < 2 ^ (4 * (w + 10))
+    → bits_of 64 ((b * 2 ^ (4 * (w + 10)) % 2 ^ 64 + a) * 2 ^ (19 - 4 * w) % 2 ^ 64) ≡ bits_of (5 + 4 * (w + 10)) (b * 2 ^ (4 * (w + 10)) + a) ++ bits_of (19 - 4 * w) 0
+first_bits zero h b a l m = word_bits 45 19 (b * 2 ^ 40 + a) _ refl (omega arith)
+first_bits (suc zero) h b a l m = word_bits 49 15 (b * 2 ^ 44 + a) _ refl (omega arith)
+first_bits (suc (suc w)) h b a l m = absurd (omega arith)
 
-  pub second_plain : w ≡ 0 → b < 2 ^ (4 * (w + 10)) → bits_of 64 (a * 8796093022208 % 18446744073709551616 + b * 8) ≡ bits_of 61 (a * 2 ^ (4 * (w + 10)) + b) ++ bits_of 3 0
-  second_plain z h = let l : b < 2 ^ 40 = rw z at h in rw z (word_bits 61 3 (a % 2 ^ 21 * 2 ^ 40 + b) _ refl (omega arith) ∙ rw (cut_above 21 40 a b l) refl)
+pub second_fits : (w : ℕ) → w ≤ 1 → (a b : ℕ) → b < 2 ^ (4 * (w + 10)) → a * 2 ^ (43 + 4 * w) % 2 ^ 64 + b * 8 < 2 ^ 64
+second_fits zero h a b l = omega arith
+second_fits (suc zero) h a b l = omega arith
+second_fits (suc (suc w)) h a b l = absurd (omega arith)
 
-  pub second_marked : w ≡ 1 → b < 2 ^ (4 * (w + 10)) → bits_of 64 (a * 140737488355328 % 18446744073709551616 + b * 8) ≡ bits_of 61 (a * 2 ^ (4 * (w + 10)) + b) ++ bits_of 3 0
-  second_marked z h = let l : b < 2 ^ 44 = rw z at h in rw z (word_bits 61 3 (a % 2 ^ 17 * 2 ^ 44 + b) _ refl (omega arith) ∙ rw (cut_above 17 44 a b l) refl)
+pub second_bits : (w : ℕ) → w ≤ 1 → (a b : ℕ) → b < 2 ^ (4 * (w + 10))
+    → bits_of 64 (a * 2 ^ (43 + 4 * w) % 2 ^ 64 + b * 8) ≡ bits_of 61 (a * 2 ^ (4 * (w + 10)) + b) ++ bits_of 3 0
+second_bits zero h a b l = word_bits 61 3 (a % 2 ^ 21 * 2 ^ 40 + b) _ refl (omega arith) ∙ rw (cut_above 21 40 a b l) refl
+second_bits (suc zero) h a b l = word_bits 61 3 (a % 2 ^ 17 * 2 ^ 44 + b) _ refl (omega arith) ∙ rw (cut_above 17 44 a b l) refl
+second_bits (suc (suc w)) h a b l = absurd (omega arith)
 
 -- the 53 bits before the steps as one number
 pub front_bits : (w r n c : ℕ) → w ≤ 1 → r < 2 → n < 65536 → c < 4294967296

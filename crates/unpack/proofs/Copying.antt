@@ -1,6 +1,6 @@
 -- Reading steps into a list and marks into an area: what has been written in front, and what is left.
 use mathlib.Core.List.{List, [], ◌∷◌, ◌++◌, append_assoc, append-nil}
-use mathlib.Core.Path.{◌≡◌, refl, sym, ap, ◌∙◌}
+use mathlib.Core.Path.{◌≡◌, refl, sym, ◌∙◌}
 use Prim.Native.Nat.{ℕ, zero, suc, ◌+◌, ◌-◌, ◌*◌, ◌/◌, ◌%◌, ◌^◌, ◌<◌, ◌≤◌}
 use native.Mathlib.Nat.{zero-add, suc-add, sub-zero}
 use native.Mathlib.Numerals.{add-one}
@@ -10,7 +10,7 @@ use lib.Seq.{take-suc-set, length-take-le, take_at, sets-eq}
 use Rattle.planning.specs.Basics.{bits_at}
 use Rattle.planning.specs.Sheet.{bits_of, packed}
 use Rattle.laws.proofs.Fields.{bits_at_below}
-use Rattle.bits.proofs.Order.{bytes_of}
+use Rattle.bits.proofs.Pack.{bytes_of}
 use Rattle.bits.proofs.Window.{bits_at_cut}
 use Rattle.lists.specs.Four.{Spread, with_four}
 use Rattle.sheet.proofs.Rows.{row, step_at, mark_at, length_row}
@@ -73,25 +73,6 @@ module _ (f : ℕ → ℕ) (d n : ℕ) where
         let e : i ≡ n = omega (arith, g.within) in
         let k : n - n ≡ 0 = omega arith in
         sym (g.so_far ∙ rw (e, k, append-nil) refl)
-
-pub eight_more : (i : ℕ) → i % 8 ≡ 0 → (i + 8) % 8 ≡ 0
-eight_more i e = omega arith
-
--- the byte in which an eight starts, behind five bits
-five_behind : (n : ℕ) → 8 * ((53 + 8 * n) / 8) ≡ 48 + 8 * n
-five_behind n = omega arith
-
-pub eight_starts : (w i : ℕ) → i % 8 ≡ 0 → 8 * ((53 + (w + 10) * i) / 8) ≡ 48 + (w + 10) * i
-eight_starts w i h =
-    let e : i ≡ 8 * (i / 8) = omega arith in
-    let q : (w + 10) * i ≡ 8 * ((w + 10) * (i / 8)) = ap (λ (x : ℕ). (w + 10) * x) e ∙ omega arith in
-    rw q (five_behind ((w + 10) * (i / 8)))
-
--- Ten entries are held: the words of the first eight are.
-pub eight_held : (w i n at len : ℕ) → w ≤ 1 → i + 10 ≤ n → 53 + (w + 10) * n ≤ 8 * len → 8 * at ≡ 48 + (w + 10) * i → at + w + 13 ≤ len
-eight_held w i n at len l h r p =
-    let k : n ≡ i + 10 + (n - (i + 10)) = omega arith in
-    omega (arith, ap (λ (x : ℕ). w * x) k)
 
 -- a field of m bits at p, cut out of a run of bits that goes on for c bits behind it
 cut_at : (s : List ℕ) (q n r p m c : ℕ) → r ≡ bits_at s q n → q + n ≡ p + m + c → q ≤ p → r / 2 ^ c % 2 ^ m ≡ bits_at s p m

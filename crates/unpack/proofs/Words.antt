@@ -1,7 +1,7 @@
 -- Fields of bits cut out of a word, moved apart or together.
 use mathlib.Core.List.{List}
 use mathlib.Core.Path.{◌≡◌, refl, sym, ap, ◌∙◌}
-use Prim.Native.Nat.{ℕ, ◌+◌, ◌*◌, ◌/◌, ◌%◌, ◌^◌, ◌<◌}
+use Prim.Native.Nat.{ℕ, zero, suc, ◌+◌, ◌*◌, ◌/◌, ◌%◌, ◌^◌, ◌<◌, ◌≤◌}
 use native.Mathlib.Omega.{arith}
 use lib.Pow.{high, shr-shr}
 use Rattle.planning.specs.Basics.{bits_at}
@@ -69,3 +69,10 @@ module _ (f : ℕ) (h : f < 562949953421312) where
         ap (λ (n : ℕ). n % 1024) (sym (shr-shr p 32 11) ∙ ap (λ (n : ℕ). n / 2048) u) ∙ half_marked f,
         ap (λ (n : ℕ). n % 1024) u ∙ half_ten f,
       )
+
+-- for either width of a mark
+pub pairs_are : (w : ℕ) → w ≤ 1 → (f : ℕ) → f < 562949953421312 → let p = f / 2 ^ (2 * (w + 10)) + f % 4294967296 * 4294967296 in
+    (p < 2 ^ 64) × (p / 2 ^ (w + 10) % 1024 ≡ f / 2 ^ (3 * (w + 10)) % 1024) × (p % 1024 ≡ f / 2 ^ (2 * (w + 10)) % 1024) × (p / 2 ^ (w + 42) % 1024 ≡ f / 2 ^ (w + 10) % 1024) × (p / 4294967296 % 1024 ≡ f % 1024)
+pairs_are zero h f l = let p = pairs_plain f l in (omega arith, p.0, p.1, p.2, p.3)
+pairs_are (suc zero) h f l = let p = pairs_marked f l in (omega arith, p.0, p.1, p.2, p.3)
+pairs_are (suc (suc w)) h f l = absurd (omega arith)

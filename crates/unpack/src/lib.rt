@@ -13,30 +13,17 @@ fn read_each(bytes: &[u8], mark: usize, from: usize, steps: usize, list: &mut [u
     requires { (mark ≤ 1) × (from ≤ steps) × (steps ≤ 32768) × (steps ≤ length list.old) × (53 + (mark + 10) * steps ≤ 8 * length bytes.now) }
     ensures { take steps list.new ≡ take from list.old ++ steps_at bytes.now mark (53 + (mark + 10) * from) (steps - from) }
 {
-    let mut i = from;
-    while i < steps {
+    for i in from..steps {
         list[i] = bits::read_bits(bytes, 53 + (mark + 10) * i + mark, 10) as u16;
-        i += 1;
     }
 }
 
-// The first four of eight entries, behind the five bits before them.
-fn first_four(bytes: &[u8], at: usize, mark: usize) -> u64
-    requires { (mark ≤ 1) × (at + 8 ≤ length bytes.now) }
-    ensures { (result ≡ bits_at bytes.now (at * 8) (5 + 4 * (mark + 10))) × (result < 562949953421312) }
+// The first bits of the eight bytes from byte `at` on.
+fn front(bytes: &[u8], at: usize, count: usize) -> u64
+    requires { (0 < count) × (count ≤ 49) × (at + 8 ≤ length bytes.now) }
+    ensures { (result ≡ bits_at bytes.now (at * 8) count) × (result < 562949953421312) }
 {
-    if mark == 0 {
-        return bits::long_word(bytes, at) >> 19;
-    }
-    bits::long_word(bytes, at) >> 15
-}
-
-// The other four, behind the end of the first: five bits of it in edition 1, one in edition 2.
-fn second_four(bytes: &[u8], at: usize, mark: usize) -> u64
-    requires { (mark ≤ 1) × (at + mark + 13 ≤ length bytes.now) }
-    ensures { (result ≡ bits_at bytes.now ((at + mark + 5) * 8) 45) × (result < 562949953421312) }
-{
-    bits::long_word(bytes, at + mark + 5) >> 19
+    bits::long_word(bytes, at) >> (64 - count)
 }
 
 // The steps of two pairs of entries, the first pair in the lower half: 16 bits each, the first one lowest, as they lie in a list.
@@ -44,15 +31,9 @@ fn lanes(pairs: u64, mark: usize) -> u64
     requires { mark ≤ 1 }
     ensures { Spread (pairs / 2 ^ (mark + 10) % 1024) (pairs % 1024) (pairs / 2 ^ (mark + 42) % 1024) (pairs / 4294967296 % 1024) result }
 {
-    if mark == 0 {
-        return (pairs >> 10) % 1024
-            + pairs % 1024 * 65536
-            + (pairs >> 42) % 1024 * 4294967296
-            + (pairs >> 32) % 1024 * 281474976710656;
-    }
-    (pairs >> 11) % 1024
+    (pairs >> (mark + 10)) % 1024
         + pairs % 1024 * 65536
-        + (pairs >> 43) % 1024 * 4294967296
+        + (pairs >> (mark + 42)) % 1024 * 4294967296
         + (pairs >> 32) % 1024 * 281474976710656
 }
 
@@ -61,28 +42,27 @@ fn spread(word: u64, mark: usize) -> u64
     requires { (mark ≤ 1) × (word < 562949953421312) }
     ensures { Spread (word / 2 ^ (3 * (mark + 10)) % 1024) (word / 2 ^ (2 * (mark + 10)) % 1024) (word / 2 ^ (mark + 10) % 1024) (word % 1024) result }
 {
-    if mark == 0 {
-        return lanes(word / 1048576 + word % 4294967296 * 4294967296, 0);
-    }
-    lanes(word / 4194304 + word % 4294967296 * 4294967296, 1)
+    lanes(
+        (word >> (2 * (mark + 10))) + word % 4294967296 * 4294967296,
+        mark,
+    )
 }
 
-// Steps of a sheet of edition 1, eight a turn as long as two more follow, so that whole words can be loaded: how many. Where an eight starts
-// is worked out in each turn, as the compiler would else turn bytes round two words at a time, which is slower.
+// Steps of a sheet of edition 1, eight a turn as long as two more follow, so that whole words can be loaded: how many. Five bits stand
+// before the first four; five bits of these stand before the others.
 fn read_eights(bytes: &[u8], steps: usize, list: &mut [u16]) -> usize
     requires { (steps ≤ 32768) × (steps ≤ length list.old) × (53 + 10 * steps ≤ 8 * length bytes.now) }
     ensures { Begun bytes.now 0 steps list.new result }
 {
-    let mut i: usize = 0;
-    while i + 10 <= steps {
-        let at = (53 + 10 * i) / 8;
-        let a = spread(first_four(bytes, at, 0), 0);
-        let b = spread(second_four(bytes, at, 0), 0);
-        lists::put_four(list, i, a);
-        lists::put_four(list, i + 4, b);
-        i += 8;
+    let eights = steps.saturating_sub(2) / 8;
+    for k in 0..eights {
+        let at = 6 + 10 * k;
+        let a = spread(front(bytes, at, 45), 0);
+        let b = spread(front(bytes, at + 5, 45), 0);
+        lists::put_four(list, 8 * k, a);
+        lists::put_four(list, 8 * k + 4, b);
     }
-    i
+    8 * eights
 }
 
 // The steps of a sheet of edition 1: eight a turn, and the rest one by one.
@@ -114,32 +94,29 @@ fn read_each_mark(bytes: &[u8], from: usize, steps: usize, marks: &mut [u8])
     requires { (from ≤ steps) × (steps ≤ 32768) × (steps ≤ length marks.old) × (53 + 11 * steps ≤ 8 * length bytes.now) }
     ensures { take steps marks.new ≡ take from marks.old ++ marks_at bytes.now 1 (53 + 11 * from) (steps - from) }
 {
-    let mut i = from;
-    while i < steps {
+    for i in from..steps {
         marks[i] = bits::read_bits(bytes, 53 + 11 * i, 1) as u8;
-        i += 1;
     }
 }
 
-// Steps and marks of a sheet of edition 2 in the same way, both out of the same words.
+// Steps and marks of a sheet of edition 2 in the same way, both out of the same words; one bit of the first four stands before the others.
 fn read_both(bytes: &[u8], steps: usize, list: &mut [u16], marks: &mut [u8]) -> usize
     requires { (steps ≤ 32768) × (steps ≤ length list.old) × (steps ≤ length marks.old) × (53 + 11 * steps ≤ 8 * length bytes.now) }
     ensures { Begun bytes.now 1 steps list.new result × MarksBegun bytes.now steps marks.new result }
 {
-    let mut i: usize = 0;
-    while i + 10 <= steps {
-        let at = (53 + 11 * i) / 8;
-        let a = first_four(bytes, at, 1);
-        let b = second_four(bytes, at, 1);
+    let eights = steps.saturating_sub(2) / 8;
+    for k in 0..eights {
+        let at = 6 + 11 * k;
+        let a = front(bytes, at, 49);
+        let b = front(bytes, at + 6, 45);
         let first = spread(a, 1);
         let second = spread(b, 1);
         let shown = gather(a) * 4294967296 + gather(b);
-        lists::put_four(list, i, first);
-        lists::put_four(list, i + 4, second);
-        bits::put_word(marks, i, shown);
-        i += 8;
+        lists::put_four(list, 8 * k, first);
+        lists::put_four(list, 8 * k + 4, second);
+        bits::put_word(marks, 8 * k, shown);
     }
-    i
+    8 * eights
 }
 
 // Steps and marks of a sheet of edition 2: eight a turn, and the rest one by one.
