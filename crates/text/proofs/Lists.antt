@@ -1,10 +1,10 @@
 -- The numbers of a list, one after another.
-use Prim.Native.Nat.{ℕ, ◌+◌, ◌≤◌, ◌<◌}
-use mathlib.Core.Path.{◌≡◌, sym, ap, ◌∙◌, subst}
+use Prim.Native.Nat.{ℕ, ◌+◌, ◌<◌}
+use mathlib.Core.Path.{◌≡◌, sym, ap, ◌∙◌}
 use mathlib.Core.List.{List, [], ◌∷◌, ◌++◌}
 use native.Mathlib.Numerals.{add-one}
 use lib.ListN.{length, get_or, take}
-use lib.Seq.{take-suc, take_all}
+use lib.Seq.{take-suc}
 use Rattle.planning.specs.Listing.{numbers}
 use Rattle.text.specs.Put.{Put}
 use Rattle.text.proofs.Texts.{put_none, put_then, numbers-++}
@@ -18,6 +18,3 @@ module _ (old list : List ℕ) (at : ℕ) where
       → Put old at (numbers (take (k + 1) list)) newer f
   list_turn new newer k x e f l g P Q =
       put_then (numbers-++ (take k list) (x ∷ []) ∙ ap numbers (ap (λ y. take k list ++ (y ∷ [])) g ∙ sym (take-suc list k 0 l) ∙ ap (λ n. take n list) (sym (add-one k)))) P Q
-
-  pub list_end : (new : List ℕ) (k e : ℕ) → length list ≤ k → Put old at (numbers (take k list)) new e → Put old at (numbers list) new e
-  list_end new k e l P = subst (λ x. Put old at (numbers x) new e) (take_all k list l) P

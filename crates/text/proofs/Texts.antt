@@ -1,31 +1,12 @@
--- Text behind text: a word copied into the bytes, numbers after numbers, and the lines that they make.
-use Prim.Native.Nat.{ℕ, suc, ◌+◌, ◌≤◌, ◌<◌}
+-- Text behind text: numbers after numbers, and the lines that they make.
+use Prim.Native.Nat.{ℕ}
 use mathlib.Core.Path.{◌≡◌, refl, sym, ap, ◌∙◌}
 use mathlib.Core.Bool.{Bool, true, false}
 use mathlib.Core.List.{List, [], ◌∷◌, ◌++◌, append_assoc, append-nil}
 use native.Mathlib.Omega.{arith}
-use native.Mathlib.Numerals.{add-one}
-use lib.ListN.{length, get_or, take, set, length-append}
-use lib.Seq.{take-suc, take-suc-set, take_all}
+use lib.ListN.{length, take, length-append}
 use Rattle.planning.specs.Listing.{decimal, numbers, line, real_word, unreal_word, verdict_word}
 use Rattle.text.specs.Put.{Put}
-
-module _ (old word : List ℕ) (at : ℕ) where
-  -- k bytes of the word are there
-  abbrev Copied : List ℕ → ℕ → Type 0
-  Copied new k = take (at + k) new ≡ take at old ++ take k word
-
-  pub copy_start : Copied old 0
-  copy_start = rw append-nil (ap (λ n. take n old) {x = at + 0} {y = at} (omega arith))
-
-  pub copy_turn : (new : List ℕ) (k : ℕ) → at + k < length new → k < length word → Copied new k → Copied (set new (at + k) (get_or word k 0)) (k + 1)
-  copy_turn new k h l C =
-      rw (add-one k, take-suc word k 0 l)
-      (ap (λ n. take n (set new (at + k) (get_or word k 0))) {x = at + suc k} {y = suc (at + k)} (omega arith) ∙ take-suc-set new (at + k) (get_or word k 0) h ∙ ap (λ x. x ++ (get_or word k 0 ∷ [])) C
-      ∙ append_assoc (take at old) (take k word) (get_or word k 0 ∷ []))
-
-  pub copy_end : (new : List ℕ) (k : ℕ) → length word ≤ k → k ≤ length word → Copied new k → Put old at word new (at + length word)
-  copy_end new k h l C = record { ends = refl; front = ap (λ n. take (at + n) new) {x = length word} {y = k} (omega arith) ∙ C ∙ ap (λ x. take at old ++ x) (take_all k word h) }
 
 pub put_none : (xs : List ℕ) (p : ℕ) → Put xs p [] xs p
 put_none xs p = record { ends = omega arith; front = sym (append-nil (take p xs)) }

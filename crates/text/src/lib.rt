@@ -4,6 +4,7 @@
 
 ghost use Rattle.std.specs.Prelude.{◌+◌, ◌*◌, ◌≤◌, ◌<◌, [], ◌∷◌, ◌++◌, ◌≡◌, length};
 ghost use Rattle.planning.specs.Listing.{numbers, line, relaxed_word, plan_word, refused_word, verdict_word};
+ghost use Rattle.answers.specs.Answers.{number_of};
 ghost use Rattle.text.specs.Put.{Put};
 
 use answers::Refusal;
@@ -13,12 +14,9 @@ fn put(out: &mut [u8], at: usize, word: &[u8]) -> usize
     requires { at + length word.now ≤ length out.old }
     ensures { Put out.old at word.now out.new result }
 {
-    let mut k: usize = 0;
-    while k < word.len() {
-        out[at + k] = word[k];
-        k += 1;
-    }
-    at + word.len()
+    let end = at + word.len();
+    out[at..end].copy_from_slice(word);
+    end
 }
 
 // A space and a number: 11 bytes at most, and 6 for a number of five digits.
@@ -28,14 +26,8 @@ fn put_number(out: &mut [u8], at: usize, n: u32) -> usize
 {
     let start = put(out, at, b" ");
     let mut digits = [0u8; 20];
-    let k = io::decimal(n as u64, &mut digits);
+    let k = io::decimal(u64::from(n), &mut digits);
     put(out, start, &digits[..k])
-}
-
-fn wide(x: u16) -> u32
-    ensures { result ≡ x }
-{
-    x as u32
 }
 
 // The numbers of a list.
@@ -44,10 +36,8 @@ fn put_list(out: &mut [u8], at: usize, list: &[u16]) -> usize
     ensures { Put out.old at (numbers list.now) out.new result × (result ≤ at + 6 * length list.now) }
 {
     let mut end = at;
-    let mut k: usize = 0;
-    while k < list.len() {
-        end = put_number(out, end, wide(list[k]));
-        k += 1;
+    for n in list {
+        end = put_number(out, end, u32::from(*n));
     }
     end
 }
@@ -128,9 +118,9 @@ pub fn put_result(
 // The line of a refusal: its number and its place.
 pub fn put_refusal(out: &mut [u8], f: Refusal) -> usize
     requires { 30 ≤ length out.old }
-    ensures { Put out.old 0 (line refused_word (f.number ∷ f.place ∷ [])) out.new result }
+    ensures { Put out.old 0 (line refused_word (number_of f.reason ∷ f.place ∷ [])) out.new result }
 {
-    let number = put_head(out, 0, b"refused", f.number as u32);
+    let number = put_head(out, 0, b"refused", u32::from(u8::from(f.reason)));
     let place = put_number(out, number, f.place);
     put(out, place, b"\n")
 }
