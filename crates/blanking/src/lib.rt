@@ -6,27 +6,20 @@ ghost use Rattle.std.specs.Prelude.{◌≡◌, length};
 ghost use Rattle.planning.specs.Calls.{plan_in, marks_in, lent, lent_bytes};
 ghost use Rattle.answers.specs.Plans.{answer_of, steps_of};
 
-use answers::Planned;
+use answers::{Plan, Refusal};
 
 // The steps of an answer, 0 after a refusal.
-fn steps_of(answer: Planned) -> usize
+fn steps_of(answer: Result<Plan, Refusal>) -> usize
     ensures { result ≡ steps_of answer }
 {
-    let Planned::Plan {
-        steps,
-        cost: _,
-        runs: _,
-        searches: _,
-        real: _,
-    } = answer
-    else {
+    let Ok(plan) = answer else {
         return 0;
     };
-    steps as usize
+    plan.steps as usize
 }
 
 // What stands behind the plan is 65,535, and behind the marks 0.
-pub fn finish(answer: Planned, plan: &mut [u16], marks: &mut [u8])
+pub fn finish(answer: Result<Plan, Refusal>, plan: &mut [u16], marks: &mut [u8])
     ensures plan_after { plan.new ≡ lent (answer_of answer) (length plan.old) (plan_in (answer_of answer) plan.old) }
     ensures marks_after { marks.new ≡ lent_bytes (answer_of answer) (length marks.old) (marks_in (answer_of answer) marks.old) }
 {
