@@ -6,17 +6,18 @@ use Prim.Native.Nat.{ℕ, ◌+◌, ◌/◌, ◌%◌, ◌<◌, ◌≤◌}
 use native.Mathlib.Omega.{arith}
 use native.Mathlib.Decide.{ℕ_discrete, dec_lt}
 use borrow.Author.Tests.{eq-eqb, ne_eqb}
-use lib.ListN.{length, get_or, set, replicate, length-set}
+use lib.ListN.{length, get_or, set, drop, replicate, length-set}
 use lib.Seq.{get_or-set_same, get_or-set_other}
 use Rattle.planning.specs.Record.{Fact, Action, Variable, Task}
-use Rattle.planning.specs.Runs.{look, act, variable}
+use Rattle.planning.specs.Runs.{look, act, actions, variable}
 use Rattle.planning.specs.Newest.{newer, initial_values}
 use Rattle.laws.proofs.Fields.{variable_past}
 use Rattle.laws.proofs.Lists.{get_d_zeros}
-use Rattle.task.specs.Task.{fact_of, facts_in, action_in, task_in, eff_at, end_at}
+use Rattle.task.specs.Task.{fact_of, facts_of, task_in, Loaded, States}
 use Rattle.sets.specs.Sets.{values_of}
-use Rattle.sets.proofs.Listed.{Rising, Listed}
-use Rattle.sets.proofs.Effects.{facts_in_cons, facts_in_none, Walking}
+use Rattle.sets.proofs.Listed.{Rising}
+use Rattle.sets.proofs.Listing.{effects_rise}
+use Rattle.sets.proofs.Slices.{facts_of_drop, facts_of_end}
 use Rattle.sets.proofs.Loading.{Over}
 
 -- each fact of a list set in turn
@@ -55,31 +56,29 @@ set_all_newer a ns r n = fun_ext (λ v. set_all_at a.eff ns 0 r n v ∙ go v (lo
     go v (some d) e = rw (newer, e) refl
 
 -- the step's loop: effects from k on are left to set
-pub record Renewing (task : List ℕ) (i : ℕ) (ns₀ ns : List ℕ) (k : ℕ) : Type 0 where
+pub record Renewing (facts ns₀ ns : List ℕ) (k : ℕ) : Type 0 where
   pub long₀ : length ns₀ ≡ 64
   pub long : length ns ≡ 64
-  pub so_far : set_all (facts_in task (eff_at task i) (end_at task i)) ns₀ ≡ set_all (facts_in task k (end_at task i)) ns
+  pub so_far : set_all (facts_of facts) ns₀ ≡ set_all (facts_of (drop k facts)) ns
 
-pub renewing_start : (task : List ℕ) (i : ℕ) (ns₀ : List ℕ) (k : ℕ) → k ≡ eff_at task i → length ns₀ ≡ 64 → Renewing task i ns₀ ns₀ k
-renewing_start task i ns₀ k e n = record { long₀ = n; long = n; so_far = rw e refl }
+pub renewing_start : (facts ns : List ℕ) → length ns ≡ 64 → Renewing facts ns ns 0
+renewing_start facts ns n = record { long₀ = n; long = n; so_far = refl }
 
-module _ (task : List ℕ) (i : ℕ) (L : Listed task i) (end k : ℕ) (ns₀ ns : List ℕ) (w : Walking task i end k) (q : Renewing task i ns₀ ns k) where
-  pub renewing_turn : k < end → (f v x : ℕ) → f ≡ get_or task k 0 → v ≡ f / 64 → x ≡ f % 64 → Renewing task i ns₀ (set ns v x) (k + 1)
+module _ (facts : List ℕ) (k : ℕ) (ns₀ ns : List ℕ) (p : Renewing facts ns₀ ns k) where
+  pub renewing_turn : k < length facts → (f : ℕ) (r : List ℕ) → f ≡ get_or facts k 0 → r ≡ set ns (f / 64) (f % 64) → Renewing facts ns₀ r (k + 1)
   unfolding set_all fact_of
-  renewing_turn h f v x ef ev ex = record {
-    long₀ = q.long₀;
-    long = length-set ns v x ∙ q.long;
-    so_far = q.so_far ∙ rw (facts_in_cons task k (end_at task i) (omega (arith, w.at_end)) L.end_below, ex, ev, ef) refl;
-  }
+  renewing_turn h f r ef er = rw er (record {
+    long₀ = p.long₀;
+    long = length-set ns (f / 64) (f % 64) ∙ p.long;
+    so_far = p.so_far ∙ rw (facts_of_drop facts k h, ← ef) refl;
+  })
 
-  pub renewing_placed : k < end → (f : ℕ) (r : List ℕ) → f ≡ get_or task k 0 → r ≡ set ns (f / 64) (f % 64) → Renewing task i ns₀ r (k + 1)
-  renewing_placed h f r ef er = rw er (renewing_turn h f (f / 64) (f % 64) ef refl refl)
-
-  pub renewing_end : end ≤ k → values_of ns ≡ newer (act (task_in task) i) (values_of ns₀)
-  unfolding set_all action_in
-  renewing_end h =
-      let e = facts_in_none task k (end_at task i) (omega (arith, w.within, w.at_end)) in
-      ap values_of (sym (q.so_far ∙ rw e refl)) ∙ set_all_newer (action_in task i) ns₀ L.rises q.long₀ ∙ ap (λ (a : Action). newer a (values_of ns₀)) L.states
+  pub renewing_end : length facts ≤ k → (task : List ℕ) → Loaded task → (i : ℕ) → i < actions (task_in task) → States facts (act (task_in task) i).eff
+      → values_of ns ≡ newer (act (task_in task) i) (values_of ns₀)
+  unfolding set_all
+  renewing_end h task L i b S =
+      let e : set_all (facts_of facts) ns₀ ≡ ns = rw (facts_of_end facts k h) at p.so_far in
+      ap values_of (sym e) ∙ rw S.stated (set_all_newer (act (task_in task) i) ns₀ (effects_rise task L i b) p.long₀)
 
 -- the initial values: those of the variables below v are set, the others 0
 pub record Placing (t : Task) (ns : List ℕ) (v : ℕ) : Type 0 where
@@ -109,5 +108,3 @@ module _ (t : Task) (n : ℕ) (ns : List ℕ) (v : ℕ) (o : Over t n v) (p : Pl
       go : (w : ℕ) → Dec (w < v) → get_or ns w 0 ≡ (variable t w).init
       go w (yes b) = p.below w b
       go w (no b) = p.rest w (omega arith) ∙ sym (ap (λ (y : Variable). y.init) (variable_past t w (omega (arith, o.within, o.all))))
-
--- a fact is its variable's newest value

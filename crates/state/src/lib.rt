@@ -2,16 +2,14 @@
 // and hands the next one back whole. The goals of a task stand here too, as facts.
 #![tactic(auto)]
 
-ghost use Rattle.std.specs.Prelude.{◌≡◌, ◌/◌, ◌%◌, ◌<◌, length, set};
+ghost use Rattle.std.specs.Prelude.{◌≡◌, ◌/◌, ◌%◌, ◌<◌, ◌≤◌, length, set, take};
 ghost use Rattle.planning.specs.Runs.{actions, act, step, initial, relaxed, size};
 ghost use Rattle.planning.specs.Newest.{initial_values, newer};
 ghost use Rattle.task.specs.Task.{task_in, Loaded};
 ghost use Rattle.sets.specs.Sets.{sets_of, values_of, choose, over};
 ghost use Rattle.state.specs.Goals.{GoalsOf};
 
-use task::Goal;
-
-// The goals, as facts 64 × variable + value in the front of a list.
+// The goals, as facts 64 × variable + value in the front of a list: with no heap they keep their place beside their count.
 #[derive(Clone, Copy)]
 pub struct Goals {
     pub facts: [u16; 64],
@@ -29,8 +27,7 @@ impl Goals {
             count: 0,
         };
         for v in 0..n {
-            let g = task::goal_of(task, v);
-            let Goal::Value(x) = g else {
+            let Some(x) = task::goal_of(task, v) else {
                 continue;
             };
             let k = goals.count;
@@ -38,6 +35,14 @@ impl Goals {
             goals.count = k + 1;
         }
         goals
+    }
+
+    // The goals alone.
+    pub fn listed(&self) -> &[u16]
+        requires { self.now.count ≤ 64 }
+        ensures { result.now ≡ take self.now.count self.now.facts }
+    {
+        &self.facts[..self.count]
     }
 }
 
@@ -49,7 +54,7 @@ fn choose(b: bool, x: u8, y: u8) -> u8
 }
 
 // The values with fact f set. Every entry is chosen anew, by n, which is 64 at the variable of f: after a store of one byte the processor
-// waits with a read of many bytes at once.
+// waits with a read of many bytes at once. n is a byte beside k: to compare k itself takes three times the instructions.
 fn placed(values: [u8; 64], f: usize) -> [u8; 64]
     requires { f < 4096 }
     ensures { result ≡ set values (f / 64) (f % 64) }
@@ -57,24 +62,20 @@ fn placed(values: [u8; 64], f: usize) -> [u8; 64]
     let x = (f % 64) as u8;
     let mut n = 64 - (f / 64) as u8;
     let mut r = values;
-    let mut k: usize = 0;
-    while k < 64 {
+    for k in 0..64 {
         r[k] = choose(n == 64, x, values[k]);
         n += 1;
-        k += 1;
     }
     r
 }
 
-// New values laid over old ones, where 64 is none.
+// New values laid over old ones, where 64 is none: an option would be two bytes of each of the 64.
 fn laid(old: [u8; 64], new: [u8; 64]) -> [u8; 64]
     ensures { values_of result ≡ over (values_of old) (values_of new) }
 {
     let mut r = old;
-    let mut k: usize = 0;
-    while k < 64 {
+    for k in 0..64 {
         r[k] = choose(new[k] == 64, old[k], new[k]);
-        k += 1;
     }
     r
 }
@@ -104,12 +105,10 @@ impl Newest {
         requires { Loaded task.now × (i < actions (task_in task.now)) }
         ensures { values_of result.values ≡ newer (act (task_in task.now) i) (values_of self.values) }
     {
-        let end = task::eff_end(task, i);
-        let mut k = task::eff_start(task, i);
-        while k < end {
-            let f = lists::wide(task[k]);
+        let effects = task::effects(task, i);
+        for f in effects {
+            let f = usize::from(*f);
             self.values[f / 64] = (f % 64) as u8;
-            k += 1;
         }
         self
     }
@@ -120,12 +119,10 @@ impl Newest {
         ensures { values_of result.values ≡ newer (act (task_in task.now) i) (values_of self.values) }
     {
         let mut values = self.values;
-        let end = task::eff_end(task, i);
-        let mut k = task::eff_start(task, i);
-        while k < end {
-            let next = placed(values, lists::wide(task[k]));
+        let effects = task::effects(task, i);
+        for f in effects {
+            let next = placed(values, usize::from(*f));
             values = next;
-            k += 1;
         }
         Newest { values }
     }
@@ -135,7 +132,7 @@ impl Newest {
         requires { Loaded task.now × (i < actions (task_in task.now)) }
         ensures { values_of result.values ≡ newer (act (task_in task.now) i) (values_of self.values) }
     {
-        if task::eff_end(task, i) - task::eff_start(task, i) <= 3 {
+        if task::effects(task, i).len() <= 3 {
             return self.chosen(task, i);
         }
         let none = Newest { values: [64; 64] };
@@ -149,16 +146,13 @@ impl Newest {
 
 // The effects of action i put into the sets.
 fn add_effects(sets: &mut [u64; 64], task: &[u16], i: usize)
-    requires { Loaded task.now × (i < actions (task_in task.now)) × (length sets.old ≡ 64) }
+    requires { Loaded task.now × (i < actions (task_in task.now)) }
     ensures { sets_of sets.new ≡ step relaxed (act (task_in task.now) i) (sets_of sets.old) }
 {
-    let end = task::eff_end(task, i);
-    let mut k = task::eff_start(task, i);
-    while k < end {
-        let f = lists::wide(task[k]);
-        let v = f / 64;
-        sets[v] = sets[v] | sets::single(f % 64);
-        k += 1;
+    let effects = task::effects(task, i);
+    for f in effects {
+        let f = usize::from(*f);
+        sets[f / 64] |= sets::single(f % 64);
     }
 }
 
@@ -195,11 +189,9 @@ impl Relaxed {
     pub fn reached(self) -> u64
         ensures { result ≡ size 64 (λ _. 64) (sets_of self.sets) }
     {
-        let mut sum: u64 = 0;
-        let mut v: usize = 0;
-        while v < 64 {
-            sum += u64::count_ones(self.sets[v]) as u64;
-            v += 1;
+        let mut sum = 0;
+        for set in &self.sets {
+            sum += u64::from(set.count_ones());
         }
         sum
     }
