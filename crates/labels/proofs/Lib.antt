@@ -1,3 +1,4 @@
 pub mod Sets
+pub mod Coming
 pub mod Marking
 pub mod Seeking

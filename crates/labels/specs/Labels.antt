@@ -1,21 +1,25 @@
 -- Members of a set, and labels of values.
-use Rattle.std.specs.Prelude.{Bool, true, false, List, ℕ, ◌<◌, ◌≤◌, min, T, get_or}
+use Rattle.std.specs.Prelude.{◌≡◌, Bool, true, false, not, ◌&&◌, List, ℕ, ◌<◌, ◌≤◌, min, T, eqb, get_or, Option, Some, None}
 use Rattle.sets.specs.Sets.{in_set}
+use Rattle.labels.specs.declared.Members.{Members}
 
--- r is the least member of the set from a on, 64 if there is none
-pub record Member (set a r : ℕ) : Type 0 where
-  pub within : r ≤ 64
-  pub from : a ≤ r
-  pub member : r < 64 → T (in_set set r)
-  pub skipped : (x : ℕ) → a ≤ x → x < r → T (in_set set x) → ⊥
+-- a member came out of a set: what is left is the set without it; or there is none
+abbrev pub Next : Members → Option ℕ → Members → Type 0
+Next s None r = s.rest ≡ 0
+Next s (Some c) r = (c < 64) × T (in_set s.rest c) × ((x : ℕ) → in_set r.rest x ≡ (in_set s.rest x && not (eqb x c)))
 
 -- the lesser of two numbers where the test holds
 unfoldable pub lower : Bool → ℕ → ℕ → ℕ
 lower true l x = min l x
 lower false l x = x
 
--- r is a member of the set with the least label, 64 if there is none
-pub record Nearest (labels : List ℕ) (front r : ℕ) : Type 0 where
-  pub within : r ≤ 64
-  pub member : r < 64 → T (in_set front r)
-  pub least : (c : ℕ) → c < 64 → T (in_set front c) → (r < 64) × (get_or labels r 0 ≤ get_or labels c 0)
+-- a member of the set with the least label
+pub record Least (labels : List ℕ) (front r : ℕ) : Type 0 where
+  pub within : r < 64
+  pub member : T (in_set front r)
+  pub least : (c : ℕ) → c < 64 → T (in_set front c) → get_or labels r 0 ≤ get_or labels c 0
+
+-- that member, if there is any
+abbrev pub Nearest : List ℕ → ℕ → Option ℕ → Type 0
+Nearest labels front None = (c : ℕ) → c < 64 → T (in_set front c) → ⊥
+Nearest labels front (Some r) = Least labels front r

@@ -1,33 +1,33 @@
-// Sets of values and labels of 64 bits, one for each value: the least member of a set from a place on, a label noted for the members where
+// Sets of values and labels of 64 bits, one for each value: the members of a set from the least on, a label noted for the members where
 // they have no lesser one, and a member that has the least. Labels are only compared here; what one says of a path is for `search`.
 #![tactic(auto)]
 
-ghost use Rattle.std.specs.Prelude.{◌≡◌, ℕ, ◌<◌, ◌≤◌, min, length, get_or};
+ghost use Rattle.std.specs.Prelude.{◌≡◌, ℕ, ◌<◌, length, get_or};
+ghost use Rattle.std.specs.Iterator.{at_most};
 ghost use Rattle.sets.specs.Sets.{in_set};
-ghost use Rattle.labels.specs.Labels.{Member, lower, Nearest};
+ghost use Rattle.labels.specs.Labels.{Next, lower, Nearest};
 
-fn wider(x: u32) -> usize
-    ensures { result ≡ x }
-{
-    x as usize
+// The members of a set of values that are still to come, from the least on.
+#[derive(Drop)]
+struct Members {
+    rest: u64,
 }
 
-// The least member of a set from a on, 64 for none.
-fn next_member(set: u64, a: usize) -> usize
-    requires { a ≤ 64 }
-    ensures { Member set a result }
-{
-    if a == 64 {
-        return 64;
+impl Iterator for Members {
+    type Item = usize;
+
+    ghost next_gives = { Next };
+
+    ghost remaining = { λ s. at_most s.rest };
+
+    fn next(&mut self) -> Option<usize> {
+        if self.rest == 0 {
+            return None;
+        }
+        let c = self.rest.trailing_zeros() as usize;
+        self.rest = self.rest & (self.rest - 1);
+        Some(c)
     }
-    let r = a + wider(u64::trailing_zeros(set >> a));
-    if r < 64 { r } else { 64 }
-}
-
-fn lesser(a: u64, b: u64) -> u64
-    ensures { result ≡ min a b }
-{
-    if a < b { a } else { b }
 }
 
 // The label l is noted for each value of the set, where no lesser one is.
@@ -36,30 +36,24 @@ pub fn mark(labels: &mut [u64; 64], set: u64, l: u64)
     ensures labels_len { length labels.new ≡ 64 }
     ensures by_index { (c : ℕ) → c < 64 → get_or labels.new c 0 ≡ lower (in_set set c) l (get_or labels.old c 0) }
 {
-    let mut c = next_member(set, 0);
-    while c < 64 {
-        labels[c] = lesser(l, labels[c]);
-        c = next_member(set, c + 1);
+    for c in (Members { rest: set }) {
+        labels[c] = l.min(labels[c]);
     }
 }
 
-// A member of the set with the least label, 64 for none.
-pub fn nearest(labels: &[u64; 64], front: u64) -> usize
+// A member of the set with the least label.
+pub fn nearest(labels: &[u64; 64], front: u64) -> Option<usize>
     ensures { Nearest labels.now front result }
 {
-    let mut r = next_member(front, 0);
-    if r == 64 {
-        return 64;
-    }
+    let mut rest = Members { rest: front };
+    let mut r = rest.next()?;
     let mut least = labels[r];
-    let mut c = next_member(front, r + 1);
-    while c < 64 {
+    for c in rest {
         let l = labels[c];
         if l < least {
             least = l;
             r = c;
         }
-        c = next_member(front, c + 1);
     }
-    r
+    Some(r)
 }

@@ -11,21 +11,23 @@ use Prim.Native.Nat.{ℕ, ◌+◌, ◌-◌, ◌*◌, ◌/◌, ◌^◌, ◌<◌, 
 use native.Mathlib.Omega.{arith}
 use native.Mathlib.Decide.{ℕ_discrete, dec_lt}
 use lib.Bits.{bit_xor}
-use lib.Dec.{T, T_not, not_T, eqb, eqb→eq, eqb_refl, ltb, lt→ltb, ltb→lt}
+use lib.Dec.{T, T_not, eqb, eqb→eq, eqb_refl, ltb, lt→ltb, ltb→lt}
 use lib.ListN.{length, get_or, set, replicate, length-set, length-replicate, get_or-replicate}
 use lib.Seq.{get_or-set_same, get_or-set_other}
 use lib.Pow.{high, ones_split, ones_lt}
+use Rattle.std.specs.Prelude.{None}
 use Rattle.planning.specs.Basics.{tally}
 use Rattle.planning.specs.Record.{Task}
 use Rattle.planning.specs.Runs.{State, count}
-use Rattle.laws.proofs.Tests.{and_l, and_r, and_i, T_cases}
+use Rattle.laws.proofs.Tests.{T_cases}
 use Rattle.laws.proofs.Below.{tally_le, tally_cases}
 use Rattle.laws.proofs.Formed.{Formed}
 use Rattle.laws.proofs.Best.{arcs_inside}
 use Rattle.sets.specs.Sets.{in_set}
-use Rattle.sets.proofs.Members.{in_set_empty, in_set_single}
-use Rattle.labels.specs.Labels.{Nearest}
-use Rattle.labels.proofs.Sets.{in_set_either, either, in_set_all}
+use Rattle.sets.proofs.Members.{in_set_empty, in_set_single, in_set_xor, xor}
+use Rattle.search.proofs.Whole.{in_set_all}
+use Rattle.labels.specs.Labels.{Least, Nearest}
+use Rattle.labels.proofs.Coming.{left_of, left_out, left_in}
 use Rattle.search.specs.Search.{unreached, dearest, highest, through, Into, Lowered, Done, Settled}
 
 -- the empty set
@@ -33,25 +35,23 @@ pub none_in : (c : ℕ) → Done 0 c
 none_in c h = rw in_set_empty at h
 
 -- a value taken out of a set
-rest_bit : (a b : Bool) → (T b → T a) → either a b ≡ (a && not b)
-unfolding either
-rest_bit true true h = refl
-rest_bit true false h = refl
+rest_bit : (a b : Bool) → (T b → T a) → xor a b ≡ (a && not b)
+rest_bit true b h = refl
 rest_bit false true h = absurd (h tt)
 rest_bit false false h = refl
 
 module _ (set x one : ℕ) (e : one ≡ 2 ^ x) (h : T (in_set set x)) where
   taken : (c : ℕ) → in_set (bit_xor set one) c ≡ (in_set set c && not (eqb c x))
-  taken c = rw (in_set_either, e, in_set_single x c) (rest_bit (in_set set c) (eqb c x) (λ q. rw (eqb→eq c x q) h))
+  taken c = rw (in_set_xor, e, in_set_single x c) (rest_bit (in_set set c) (eqb c x) (λ q. rw (eqb→eq c x q) h))
 
   taken_in : (c : ℕ) → T (in_set set c) → (c ≡ x → ⊥) → T (in_set (bit_xor set one) c)
-  taken_in c s n = rw (taken c) (and_i (in_set set c) (not (eqb c x)) s (not_T (eqb c x) (λ q. n (eqb→eq c x q))))
+  taken_in = left_in set x (bit_xor set one) taken
 
   taken_of : (c : ℕ) → T (in_set (bit_xor set one) c) → T (in_set set c)
-  taken_of c s = and_l (in_set set c) (not (eqb c x)) (rw (taken c) at s)
+  taken_of = left_of set x (bit_xor set one) taken
 
   pub taken_out : T (in_set (bit_xor set one) x) → ⊥
-  taken_out s = T_not (eqb x x) (and_r (in_set set x) (not (eqb x x)) (rw (taken x) at s)) (eqb_refl x)
+  taken_out = left_out set x (bit_xor set one) taken
 
   taken_cases : (c : ℕ) → (T (in_set (bit_xor set one) c) → ⊥) → (c ≡ x) ⊎ (T (in_set set c) → ⊥)
   taken_cases c n = go (ℕ_discrete c x)
@@ -108,13 +108,13 @@ module _ (t : Task) (F : Formed t) (K : State) (v d : ℕ) (db : d < count t v) 
       ];
     }
 
-  module _ (labels : List ℕ) (rest front x : ℕ) (S : Settling t K v d labels rest front) (N : Nearest labels front x) where
+  module _ (labels : List ℕ) (rest front : ℕ) (S : Settling t K v d labels rest front) where
     into_inside : (c y m : ℕ) → Into t K v y (get_or labels y 0 / 65536) c m → y < n
     into_inside c y m (i, ib, u, e, _) = rw (← e) (arcs_inside t F K v c i ib u)
 
     -- none is left, so that each label stands
-    pub settling_end : 64 ≤ x → Settled t K v d labels 0
-    settling_end h = record {
+    pub settling_end : Nearest labels front None → Settled t K v d labels 0
+    settling_end N = record {
       goal = S.goal;
       goal_done = none_in d;
       small = λ c cb l. omega (arith, S.bound c cb l);
@@ -125,14 +125,14 @@ module _ (t : Task) (F : Formed t) (K : State) (v d : ℕ) (db : d < count t v) 
     }
       where
         far : (c : ℕ) → T (in_set rest c) → get_or labels c 0 < unreached → ⊥
-        far c r l = omega (arith, (N.least c (small c (S.inside c r)) (S.front_of c r l)).0)
+        far c r l = N c (small c (S.inside c r)) (S.front_of c r l)
 
-    module _ (xs : x < 64) where
+    module _ (x : ℕ) (N : Least labels front x) where
       pub near_in : T (in_set rest x)
-      near_in = (S.fronts x xs (N.member xs)).0
+      near_in = (S.fronts x N.within N.member).0
 
       xl : get_or labels x 0 < unreached
-      xl = (S.fronts x xs (N.member xs)).1
+      xl = (S.fronts x N.within N.member).1
 
       xn : x < n
       xn = S.inside x near_in
@@ -164,7 +164,7 @@ module _ (t : Task) (F : Formed t) (K : State) (v d : ℕ) (db : d < count t v) 
 
         far : (c : ℕ) → T (in_set rest c) → get_or labels x 0 ≤ get_or labels c 0
         far c r = elim (dec_lt (get_or labels c 0) unreached) [
-          | yes l ↦ (N.least c (small c (S.inside c r)) (S.front_of c r l)).1
+          | yes l ↦ N.least c (small c (S.inside c r)) (S.front_of c r l)
           | no l ↦ omega (arith, xl)
         ]
 
@@ -223,10 +223,10 @@ module _ (t : Task) (F : Formed t) (K : State) (v d : ℕ) (db : d < count t v) 
               let a = F.cost_below i in
               let b = F.actions_max in
               let k = near_key in
-              (omega (arith, w, xs), omega (arith, w, xs))
+              (omega (arith, w, N.within), omega (arith, w, N.within))
 
           fewer : tally 64 (in_set rest') < tally 64 (in_set rest)
-          fewer = taken_fewer rest x one e near_in xs
+          fewer = taken_fewer rest x one e near_in N.within
 
           least_into : (c m : ℕ) → c < n → Into t K v x (get_or labels x 0 / 65536) c m → T (in_set rest' c) ⊎ T (not (in_set rest' c)) → get_or labels' c 0 ≤ m
           least_into c m cb I (inl r) = M.least c m (small c cb) r I
@@ -239,16 +239,16 @@ module _ (t : Task) (F : Formed t) (K : State) (v d : ℕ) (db : d < count t v) 
             inside = λ c h. S.inside c (taken_of rest x one e near_in c h);
             fronts = λ c b h. elim (M.grown c b h) [
               | inl z ↦
-                  let f : T (in_set front c) = taken_of front x one e (N.member xs) c z in
+                  let f : T (in_set front c) = taken_of front x one e N.member c z in
                   let p = S.fronts c b f in
-                  (taken_in rest x one e near_in c p.0 (λ q. taken_out front x one e (N.member xs) (subst (λ y. T (in_set (bit_xor front one) y)) q z)), omega (arith, p.1, M.below c b))
+                  (taken_in rest x one e near_in c p.0 (λ q. taken_out front x one e N.member (subst (λ y. T (in_set (bit_xor front one) y)) q z)), omega (arith, p.1, M.below c b))
               | inr z ↦ (z.0, omega (arith, M.least c z.1.0 b z.0 z.1.1, (near c z.1.0 z.1.1).0))
             ];
             front_of = λ c r l.
                 let rc = taken_of rest x one e near_in c r in
                 let b = small c (S.inside c rc) in
                 elim (M.found c b) [
-                  | inl z ↦ M.kept c (taken_in front x one e (N.member xs) c (S.front_of c rc (omega (arith, z))) (λ q. out (subst (λ y. T (in_set rest' y)) q r)))
+                  | inl z ↦ M.kept c (taken_in front x one e N.member c (S.front_of c rc (omega (arith, z))) (λ q. out (subst (λ y. T (in_set rest' y)) q r)))
                   | inr z ↦ M.grows c (get_or labels' c 0) b r z.1
                 ];
             least = λ c y m cb ne yb yo I. elim (out_cases y yo) [
@@ -286,7 +286,7 @@ all_ones n h =
     rw (← o, ones_split n (64 - n)) (high (2 ^ n - 1) (64 - n) (ones_lt (64 - n)))
 
 pub started : (t : Task) (F : Formed t) (K : State) (v d n one : ℕ) → d < count t v → n ≡ count t v → one ≡ 2 ^ d
-    → let labels = set (replicate 64 unreached) d d in Settling t K v d labels (18446744073709551615 / 2 ^ (64 - n)) one × Nearest labels one d
+    → let labels = set (replicate 64 unreached) d d in Settling t K v d labels (18446744073709551615 / 2 ^ (64 - n)) one × Least labels one d
 started t F K v d n one db en eo = (
   settling_start t F K v d db labels (18446744073709551615 / 2 ^ (64 - n)) one
       (length-set (replicate 64 unreached) d d ∙ length-replicate 64 unreached)
@@ -294,7 +294,7 @@ started t F K v d n one db en eo = (
       (λ c b q. get_or-set_other (replicate 64 unreached) d c d 0 q ∙ get_or-replicate 64 c unreached 0 b)
       (λ c. rw (all_ones n (omega (arith, en, F.count_max v)), in_set_all n c, en) refl)
       front,
-  record { within = omega (arith, ds); member = λ _. rw (front d) (eqb_refl d); least = λ c b h. rw (eqb→eq c d (rw (front c) at h)) (ds, omega arith) },
+  record { within = ds; member = rw (front d) (eqb_refl d); least = λ c b h. rw (eqb→eq c d (rw (front c) at h)) (omega arith) },
 )
   where
     labels : List ℕ

@@ -5,20 +5,20 @@
 
 ghost use Rattle.std.specs.Prelude.{◌≡◌, ◌&&◌, ℕ, ◌/◌, ◌<◌, ◌≤◌, T, length, get_or, replicate};
 ghost use Rattle.planning.specs.Runs.{holds, actions, count, act, black};
-ghost use Rattle.task.specs.Task.{facts_in, task_in, Loaded};
+ghost use Rattle.task.specs.Task.{facts_of, task_in, AllFacts, Loaded};
 ghost use Rattle.task.specs.Links.{Prepared};
-ghost use Rattle.sets.specs.Sets.{in_set, sets_of, Facts};
+ghost use Rattle.sets.specs.Sets.{in_set, sets_of};
 ghost use Rattle.search.specs.Search.{source_of, unreached, through, highest, Into, Lowered, Done, Settled};
 
 // The set of all 64 values.
 const ALL: u64 = 18446744073709551615;
 
-// The set if each fact from place `from` up to `to` is held, else none.
-fn if_held(ever: &[u64; 64], facts: &[u16], from: usize, to: usize, set: u64) -> u64
-    requires { Facts facts.now from to }
-    ensures { (c : ℕ) → in_set result c ≡ (in_set set c && holds (sets_of ever.now) (facts_in facts.now from to)) }
+// The set if each of the facts is held, else none.
+fn if_held(ever: &[u64; 64], facts: &[u16], set: u64) -> u64
+    requires { AllFacts facts.now }
+    ensures { (c : ℕ) → in_set result c ≡ (in_set set c && holds (sets_of ever.now) (facts_of facts.now)) }
 {
-    if sets::all_hold(ever, facts, from, to) {
+    if applying::all_hold(ever, facts) {
         set
     } else {
         0
@@ -31,17 +31,15 @@ fn usable_sources(ever: &[u64; 64], task: &[u16], i: usize, v: usize, rest: u64)
     requires { Loaded task.now × (i < actions (task_in task.now)) }
     ensures { (c : ℕ) → in_set result c ≡ (in_set rest c && source_of (task_in task.now) (sets_of ever.now) v i c) }
 {
-    let to = task::eff_start(task, i);
-    let mut k = task::pre_start(task, i);
-    while k < to {
-        let f = lists::wide(task[k]);
+    let pre = task::preconditions(task, i);
+    for (k, w) in pre.iter().enumerate() {
+        let f = usize::from(*w);
         if f / 64 == v {
-            return if_held(ever, task, k + 1, to, rest & ever[v] & sets::single(f % 64));
+            return if_held(ever, &pre[k + 1..], rest & ever[v] & sets::single(f % 64));
         }
         if !sets::holds(ever, f) {
             return 0;
         }
-        k += 1;
     }
     rest
 }
@@ -70,8 +68,9 @@ fn arrive(
     ensures { Lowered (Into (task_in task.now) (sets_of ever.now) v x (get_or labels.old x 0 / 65536)) rest labels.old labels.new front result }
 {
     let key = labels[x] / 65536;
-    let mut i = task::first_mover(task, 64 * v + x);
     let mut g = front;
+    // The chain lies in the task, a link for each action: an iterator over it would be longer than this loop.
+    let mut i = task::first_mover(task, 64 * v + x);
     while i < 1024 {
         let set = usable_sources(ever, task, i, v, rest);
         labels::mark(labels, set, label(task, key, i, x));
@@ -98,15 +97,15 @@ pub fn settle(
     labels[d] = d as u64;
     let mut rest = ALL >> (64 - task::count(task, v));
     let mut front = sets::single(d);
-    let mut x = d;
-    while x < 64 {
+    let mut near = Some(d);
+    while let Some(x) = near {
         let one = sets::single(x);
         rest = rest ^ one;
         if x == c && !whole {
             return rest;
         }
         front = arrive(task, ever, labels, v, x, rest, front ^ one);
-        x = labels::nearest(labels, front);
+        near = labels::nearest(labels, front);
     }
     0
 }
