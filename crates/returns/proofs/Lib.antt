@@ -1,3 +1,2 @@
-pub mod Walks
 pub mod Marks
 pub mod Returns

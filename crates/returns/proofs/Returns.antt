@@ -1,34 +1,34 @@
 -- The return to one fact: some action of its chain needs marked facts alone. The chain rises, and has every action that changes its variable to it.
-use mathlib.Core.Path.{◌≡◌, refl, sym, ◌∙◌, subst}
+use mathlib.Core.Path.{◌≡◌, sym, ◌∙◌, subst}
 use mathlib.Core.Logic.{◌⊎◌, inl, inr}
-use mathlib.Core.Bool.{true, false, not}
+use mathlib.Core.Bool.{Bool, true, false, not}
 use mathlib.Core.List.{List}
-use mathlib.Core.Option.{Option, none, some}
 use Prim.Native.Nat.{ℕ, ◌+◌, ◌*◌, ◌/◌, ◌%◌, ◌<◌, ◌≤◌}
 use native.Mathlib.Omega.{arith}
 use native.Mathlib.Decide.{ℕ_discrete, dec_lt}
-use borrow.Author.Tests.{eq-eqb, ne_eqb}
+use borrow.Author.Tests.{not-true}
 use lib.Dec.{T, eqb}
-use Rattle.planning.specs.Basics.{some_below}
+use Rattle.std.specs.Prelude.{Option, None, Some}
+use Rattle.std.specs.Option.{option_eq}
 use Rattle.planning.specs.Record.{Task}
 use Rattle.planning.specs.Runs.{State, has, look, holds, actions, act}
 use Rattle.planning.specs.Painting.{reduced_effects}
 use Rattle.laws.proofs.Tests.{T→true, true→T, F→false, false→F, and_l, and_r, and_i}
 use Rattle.laws.proofs.Below.{some_true, some_false}
-use Rattle.laws.proofs.Facts.{look_some}
+use Rattle.laws.proofs.Formed.{Formed, eff_func}
 use Rattle.laws.proofs.Arcs.{reduced_intro}
 use Rattle.task.specs.Task.{task_in}
 use Rattle.task.specs.Links.{head_at, next_at, Next, Changes}
 use Rattle.sets.specs.Sets.{Asked}
-use Rattle.returns.specs.Returns.{returns_by, returned, OnChain, InChain, Serves}
+use Rattle.sets.proofs.Asking.{asked_has}
+use Rattle.returns.specs.Returns.{returns_by, returned, OnChain, InChain, FirstFrom, Finds}
 
--- an action is in the chain of v = d where the value that its effects ask of v is d, and it does not need v = d
-pub asked_chain : (t : Task) (j v d x : ℕ) → Asked (look (act t j).eff v) x → d < 64 → x ≡ d → has (act t j).pre v d ≡ false → j < actions t → InChain t v d j
-asked_chain t j v d x q b e n h = inr (h, reduced_intro (act t j) v d (go (look (act t j).eff v) refl q) (false→F (has (act t j).pre v d) n))
-  where
-    go : (o : Option ℕ) → look (act t j).eff v ≡ o → Asked o x → T (has (act t j).eff v d)
-    go none y q = absurd (omega arith)
-    go (some z) y q = let k : z ≡ d = sym q.0 ∙ e in look_some (act t j).eff v d (y ∙ rw k refl)
+-- an action changes v to d where the value that its effects ask of v is d, and it does not need v = d
+pub asked_changes : (t : Task) → Formed t → (j v d : ℕ) (x : Option ℕ) → d < 64 → Asked (look (act t j).eff v) x → true ≡ option_eq eqb x (Some d)
+    → (b : Bool) → b ≡ has (act t j).pre v d → not b ≡ true → Changes t v d j
+asked_changes t F j v d x l q e b n z = reduced_intro (act t j) v d
+    (true→T (has (act t j).eff v d) (sym (asked_has (act t j).eff (eff_func t F j) v d x l q) ∙ sym e))
+    (false→F (has (act t j).pre v d) (sym n ∙ not-true b z))
 
 -- the chain of v = d, gone through from a up to action j
 pub record Chasing (t : Task) (m : State) (v d a j : ℕ) : Type 0 where
@@ -68,17 +68,13 @@ module _ (task : List ℕ) (f : ℕ) (O : OnChain task f) (m : State) (a j : ℕ
       go k l b h (no y) (yes w) r = J.passed k l b w r
       go k l b h (no y) (no w) r = N.least k (omega arith) b h (and_l (has (reduced_effects (act (task_in task) k)) (f / 64) (f % 64)) (holds m (act (task_in task) k).pre) r)
 
-  pub chasing_hit : (j ≡ 65535 → ⊥) → holds m (act (task_in task) j).pre ≡ true → Next (actions (task_in task)) (λ k. T (returns_by (task_in task) m (f / 64) (f % 64) k)) a j
+  pub chasing_hit : (j ≡ 65535 → ⊥) → holds m (act (task_in task) j).pre ≡ true → FirstFrom (λ k. T (returns_by (task_in task) m (f / 64) (f % 64) k)) a (actions (task_in task)) (Some j)
   chasing_hit n e =
       let p = and_i (has (reduced_effects (act (task_in task) j)) (f / 64) (f % 64)) (holds m (act (task_in task) j).pre) (chasing_at n).2 (true→T (holds m (act (task_in task) j).pre) e) in
-      record { least = λ k l b h r. J.passed k l b h r; found = inr ((chasing_at n).0, (chasing_at n).1, p) }
+      ((chasing_at n).0, (chasing_at n).1, p, λ k l h r. J.passed k l (omega (arith, (chasing_at n).1)) h r)
 
-  pub chasing_end : j ≡ 65535 → Next (actions (task_in task)) (λ k. T (returns_by (task_in task) m (f / 64) (f % 64) k)) a j
-  chasing_end e = record { least = λ k l b h r. J.passed k l b h r; found = inl e }
-
--- what is found from any action on serves
-pub next_serves : (t : Task) (m : State) (v d a j : ℕ) → Next (actions t) (λ k. T (returns_by t m v d k)) a j → Serves t m v d j
-next_serves t m v d a j N = elim N.found [ inl q ↦ inl q | inr q ↦ inr (q.1, q.2) ]
+  pub chasing_end : j ≡ 65535 → FirstFrom (λ k. T (returns_by (task_in task) m (f / 64) (f % 64) k)) a (actions (task_in task)) None
+  chasing_end e = λ k l b r. J.passed k l b (omega (arith, O.loaded.formed.actions_max)) r
 
 module _ (task : List ℕ) (f : ℕ) (O : OnChain task f) where
   head_next : Next (actions (task_in task)) (Changes (task_in task) (f / 64) (f % 64)) 0 (head_at task f)
@@ -91,29 +87,19 @@ module _ (task : List ℕ) (f : ℕ) (O : OnChain task f) where
   pub head_chain : (h : ℕ) → h ≡ head_at task f → InChain (task_in task) (f / 64) (f % 64) h
   head_chain h e = rw e (elim head_next.found [ inl q ↦ inl q | inr q ↦ inr (q.1, q.2) ])
 
-  module _ (m : State) (j : ℕ) where
-    pub serves_near : Serves (task_in task) m (f / 64) (f % 64) j → j < 65536
-    serves_near S = elim S [ inl q ↦ omega arith | inr q ↦ omega (arith, q.0, O.loaded.formed.actions_max) ]
-
-    -- whether one was found is whether there is one
-    pub served : Serves (task_in task) m (f / 64) (f % 64) j → (j ≡ 65535 → ⊥) → not (eqb j 65535) ≡ returned (task_in task) m (f / 64) (f % 64)
+  module _ (m : State) (h : ℕ) where
+    -- whether one is found is whether there is one
+    pub finds : (j : ℕ) → FirstFrom (λ k. T (returns_by (task_in task) m (f / 64) (f % 64) k)) h (actions (task_in task)) (Some j) → Finds (task_in task) m (f / 64) (f % 64) (Some j)
     unfolding returned
-    served S n = elim S [
-      | inl q ↦ absurd (n q)
-      | inr q ↦ rw (ne_eqb j 65535 n) (sym (some_true (actions (task_in task)) (returns_by (task_in task) m (f / 64) (f % 64)) j q.0 (T→true (returns_by (task_in task) m (f / 64) (f % 64) j) q.1)))
-    ]
+    finds j N = (N.1, some_true (actions (task_in task)) (returns_by (task_in task) m (f / 64) (f % 64)) j N.1 (T→true (returns_by (task_in task) m (f / 64) (f % 64) j) N.2))
 
-    pub served_first : (h : ℕ) → h ≡ head_at task f → Next (actions (task_in task)) (λ k. T (returns_by (task_in task) m (f / 64) (f % 64) k)) h j
-        → not (eqb j 65535) ≡ returned (task_in task) m (f / 64) (f % 64)
+    pub finds_from_head : (r : Option ℕ) → h ≡ head_at task f → FirstFrom (λ k. T (returns_by (task_in task) m (f / 64) (f % 64) k)) h (actions (task_in task)) r → Finds (task_in task) m (f / 64) (f % 64) r
     unfolding returned
-    served_first h e N = go (ℕ_discrete j 65535)
+    finds_from_head (Some j) e N = finds j N
+    finds_from_head None e N =
+        some_false (actions (task_in task)) (returns_by (task_in task) m (f / 64) (f % 64)) (λ k b. F→false (returns_by (task_in task) m (f / 64) (f % 64) k) (none_serves k b (dec_lt k h)))
       where
-        none_serves : j ≡ 65535 → (k : ℕ) → k < actions (task_in task) → Dec (k < h) → T (returns_by (task_in task) m (f / 64) (f % 64) k) → ⊥
-        none_serves q k b (yes l) r =
+        none_serves : (k : ℕ) → k < actions (task_in task) → Dec (k < h) → T (returns_by (task_in task) m (f / 64) (f % 64) k) → ⊥
+        none_serves k b (yes l) r =
             head_next.least k (omega arith) b (omega arith) (and_l (has (reduced_effects (act (task_in task) k)) (f / 64) (f % 64)) (holds m (act (task_in task) k).pre) r)
-        none_serves q k b (no l) r = N.least k (omega arith) b (omega (arith, O.loaded.formed.actions_max)) r
-
-        go : Dec (j ≡ 65535) → not (eqb j 65535) ≡ some_below (actions (task_in task)) (returns_by (task_in task) m (f / 64) (f % 64))
-        go (no n) = served (next_serves (task_in task) m (f / 64) (f % 64) h j N) n
-        go (yes q) = rw (eq-eqb j 65535 q)
-            (sym (some_false (actions (task_in task)) (returns_by (task_in task) m (f / 64) (f % 64)) (λ k b. F→false (returns_by (task_in task) m (f / 64) (f % 64) k) (none_serves q k b (dec_lt k h)))))
+        none_serves k b (no l) r = N k (omega arith) b r

@@ -2,133 +2,139 @@
 // that change its variable to it: the first one that needs marked facts alone is enough. What served last is tried first.
 #![tactic(auto)]
 
-ghost use Rattle.std.specs.Prelude.{◌≡◌, ◌/◌, ◌%◌, ◌<◌, T};
+ghost use Rattle.std.specs.Prelude.{◌≡◌, true, false, ℕ, MatchOption, ◌/◌, ◌%◌, ◌<◌, T, length, get_or};
 ghost use Rattle.planning.specs.Runs.{holds, actions, act};
-ghost use Rattle.task.specs.Task.{facts_in, task_in, Loaded};
-ghost use Rattle.task.specs.Links.{Next};
-ghost use Rattle.returns.specs.Returns.{place, mark_all, marked, Spans, Markable, FirstUnmarked, returns_by, returned, OnChain, InChain, Serves};
+ghost use Rattle.task.specs.Task.{facts_of, task_in, Loaded};
+ghost use Rattle.task.specs.Links.{Changes};
+ghost use Rattle.returns.specs.Returns.{place, mark_all, marked, Spans, Markable, returns_by, returned, OnChain, InChain, FirstFrom, Finds};
 
-// What served last: the action for each fact, by the fact's number modulo 1,024; behind them how many more actions may be tried in vain for
-// keeping, and the place of the precondition that was not marked. Any numbers will do.
-pub const LAST: usize = 1026;
+// What served last. Any numbers will do.
+#[derive(Drop)]
+pub struct Last {
+    // the action for each fact, by the fact's number modulo 1,024
+    pub served: [u16; 1024],
+    // where the precondition stood that was not marked
+    pub place: u16,
+    // how many more actions may be tried in vain for keeping
+    pub tries: u16,
+}
 
-pub const TRIES: usize = 1024;
-
-// Where an action with the move f marks its fact g.
-fn place_of(f: usize, g: usize) -> usize
+// Where an action with the move f, if it has one, marks its fact g.
+fn place_of(f: Option<usize>, g: usize) -> usize
     ensures { result ≡ place f g }
 {
+    let Some(f) = f else {
+        return g;
+    };
     if g / 64 == f / 64 { f } else { g }
 }
 
-// The marks `own` of the facts from place `from` up to `to`, for an action with the move f.
-pub fn mark(task: &[u16], from: usize, to: usize, f: usize, own: u16, marks: &mut [u16])
-    requires { Markable task.now from to f marks.old }
-    ensures { marks.new ≡ mark_all own f (facts_in task.now from to) marks.old }
+// The marks `own` of the facts, for an action with the move f, if it has one.
+pub fn mark(facts: &[u16], f: Option<usize>, own: u16, marks: &mut [u16])
+    requires { Markable facts.now f marks.old }
+    ensures { marks.new ≡ mark_all own f (facts_of facts.now) marks.old }
 {
-    let mut k = from;
-    while k < to {
-        marks[place_of(f, lists::wide(task[k]))] = own;
-        k += 1;
+    for g in facts {
+        marks[place_of(f, usize::from(*g))] = own;
     }
 }
 
-// Where the first precondition of action j stands that is not marked i; where they end if each is.
-fn first_unmarked(task: &[u16], j: usize, marks: &[u16], i: u16) -> usize
-    requires { Loaded task.now × (j < actions (task_in task.now)) × Spans (task_in task.now) marks.now }
-    ensures { FirstUnmarked task.now j (marked i marks.now) result }
+// Where the first of the facts stands that is not marked i.
+fn first_unmarked(facts: &[u16], marks: &[u16], i: u16) -> Option<usize>
+    requires { (k : ℕ) → k < length facts.now → get_or facts.now k 0 < length marks.now }
+    ensures { MatchOption result (holds (marked i marks.now) (facts_of facts.now) ≡ true) (λ k. holds (marked i marks.now) (facts_of facts.now) ≡ false) }
 {
-    let end = task::eff_start(task, j);
-    let mut k = task::pre_start(task, j);
-    while k < end {
-        if marks[lists::wide(task[k])] != i {
-            return k;
+    for (k, f) in facts.iter().enumerate() {
+        if marks[usize::from(*f)] != i {
+            return Some(k);
         }
-        k += 1;
     }
-    k
+    None
 }
 
-// Each precondition of action j is marked i. The one that was not the last time, at the place among them that `last` has behind its
-// actions, is looked at first.
-pub fn all_marked(task: &[u16], j: usize, marks: &[u16], i: u16, last: &mut [u16; LAST]) -> bool
+// Each precondition of action j is marked i. The one that was not the last time is looked at first.
+pub fn all_marked(task: &[u16], j: usize, marks: &[u16], i: u16, last: &mut Last) -> bool
     requires { Loaded task.now × (j < actions (task_in task.now)) × Spans (task_in task.now) marks.now }
     ensures { result ≡ holds (marked i marks.now) (act (task_in task.now) j).pre }
 {
-    let start = task::pre_start(task, j);
-    let end = task::eff_start(task, j);
-    let seen = start + lists::wide(last[LAST - 1] % 16);
-    if seen < end {
-        if marks[lists::wide(task[seen])] != i {
-            return false;
-        }
+    let pre = task::preconditions(task, j);
+    let seen = usize::from(last.place % 16);
+    if seen < pre.len() && marks[usize::from(pre[seen])] != i {
+        return false;
     }
-    let k = first_unmarked(task, j, marks, i);
-    if k == end {
+    let Some(k) = first_unmarked(pre, marks, i) else {
         return true;
-    }
-    last[LAST - 1] = ((k - start) % 16) as u16;
+    };
+    last.place = (k % 16) as u16;
     false
 }
 
-// The first action from j on whose move is f and that needs facts that are marked i alone; 65,535 if there is none. The walk goes
-// along the chain of f, in which j stands.
+// The first action from j on whose move is f and that needs facts that are marked i alone. The walk goes along the chain of f, in which j
+// stands.
 fn first_return(
     task: &[u16],
     marks: &[u16],
     i: u16,
     f: usize,
     j: usize,
-    last: &mut [u16; LAST],
-) -> usize
+    last: &mut Last,
+) -> Option<usize>
     requires { OnChain task.now f × InChain (task_in task.now) (f / 64) (f % 64) j × Spans (task_in task.now) marks.now }
-    ensures { Next (actions (task_in task.now)) (λ k. T (returns_by (task_in task.now) (marked i marks.now) (f / 64) (f % 64) k)) j result }
+    ensures { FirstFrom (λ k. T (returns_by (task_in task.now) (marked i marks.now) (f / 64) (f % 64) k)) j (actions (task_in task.now)) result }
 {
     let mut k = j;
+    // 65,535: the loaded task, whose form stays, ends its chains with it
     while k != 65535 {
         if all_marked(task, k, marks, i, last) {
-            return k;
+            return Some(k);
         }
         k = task::next_mover(task, k);
     }
-    k
+    None
 }
 
-// The same from h on, which may be any number; 65,535 also if f is not the move of h.
-fn later_return(
+// Action h, which may be any number, has the move f.
+fn moves_to(task: &[u16], h: usize, f: usize) -> bool
+    requires { Loaded task.now }
+    ensures { result ≡ true → (h < actions (task_in task.now)) × Changes (task_in task.now) (f / 64) (f % 64) h }
+{
+    if task::actions(task) <= h {
+        return false;
+    }
+    sets::target(task, h, f / 64) == Some(f % 64) && !sets::needs_fact(task, h, f)
+}
+
+// Some action with the move f that needs facts that are marked i alone. The walk starts at action h, if that has the move f, and then at the first.
+fn find_return(
     task: &[u16],
     marks: &[u16],
     i: u16,
     f: usize,
     h: usize,
-    last: &mut [u16; LAST],
-) -> usize
+    last: &mut Last,
+) -> Option<usize>
     requires { OnChain task.now f × Spans (task_in task.now) marks.now }
-    ensures { Serves (task_in task.now) (marked i marks.now) (f / 64) (f % 64) result }
+    ensures { Finds (task_in task.now) (marked i marks.now) (f / 64) (f % 64) result }
 {
-    if task::actions(task) <= h {
-        return 65535;
+    if moves_to(task, h, f) {
+        if let Some(j) = first_return(task, marks, i, f, h, last) {
+            return Some(j);
+        }
     }
-    if sets::target(task, h, f / 64) != f % 64 {
-        return 65535;
-    }
-    if sets::needs_fact(task, h, f) {
-        return 65535;
-    }
-    first_return(task, marks, i, f, h, last)
+    first_return(task, marks, i, f, task::first_mover(task, f), last)
 }
 
-// Some action with the move f needs facts that are marked i alone. The walk starts at the one that was found last, for f or for
-// a fact that shares its place, and then at the first.
-pub fn is_returned(task: &[u16], marks: &[u16], i: u16, f: usize, last: &mut [u16; LAST]) -> bool
+// Some action with the move f needs facts that are marked i alone. The one that was found last, for f or for a fact that shares its place, is
+// tried first.
+pub fn is_returned(task: &[u16], marks: &[u16], i: u16, f: usize, last: &mut Last) -> bool
     requires { OnChain task.now f × Spans (task_in task.now) marks.now }
     ensures { result ≡ returned (task_in task.now) (marked i marks.now) (f / 64) (f % 64) }
 {
-    let h = lists::wide(last[f % 1024]);
-    let mut j = later_return(task, marks, i, f, h, last);
-    if j == 65535 {
-        j = first_return(task, marks, i, f, task::first_mover(task, f), last);
-    }
-    last[f % 1024] = j as u16;
-    j != 65535
+    let h = usize::from(last.served[f % 1024]);
+    let Some(j) = find_return(task, marks, i, f, h, last) else {
+        last.served[f % 1024] = 65535;
+        return false;
+    };
+    last.served[f % 1024] = j as u16;
+    true
 }
