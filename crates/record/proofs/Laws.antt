@@ -1,6 +1,7 @@
 -- The checks of a record, case by case: what each test in the code says of the definition's checks.
 use mathlib.Core.Path.{◌≡◌, refl, sym, ap, ◌∙◌}
 use mathlib.Core.Bool.{true, false, ◌&&◌}
+use mathlib.Core.Logic.{◌⊎◌, inl, inr}
 use mathlib.Core.List.{List, [], ◌∷◌, ◌++◌}
 use mathlib.Core.Option.{none}
 use Prim.Native.Nat.{ℕ, zero, suc, ◌+◌, ◌-◌, ◌*◌, ◌/◌, ◌%◌, ◌^◌, ◌≤◌, ◌<◌}
@@ -21,14 +22,49 @@ use Rattle.laws.proofs.Checks.{check_none, and_then_none, in_order-++, in_order_
 use Rattle.laws.proofs.Fields.{action_end_le, actions_end_le, bits_at_below}
 use Rattle.laws.proofs.Lists.{get_d_zeros}
 use Rattle.bits.proofs.Window.{bits_at_add}
-use Rattle.answers.proofs.Stages.{stage_passes, skip, skip_stage, stops_stage, pass_end}
+use Rattle.answers.proofs.Stages.{answer_done, answer_refused, answer_refusing, stage_passes, stage_stops, skip, skip_one, hit, hit_one, skip_stage, pass_end}
 use Rattle.bits.specs.Windows.{Leading}
+use Rattle.std.specs.Prelude.{Result, IsErrAnd, Option, Some, None, MatchOption, is_some}
+use Rattle.std.proofs.lemmas.Result.{err_from_is_err_and}
 use Rattle.answers.specs.declared.Refusal.{Refusal}
-use Rattle.answers.specs.declared.Number.{Number}
-use Rattle.answers.specs.declared.Number.TheVariants.{Refused}
-use Rattle.answers.specs.Answers.{value_of}
+use Rattle.answers.specs.Answers.{number_of, check_of, answer_by}
 use Rattle.record.specs.Stages.{Counts, Sound, Few, Unsound, SoundHeader, SoundVariable}
 use Rattle.record.specs.Stages.{from_end, from_actions, from_variables, from_action_count, from_variable_count, action_facts_checks, initial_checks, goal_checks}
+
+-- what a call gave where it passed, and where it refused
+pub there : {A : Type 0} (c : Check) (a b : A) → done b ≡ answer c a → (c ≡ none) × (a ≡ b)
+there c a b h = answer_done c a b (sym h)
+
+pub not_there : {A : Type 0} (c : Check) (a : A) (n p : ℕ) → refused n p ≡ answer c a → c ≡ refuse n p
+not_there c a n p h = answer_refused c a n p (sym h)
+
+-- the refusal f that a `?` hands on in the result r, as an answer and as a check
+module _ {A B : Type 0} (g : A → B) (r : Result A Refusal) (f : Refusal) (h : IsErrAnd r (λ e. e ≡ f)) where
+  pub sent : (x : Answer B) → refused (number_of f.reason) f.place ≡ x → answer_by g r ≡ x
+  sent x e = let p = err_from_is_err_and r h in rw (p.1, p.2) e
+
+  pub stopped : {D : Type 0} (c : Check) (b : D) (xs : List Check) (d : B) → refused (number_of f.reason) f.place ≡ answer c b → answer_by g r ≡ answer (in_order (c ∷ xs)) d
+  stopped c b xs d e = sent _ (hit c xs _ _ d (not_there c b _ _ e))
+
+  pub stopped_stage : {D : Type 0} (xs ys : List Check) (b : D) (d : B) → refused (number_of f.reason) f.place ≡ answer (in_order xs) b → answer_by g r ≡ answer (in_order (xs ++ ys)) d
+  stopped_stage xs ys b d e = sent _ (answer_refusing _ d _ _ (stage_stops xs ys _ _ (not_there (in_order xs) b _ _ e)))
+
+module _ (r : Result Unit Refusal) (f : Refusal) (h : IsErrAnd r (λ e. e ≡ f)) where
+  pub sent_check : (x : Check) → refuse (number_of f.reason) f.place ≡ x → check_of r ≡ x
+  sent_check x e = let p = err_from_is_err_and r h in rw (p.1, p.2) e
+
+  pub stopped_check : {D : Type 0} (c : Check) (b : D) (xs : List Check) → refused (number_of f.reason) f.place ≡ answer c b → check_of r ≡ in_order (c ∷ xs)
+  stopped_check c b xs e = sent_check _ (sym (hit_one c xs _ _ (not_there c b _ _ e)))
+
+  pub stopped_check_stage : {D : Type 0} (xs ys : List Check) (b : D) → refused (number_of f.reason) f.place ≡ answer (in_order xs) b → check_of r ≡ in_order (xs ++ ys)
+  stopped_check_stage xs ys b e = sent_check _ (sym (stage_stops xs ys _ _ (not_there (in_order xs) b _ _ e)))
+
+-- a check that passes leaves the rest to say, one that refuses is the answer
+pub over : (x c : Check) (xs : List Check) → c ≡ none → x ≡ in_order xs → x ≡ in_order (c ∷ xs)
+over x c xs e h = h ∙ sym (skip_one c xs e)
+
+pub held : (c : Check) (xs : List Check) (n p : ℕ) → c ≡ refuse n p → refuse n p ≡ in_order (c ∷ xs)
+held c xs n p e = sym (hit_one c xs n p e)
 
 pub false_not : false ≡ true → ⊥
 false_not e = let z : ◌≡◌ {A = ℕ} 0 1 = cc in absurd (omega arith)
@@ -60,16 +96,16 @@ bits_at_u32 s p w r e h = rw e (lt_of_lt_of_le (bits_at_below s p w) (pow_mono {
 
 -- the end: a wrong count of bytes, padding that is not 0, and neither
 module _ (s : List ℕ) (p : ℕ) (e : p ≡ record_end s) where
-  pub end_bytes : (length s ≡ (p + 7) / 8 → ⊥) → ◌≡◌ {A = Answer ℕ} (refused 6 p) (answer (in_order (from_end s)) 0)
-  unfolding from_end in_order and_then ends_at check answer
+  pub end_bytes : (length s ≡ (p + 7) / 8 → ⊥) → refuse 6 p ≡ in_order (from_end s)
+  unfolding from_end in_order and_then ends_at check
   end_bytes h = rw (← e, ne_eqb (length s) ((p + 7) / 8) h) refl
 
-  pub end_padding : (w r : ℕ) → length s ≡ (p + 7) / 8 → w ≡ 8 * length s - p → r ≡ bits_at s p w → (r ≡ 0 → ⊥) → ◌≡◌ {A = Answer ℕ} (refused 6 p) (answer (in_order (from_end s)) 0)
-  unfolding from_end in_order and_then ends_at check answer
+  pub end_padding : (w r : ℕ) → length s ≡ (p + 7) / 8 → w ≡ 8 * length s - p → r ≡ bits_at s p w → (r ≡ 0 → ⊥) → refuse 6 p ≡ in_order (from_end s)
+  unfolding from_end in_order and_then ends_at check
   end_padding w r h f g k = rw (← e, eq-eqb (length s) ((p + 7) / 8) h, ← f, ← g, ne_eqb r 0 k) refl
 
-  pub end_right : (w r : ℕ) → length s ≡ (p + 7) / 8 → w ≡ 8 * length s - p → r ≡ bits_at s p w → r ≡ 0 → ◌≡◌ {A = Answer ℕ} (done 0) (answer (in_order (from_end s)) 0)
-  unfolding from_end in_order and_then ends_at check answer
+  pub end_right : (w r : ℕ) → length s ≡ (p + 7) / 8 → w ≡ 8 * length s - p → r ≡ bits_at s p w → r ≡ 0 → none ≡ in_order (from_end s)
+  unfolding from_end in_order and_then ends_at check
   end_right w r h f g k = rw (← e, eq-eqb (length s) ((p + 7) / 8) h, ← f, ← g, eq-eqb r 0 k) refl
 
 -- a fact's two fields in one
@@ -82,13 +118,19 @@ module _ (s : List ℕ) (p w : ℕ) (e : w ≡ bits_at s p 12) where
 
 -- the checks of a fact: its variable, and its value against the count of that variable
 module _ (s : List ℕ) (p low n v : ℕ) (en : n ≡ variables_in s) (ev : bits_at s p 6 ≡ v) where
-  pub var_above : n ≤ v → check (ltb (bits_at s p 6) (variables_in s) && leb low (bits_at s p 6)) 5 p ≡ refuse 5 p
+  var_above : n ≤ v → check (ltb (bits_at s p 6) (variables_in s) && leb low (bits_at s p 6)) 5 p ≡ refuse 5 p
   unfolding check
   var_above h = rw (ev, ← en, le-ltb v n h) refl
 
-  pub var_low : v < n → v < low → check (ltb (bits_at s p 6) (variables_in s) && leb low (bits_at s p 6)) 5 p ≡ refuse 5 p
+  var_low : v < n → v < low → check (ltb (bits_at s p 6) (variables_in s) && leb low (bits_at s p 6)) 5 p ≡ refuse 5 p
   unfolding check
   var_low h k = rw (ev, ← en, lt-ltb v n h, lt-leb low v k) refl
+
+  pub var_wrong : (n ≤ v) ⊎ ((v < n) × (v < low)) → check (ltb (bits_at s p 6) (variables_in s) && leb low (bits_at s p 6)) 5 p ≡ refuse 5 p
+  var_wrong h = elim h [
+    | inl k ↦ var_above k
+    | inr k ↦ var_low k.0 k.1
+  ]
 
   pub var_right : v < n → low ≤ v → check (ltb (bits_at s p 6) (variables_in s) && leb low (bits_at s p 6)) 5 p ≡ none
   unfolding check
@@ -181,15 +223,15 @@ few_none w low counts =
       passes = λ s p m L l C. let e : 0 + m ≡ m = omega arith in let f : p + 12 * 0 ≡ p = omega arith in rw (e, f) refl;
     }
 
-pub few_more : (w n k low : ℕ) (counts : List ℕ) (r f : ℕ) → n ≡ k + 1 → k ≤ 3 → Few w k low counts r → f ≡ w / 2 ^ (64 - (12 * k + 12)) % 4096 → Sound counts f r → Few w n low counts (f / 64 + 1)
-few_more w n k low counts r f en h F ef S = record { passes = more }
+pub few_more : (w n k low : ℕ) (counts : List ℕ) (r f next : ℕ) → n ≡ k + 1 → k ≤ 3 → Few w k low counts r → f ≡ w / 2 ^ (64 - (12 * k + 12)) % 4096 → Sound counts f r × (next ≡ f / 64 + 1) → Few w n low counts next
+few_more w n k low counts r f next en h F ef S = record { passes = rw S.1 more }
   where
     more : (s : List ℕ) (p m : ℕ) → Leading s p w → p + 12 * n ≤ 8 * length s → Counts s counts (variables_in s) → in_order (facts_checks s p low (n + m)) ≡
         in_order (facts_checks s (p + 12 * n) (f / 64 + 1) m)
     more s p m L l C =
         let e1 : n + m ≡ k + suc m = omega arith in
         let e2 : p + 12 * n ≡ p + 12 * k + 12 = omega arith in
-        rw (e1, e2) (F.passes s p (suc m) L (omega arith) C ∙ sound_step s (p + 12 * k) r f counts (ef ∙ leading_fact s p w k L h (omega arith)) (omega arith) C S m)
+        rw (e1, e2) (F.passes s p (suc m) L (omega arith) C ∙ sound_step s (p + 12 * k) r f counts (ef ∙ leading_fact s p w k L h (omega arith)) (omega arith) C S.0 m)
 
 -- and one that is not sound
 pub few_stops : (w n k low : ℕ) (counts : List ℕ) (r f : ℕ) → k < n → n ≤ 4 → Few w k low counts r → f ≡ w / 2 ^ (64 - (12 * k + 12)) % 4096 → (Sound counts f r → ⊥) → Unsound w n low counts
@@ -203,6 +245,12 @@ few_stops w n k low counts r f h l F ef N = record { refuses = stops }
         let a : in_order (facts_checks s (p + 12 * k) r (suc j)) ≡ none = sym (F.passes s p (suc j) L (omega arith) C) ∙ (rw q at e) in
         let d = stage_parts (fact_checks s (p + 12 * k) r) (facts_checks s (p + 12 * k + 12) (bits_at s (p + 12 * k) 6 + 1) j) a in
         N (fact_sound s (p + 12 * k) r f counts (ef ∙ leading_fact s p w k L (omega arith) (omega arith)) C d.0)
+
+-- the last fact that is asked for, as its test says
+pub few_last : (w n k low : ℕ) (counts : List ℕ) (r f : ℕ) (o : Option ℕ) → n ≡ k + 1 → n ≤ 4 → Few w k low counts r → f ≡ w / 2 ^ (64 - (12 * k + 12)) % 4096
+    → MatchOption o (Sound counts f r → ⊥) (λ next. Sound counts f r × (next ≡ f / 64 + 1)) → MatchOption o (Unsound w n low counts) (λ next. Few w n low counts next)
+few_last w n k low counts r f None en h F ef S = few_stops w n k low counts r f (omega arith) h F ef S
+few_last w n k low counts r f (Some next) en h F ef S = few_more w n k low counts r f next en (omega arith) F ef S
 
 pub few_as : (w n k low : ℕ) (counts : List ℕ) (r : ℕ) → n ≡ k → Few w k low counts r → Few w n low counts r
 few_as w n k low counts r e F = rw e F
@@ -218,10 +266,10 @@ run_start s from count = record { within = omega arith; place = refl; checks = r
 
 module _ (s : List ℕ) (from count at low left w : ℕ) (counts : List ℕ) (I : Run s from count at low left) (L : Leading s at w)
     (there : from + 12 * count ≤ 8 * length s) (C : Counts s counts (variables_in s)) where
-  pub run_turn : (r : ℕ) → 4 < left → Few w 4 low counts r → Run s from count (at + 48) r (left - 4)
-  run_turn r h F =
+  pub run_turn : (r q m : ℕ) → 4 < left → q ≡ at + 48 → m ≡ left - 4 → Few w 4 low counts r → Run s from count q r m
+  run_turn r q m h eq em F =
       let e : left ≡ 4 + (left - 4) = omega arith in
-      record {
+      rw (eq, em) record {
         within = omega (arith, I.within);
         place = omega (arith, I.place);
         checks = I.checks ∙ (ap (λ (x : ℕ). in_order (facts_checks s at low x)) e ∙ F.passes s at (left - 4) L (omega (arith, I.place)) C);
@@ -233,10 +281,17 @@ module _ (s : List ℕ) (from count at low left w : ℕ) (counts : List ℕ) (I 
       let e : left ≡ left + 0 = omega arith in
       I.checks ∙ (ap (λ (x : ℕ). in_order (facts_checks s at low x)) e ∙ F.passes s at 0 L (omega (arith, I.place)) C)
 
+  pub run_decides : (o : Option ℕ) → MatchOption o (Unsound w left low counts) (λ next. Few w left low counts next) → is_some o ≡ true → in_order (facts_checks s from 0 count) ≡ none
+  run_decides None h e = absurd (false_not e)
+  run_decides (Some r) h e = run_last r h
+
   pub run_stop : (n : ℕ) → n ≤ left → Unsound w n low counts → in_order (facts_checks s from 0 count) ≡ none → ⊥
   run_stop n h U e =
       let q : n + (left - n) ≡ left = omega arith in
       U.refuses s at (left - n) L (omega (arith, I.place)) C (ap (λ (x : ℕ). in_order (facts_checks s at low x)) q ∙ (sym I.checks ∙ e))
+
+pub run_at : (s : List ℕ) (from count p low left q m : ℕ) → Run s from count p low left → q ≡ p → m ≡ left → Run s from count q low m
+run_at s from count p low left q m I eq em = rw (eq, em) I
 
 pub run_none : (s : List ℕ) (from count at low left : ℕ) → Run s from count at low left → left ≡ 0 → in_order (facts_checks s from 0 count) ≡ none
 unfolding facts_checks in_order
@@ -337,9 +392,9 @@ variable_fits s p h = let P = in_order_passed (variable_checks s p) h in omega (
 
 -- the facts of an action: the preconditions refuse, or pass and the effects say
 module _ (s : List ℕ) (p pre : ℕ) (ep : pre ≡ preconditions_in s p) where
-  pub pre_refused : (r : Number) (f : Refusal) (b d : ℕ) → r ≡ Refused f → value_of r ≡ answer (in_order (facts_checks s (p + 24) 0 pre)) b → value_of r ≡ answer (in_order (action_facts_checks s p)) d
+  pub pre_refused : (r : Result ℕ Refusal) (f : Refusal) → IsErrAnd r (λ e. e ≡ f) → (b d : ℕ) → refused (number_of f.reason) f.place ≡ answer (in_order (facts_checks s (p + 24) 0 pre)) b → answer_by (λ v. v) r ≡ answer (in_order (action_facts_checks s p)) d
   unfolding action_facts_checks
-  pre_refused r f b d e h = rw (← ep) (stops_stage r f _ _ b d e h)
+  pre_refused r f h b d e = rw (← ep) (stopped_stage _ r f h _ _ b d e)
 
   pub eff_answer : (eff mid : ℕ) (a : Answer ℕ) → eff ≡ effects_in s p → (in_order (facts_checks s (p + 24) 0 pre) ≡ none) × (p + 24 + 12 * pre ≡ mid) → a ≡ answer
       (in_order (facts_checks s mid 0 eff)) (mid + 12 * eff)
@@ -421,9 +476,8 @@ module _ (s : List ℕ) (from count at i : ℕ) (I : Behind s from count at i) w
   unfolding actions_checks
   actions_step h = let e : count - i ≡ suc (count - (i + 1)) = omega arith in I.checks ∙ rw e refl
 
-  pub action_stops : (r : Number) (f : Refusal) (d : ℕ) → i < count → r ≡ Refused f → value_of r ≡ answer (in_order (action_checks s at)) (action_end s at) →
-      value_of r ≡ answer (in_order (actions_checks s from count)) d
-  action_stops r f d h e k = rw (actions_step h) (stops_stage r f _ _ _ d e k)
+  pub action_stops : (r : Result ℕ Refusal) (f : Refusal) → IsErrAnd r (λ e. e ≡ f) → (b d : ℕ) → i < count → refused (number_of f.reason) f.place ≡ answer (in_order (action_checks s at)) b → answer_by (λ v. v) r ≡ answer (in_order (actions_checks s from count)) d
+  action_stops r f h b d k e = rw (actions_step k) (stopped_stage _ r f h _ _ b d e)
 
   pub action_here : i < count → in_order (actions_checks s from count) ≡ none → in_order (action_checks s at) ≡ none
   action_here h e = (stage_parts (action_checks s at) (actions_checks s (action_end s at) (count - (i + 1))) (sym (actions_step h) ∙ e)).0
@@ -442,13 +496,6 @@ module _ (s : List ℕ) (from count at i : ℕ) (I : Behind s from count at i) w
   pub actions_done : count ≤ i → done at ≡ answer (in_order (actions_checks s from count)) (actions_end s from count)
   unfolding actions_checks actions_end in_order answer
   actions_done h = let e : count - i ≡ 0 = omega arith in rw (I.checks, I.ends, e) refl
-
--- a refusal is no success
-pub not_done : (r : Number) (f : Refusal) (b : ℕ) → r ≡ Refused f → value_of r ≡ done b → ⊥
-not_done r f b e h = absurd (apart f.number f.place (sym (ap value_of e) ∙ h))
-  where
-    apart : (n p : ℕ) → ◌≡◌ {A = Answer ℕ} (refused n p) (done b) → ⊥
-    apart n p z = let y : ◌≡◌ {A = ℕ} 0 1 = cc in omega arith
 
 -- the count of values of a variable
 pub count_is : (s : List ℕ) (v last : ℕ) → bits_at s (variable_bit v) 6 ≡ last → last + 1 ≡ count_in s v
@@ -483,9 +530,8 @@ module _ (s : List ℕ) (count : ℕ) (counts : List ℕ) (i : ℕ) (I : Seen s 
       let f : variable_bit i + 20 ≡ variable_bit (i + 1) = omega arith in
       I.checks ∙ rw (e, f) refl
 
-  pub variable_stops : (r : Number) (f : Refusal) (b d : ℕ) → i < count → r ≡ Refused f → value_of r ≡ answer (in_order (variable_checks s (variable_bit i))) b →
-      value_of r ≡ answer (in_order (variables_checks s 22 count)) d
-  variable_stops r f b d h e k = rw (variables_step h) (stops_stage r f _ _ b d e k)
+  pub variable_stops : (r : Result Unit Refusal) (f : Refusal) → IsErrAnd r (λ e. e ≡ f) → (b : ℕ) → i < count → refused (number_of f.reason) f.place ≡ answer (in_order (variable_checks s (variable_bit i))) b → check_of r ≡ in_order (variables_checks s 22 count)
+  variable_stops r f h b k e = rw (variables_step k) (stopped_check_stage r f h _ _ b e)
 
   pub variable_here : i < count → in_order (variables_checks s 22 count) ≡ none → in_order (variable_checks s (variable_bit i)) ≡ none
   variable_here h e = (stage_parts (variable_checks s (variable_bit i)) (variables_checks s (variable_bit (i + 1)) (count - (i + 1))) (sym (variables_step h) ∙ e)).0
@@ -506,8 +552,8 @@ module _ (s : List ℕ) (count : ℕ) (counts : List ℕ) (i : ℕ) (I : Seen s 
       past : (v : ℕ) → i + 1 ≤ v → get_or (set counts i c) v 0 ≡ 0
       past v b = rw (get_or-set_other counts i v c 0 (λ q. omega arith)) (I.holds.behind v (omega arith))
 
-  pub variables_done : count ≤ i → (◌≡◌ {A = Answer ℕ} (done 0) (answer (in_order (variables_checks s 22 count)) 0)) × Counts s counts count
-  unfolding variables_checks in_order answer
+  pub variables_done : count ≤ i → (none ≡ in_order (variables_checks s 22 count)) × Counts s counts count
+  unfolding variables_checks in_order
   variables_done h =
       let e : count - i ≡ 0 = omega arith in
       let f : i ≡ count = omega (arith, I.within) in
@@ -515,26 +561,26 @@ module _ (s : List ℕ) (count : ℕ) (counts : List ℕ) (i : ℕ) (I : Seen s 
 
 -- the record from its variables on
 module _ (s : List ℕ) (n a : ℕ) (en : n ≡ variables_in s) (ea : a ≡ actions_in s) where
-  pub actions_refused : (r : Number) (f : Refusal) (b d : ℕ) → r ≡ Refused f → value_of r ≡ answer (in_order (actions_checks s (variable_bit n) a)) b → value_of r ≡ answer (in_order (from_actions s)) d
+  pub actions_refused : (r : Result Unit Refusal) (f : Refusal) → IsErrAnd r (λ e. e ≡ f) → (b : ℕ) → refused (number_of f.reason) f.place ≡ answer (in_order (actions_checks s (variable_bit n) a)) b → check_of r ≡ in_order (from_actions s)
   unfolding from_actions
-  actions_refused r f b d e h = rw (← en, ← ea) (stops_stage r f _ _ b d e h)
+  actions_refused r f h b e = rw (← en, ← ea) (stopped_check_stage r f h _ _ b e)
 
-  pub actions_passed : (x : Answer ℕ) (d : ℕ) → in_order (actions_checks s (variable_bit n) a) ≡ none → x ≡ answer (in_order (from_end s)) d → x ≡ answer (in_order (from_actions s)) d
+  pub actions_passed : (x : Check) → in_order (actions_checks s (variable_bit n) a) ≡ none → x ≡ in_order (from_end s) → x ≡ in_order (from_actions s)
   unfolding from_actions
-  actions_passed x d e h = rw (← en, ← ea) (skip_stage _ _ x d e h)
+  actions_passed x e h = rw (← en, ← ea) (h ∙ sym (stage_passes _ _ e))
 
   pub actions_end_lem : (end : ℕ) → n ≤ 64 → a ≤ 1024 → actions_end s (variable_bit n) a ≡ end → (end ≤ 500000) × (end ≡ record_end s)
   unfolding record_end
   actions_end_lem end hn ha e = (omega (arith, e, actions_end_le s (variable_bit n) a), rw (← en, ← ea) (sym e))
 
 module _ (s : List ℕ) (n : ℕ) (en : n ≡ variables_in s) where
-  pub variables_refused : (r : Number) (f : Refusal) (b d : ℕ) → r ≡ Refused f → value_of r ≡ answer (in_order (variables_checks s 22 n)) b → value_of r ≡ answer (in_order (from_variables s)) d
+  pub variables_refused : (r : Result Unit Refusal) (f : Refusal) → IsErrAnd r (λ e. e ≡ f) → refuse (number_of f.reason) f.place ≡ in_order (variables_checks s 22 n) → check_of r ≡ in_order (from_variables s)
   unfolding from_variables
-  variables_refused r f b d e h = rw (← en) (stops_stage r f _ _ b d e h)
+  variables_refused r f h e = sent_check r f h _ (rw (← en) (sym (stage_stops _ _ _ _ (sym e))))
 
-  pub variables_passed : (x : Answer ℕ) (d : ℕ) → in_order (variables_checks s 22 n) ≡ none → x ≡ answer (in_order (from_actions s)) d → x ≡ answer (in_order (from_variables s)) d
+  pub variables_passed : (x : Check) → in_order (variables_checks s 22 n) ≡ none → x ≡ in_order (from_actions s) → x ≡ in_order (from_variables s)
   unfolding from_variables
-  variables_passed x d e h = rw (← en) (skip_stage _ _ x d e h)
+  variables_passed x e h = rw (← en) (h ∙ sym (stage_passes _ _ e))
 
 -- the header: V and A against their ranges, the edition
 pub count_above : (a b n p : ℕ) → b ≡ a → 1024 < a → check (leb b 1024) n p ≡ refuse n p
@@ -545,13 +591,19 @@ pub count_right : (a b n p : ℕ) → b ≡ a → a ≤ 1024 → check (leb b 10
 unfolding check
 count_right a b n p e h = rw (e, le-leb a 1024 h) refl
 
-pub range_low : (a b n p : ℕ) → b ≡ a → a < 1 → check (leb 1 b && leb b 64) n p ≡ refuse n p
+range_low : (a b n p : ℕ) → b ≡ a → a < 1 → check (leb 1 b && leb b 64) n p ≡ refuse n p
 unfolding check
 range_low a b n p e h = rw (e, lt-leb 1 a h) refl
 
-pub range_high : (a b n p : ℕ) → b ≡ a → 1 ≤ a → 64 < a → check (leb 1 b && leb b 64) n p ≡ refuse n p
+range_high : (a b n p : ℕ) → b ≡ a → 1 ≤ a → 64 < a → check (leb 1 b && leb b 64) n p ≡ refuse n p
 unfolding check
 range_high a b n p e l h = rw (e, le-leb 1 a l, lt-leb a 64 h) refl
+
+pub range_wrong : (a b n p : ℕ) → b ≡ a → (a < 1) ⊎ ((1 ≤ a) × (64 < a)) → check (leb 1 b && leb b 64) n p ≡ refuse n p
+range_wrong a b n p e h = elim h [
+  | inl k ↦ range_low a b n p e k
+  | inr k ↦ range_high a b n p e k.0 k.1
+]
 
 pub range_right : (a b n p : ℕ) → b ≡ a → 1 ≤ a → a ≤ 64 → check (leb 1 b && leb b 64) n p ≡ none
 unfolding check

@@ -4,7 +4,7 @@
 // the refusal with its place. The loader of the task uses the quick tests too.
 #![tactic(auto)]
 
-ghost use Rattle.std.specs.Prelude.{◌≡◌, true, ◌+◌, ◌*◌, ◌/◌, ◌<◌, ◌≤◌, length};
+ghost use Rattle.std.specs.Prelude.{◌≡◌, true, ◌+◌, ◌*◌, ◌/◌, ◌<◌, ◌≤◌, length, IfSome, MatchOption, OnOk};
 ghost use Rattle.std.proofs.Math.Option.{none};
 ghost use Rattle.planning.specs.Basics.{answer, done, in_order, bits_at};
 ghost use Rattle.planning.specs.Record.{variables_in, actions_in, preconditions_in, effects_in, action_end, actions_end, record_end};
@@ -13,93 +13,88 @@ ghost use Rattle.answers.specs.Answers.{check_of, value_of};
 ghost use Rattle.record.specs.Stages.{action_facts_checks, Decides, Counts, Known, Few, Unsound, SoundHeader, SoundVariable, Sound};
 ghost use Rattle.record.specs.Stages.{from_end, from_actions, from_variables, from_action_count, from_variable_count, goal_checks, initial_checks};
 
-use answers::{Checked, Number, Refusal};
+use answers::{Reason, Refusal};
 
 // A field, or refusal 1 at its first bit.
-fn take(bytes: &[u8], at: u32, width: usize) -> Number
+fn take(bytes: &[u8], at: u32, width: usize) -> Result<u32, Refusal>
     requires { (at ≤ 500000) × (width ≤ 25) }
     ensures { value_of result ≡ answer (field_check bytes.now at width) (bits_at bytes.now at width) }
 {
     if bytes.len() < (at as usize + width + 7) / 8 {
-        return Number::Refused(Refusal {
-            number: 1,
+        return Err(Refusal {
+            reason: Reason::Cut,
             place: at,
         });
     }
-    Number::Value(bits::read_bits(bytes, at as usize, width) as u32)
+    Ok(bits::read_bits(bytes, at as usize, width) as u32)
 }
 
 // The end of the record (2.6): padding of zeros, no byte too many or too few.
-pub fn check_end(bytes: &[u8], at: u32) -> Number
+pub fn check_end(bytes: &[u8], at: u32) -> Result<(), Refusal>
     requires { (at ≤ 500000) × (at ≡ record_end bytes.now) }
-    ensures { value_of result ≡ answer (in_order (from_end bytes.now)) 0 }
+    ensures { check_of result ≡ in_order (from_end bytes.now) }
 {
     let size = (at as usize + 7) / 8;
     if bytes.len() != size {
-        return Number::Refused(Refusal {
-            number: 6,
+        return Err(Refusal {
+            reason: Reason::End,
             place: at,
         });
     }
     if bits::read_bits(bytes, at as usize, size * 8 - at as usize) != 0 {
-        return Number::Refused(Refusal {
-            number: 6,
+        return Err(Refusal {
+            reason: Reason::End,
             place: at,
         });
     }
-    Number::Value(0)
+    Ok(())
 }
 
 // The fact at bit `at`, field by field, whose variable is to be at least `low`: its variable.
-fn check_fact(bytes: &[u8], at: u32, low: u32, variables: u32, counts: &[u8; 64]) -> Number
+fn check_fact(
+    bytes: &[u8],
+    at: u32,
+    low: u32,
+    variables: u32,
+    counts: &[u8; 64],
+) -> Result<u32, Refusal>
     requires { (at ≤ 400000) × (variables ≡ variables_in bytes.now) × (variables ≤ 64) × Counts bytes.now counts.now variables }
     ensures { value_of result ≡ answer (in_order (fact_checks bytes.now at low)) (bits_at bytes.now at 6) }
 {
-    let a = take(bytes, at, 6);
-    let Number::Value(v) = a else {
-        return a;
-    };
-    if variables <= v {
-        return Number::Refused(Refusal {
-            number: 5,
+    let v = take(bytes, at, 6)?;
+    if variables <= v || v < low {
+        return Err(Refusal {
+            reason: Reason::Variable,
             place: at,
         });
     }
-    if v < low {
-        return Number::Refused(Refusal {
-            number: 5,
-            place: at,
-        });
-    }
-    let b = take(bytes, at + 6, 6);
-    let Number::Value(value) = b else {
-        return b;
-    };
+    let value = take(bytes, at + 6, 6)?;
     if counts[v as usize] <= (value % 64) as u8 {
-        return Number::Refused(Refusal {
-            number: 4,
+        return Err(Refusal {
+            reason: Reason::Value,
             place: at + 6,
         });
     }
-    Number::Value(v)
+    Ok(v)
 }
 
 // `count` facts from bit `from` on: the bit behind them.
-fn check_facts(bytes: &[u8], from: u32, count: u32, variables: u32, counts: &[u8; 64]) -> Number
+fn check_facts(
+    bytes: &[u8],
+    from: u32,
+    count: u32,
+    variables: u32,
+    counts: &[u8; 64],
+) -> Result<u32, Refusal>
     requires { (from ≤ 399000) × (count ≤ 15) × (variables ≡ variables_in bytes.now) × (variables ≤ 64) × Counts bytes.now counts.now variables }
     ensures { value_of result ≡ answer (in_order (facts_checks bytes.now from 0 count)) (from + 12 * count) }
 {
-    let mut i: u32 = 0;
-    let mut low: u32 = 0;
-    while i < count {
-        let f = check_fact(bytes, from + 12 * i, low, variables, counts);
-        let Number::Value(v) = f else {
-            return f;
-        };
+    let mut low = 0;
+    for i in 0..count {
+        let v = check_fact(bytes, from + 12 * i, low, variables, counts)?;
         low = v + 1;
-        i += 1;
     }
-    Number::Value(from + 12 * count)
+    Ok(from + 12 * count)
 }
 
 // The facts of the action at bit `at`, whose counts are known: the bit behind it.
@@ -110,81 +105,61 @@ fn check_action_facts(
     eff: u32,
     variables: u32,
     counts: &[u8; 64],
-) -> Number
+) -> Result<u32, Refusal>
     requires { (at ≤ 398000) × (pre ≡ preconditions_in bytes.now at) × (eff ≡ effects_in bytes.now at) × (pre ≤ 15) × (eff ≤ 15) × Known bytes.now variables counts.now }
     ensures { value_of result ≡ answer (in_order (action_facts_checks bytes.now at)) (action_end bytes.now at) }
 {
-    let p = check_facts(bytes, at + 24, pre, variables, counts);
-    let Number::Value(mid) = p else {
-        return p;
-    };
+    let mid = check_facts(bytes, at + 24, pre, variables, counts)?;
     check_facts(bytes, mid, eff, variables, counts)
 }
 
 // The action at bit `at`, field by field: the bit behind it.
-fn check_action_fields(bytes: &[u8], at: u32, variables: u32, counts: &[u8; 64]) -> Number
+fn check_action_fields(
+    bytes: &[u8],
+    at: u32,
+    variables: u32,
+    counts: &[u8; 64],
+) -> Result<u32, Refusal>
     requires { (at ≤ 398000) × (variables ≡ variables_in bytes.now) × (variables ≤ 64) × Counts bytes.now counts.now variables }
     ensures { value_of result ≡ answer (in_order (action_checks bytes.now at)) (action_end bytes.now at) }
 {
-    let c = take(bytes, at, 16);
-    let Number::Value(_) = c else {
-        return c;
-    };
-    let p = take(bytes, at + 16, 4);
-    let Number::Value(pre) = p else {
-        return p;
-    };
-    let e = take(bytes, at + 20, 4);
-    let Number::Value(eff) = e else {
-        return e;
-    };
+    take(bytes, at, 16)?;
+    let pre = take(bytes, at + 16, 4)?;
+    let eff = take(bytes, at + 20, 4)?;
     check_action_facts(bytes, at, pre, eff, variables, counts)
 }
 
-// Whether a fact of 12 bits is sound: its variable at least `low`, its value below that variable's count, which is 0 for no
-// variable of the task.
-fn is_sound(fact: u64, low: u64, counts: &[u8; 64]) -> bool
+// The least variable that may follow a fact of 12 bits, if it is sound: its variable at least `low`, its value below that variable's
+// count, which is 0 for no variable of the task.
+fn sound(fact: u64, low: u64, counts: &[u8; 64]) -> Option<u64>
     requires { fact < 4096 }
-    ensures { Decides result (Sound counts.now fact low) }
+    ensures { MatchOption result (Sound counts.now fact low → ⊥) (λ next. Sound counts.now fact low × (next ≡ fact / 64 + 1)) }
 {
     let v = fact / 64;
-    if v < low {
-        return false;
+    if v < low || counts[v as usize] <= (fact % 64) as u8 {
+        return None;
     }
-    ((fact % 64) as u8) < counts[v as usize]
+    Some(v + 1)
 }
 
-// The first n facts of a window, of which there are four: the least variable that may follow them, or 0 if one is not sound.
-pub fn sound_few(w: u64, n: usize, low: u64, counts: &[u8; 64]) -> u64
+// The first n facts of a window, of which there are four: the least variable that may follow them, if each is sound.
+pub fn sound_few(w: u64, n: usize, low: u64, counts: &[u8; 64]) -> Option<u64>
     requires { (1 ≤ n) × (n ≤ 4) }
-    ensures { (0 < result → Few w n low counts.now result) × (result ≡ 0 → Unsound w n low counts.now) }
+    ensures { MatchOption result (Unsound w n low counts.now) (λ next. Few w n low counts.now next) }
 {
-    let a = (w >> 52) % 4096;
-    if !is_sound(a, low, counts) {
-        return 0;
-    }
+    let a = sound((w >> 52) % 4096, low, counts)?;
     if n == 1 {
-        return a / 64 + 1;
+        return Some(a);
     }
-    let b = (w >> 40) % 4096;
-    if !is_sound(b, a / 64 + 1, counts) {
-        return 0;
-    }
+    let b = sound((w >> 40) % 4096, a, counts)?;
     if n == 2 {
-        return b / 64 + 1;
+        return Some(b);
     }
-    let c = (w >> 28) % 4096;
-    if !is_sound(c, b / 64 + 1, counts) {
-        return 0;
-    }
+    let c = sound((w >> 28) % 4096, b, counts)?;
     if n == 3 {
-        return c / 64 + 1;
+        return Some(c);
     }
-    let d = (w >> 16) % 4096;
-    if !is_sound(d, c / 64 + 1, counts) {
-        return 0;
-    }
-    d / 64 + 1
+    sound((w >> 16) % 4096, c, counts)
 }
 
 // Whether `count` facts from bit `from` on are sound, where eight bytes are left from where they end: four to a load, and each load six
@@ -194,21 +169,25 @@ fn sound_inner(bytes: &[u8], from: usize, count: usize, counts: &[u8; 64]) -> bo
     ensures { result ≡ true → in_order (facts_checks bytes.now from 0 count) ≡ none }
 {
     let shift = from % 8;
-    let mut j = from / 8;
-    let mut left = count;
-    let mut low: u64 = 0;
-    while 4 < left {
-        low = sound_few(bits::window_from(bytes, j, shift), 4, low, counts);
-        if low == 0 {
+    let j = from / 8;
+    let fours = count.saturating_sub(1) / 4;
+    let mut low = 0;
+    for k in 0..fours {
+        let Some(next) = sound_few(bits::window_from(bytes, j + 6 * k, shift), 4, low, counts)
+        else {
             return false;
-        }
-        j += 6;
-        left -= 4;
+        };
+        low = next;
     }
-    if left == 0 {
-        return true;
-    }
-    0 < sound_few(bits::window_from(bytes, j, shift), left, low, counts)
+    let left = count - 4 * fours;
+    left == 0
+        || sound_few(
+            bits::window_from(bytes, j + 6 * fours, shift),
+            left,
+            low,
+            counts,
+        )
+        .is_some()
 }
 
 // Whether `count` facts from bit `from` on are there and sound: four to a load.
@@ -222,110 +201,90 @@ fn sound_facts(bytes: &[u8], from: usize, count: usize, counts: &[u8; 64]) -> bo
     if bytes.len() < (from + 12 * count + 7) / 8 {
         return false;
     }
-    let mut at = from;
-    let mut left = count;
-    let mut low: u64 = 0;
-    while 4 < left {
-        low = sound_few(bits::window_at(bytes, at), 4, low, counts);
-        if low == 0 {
+    let fours = count.saturating_sub(1) / 4;
+    let mut low = 0;
+    for k in 0..fours {
+        let Some(next) = sound_few(bits::window_at(bytes, from + 48 * k), 4, low, counts) else {
             return false;
-        }
-        at += 48;
-        left -= 4;
+        };
+        low = next;
     }
-    if left == 0 {
-        return true;
-    }
-    0 < sound_few(bits::window_at(bytes, at), left, low, counts)
+    let left = count - 4 * fours;
+    left == 0 || sound_few(bits::window_at(bytes, from + 48 * fours), left, low, counts).is_some()
 }
 
-// The bit behind the action at bit `at` if all of it is there and sound, else 0.
-fn sound_action(bytes: &[u8], at: usize, counts: &[u8; 64]) -> usize
+// The bit behind the action at bit `at`, if all of it is there and sound.
+fn sound_action(bytes: &[u8], at: usize, counts: &[u8; 64]) -> Option<usize>
     requires { (at ≤ 398000) × Counts bytes.now counts.now (variables_in bytes.now) }
-    ensures { 0 < result → (in_order (action_checks bytes.now at) ≡ none) × (result ≡ action_end bytes.now at) }
+    ensures { IfSome result (λ end. (in_order (action_checks bytes.now at) ≡ none) × (end ≡ action_end bytes.now at)) }
 {
-    if bytes.len() < 8 {
-        return 0;
-    }
-    if bytes.len() < (at + 31) / 8 {
-        return 0;
+    if bytes.len() < 8 || bytes.len() < (at + 31) / 8 {
+        return None;
     }
     let both = bits::window_at(bytes, at + 16) >> 56;
     let pre = (both / 16) as usize;
     let eff = (both % 16) as usize;
-    if !sound_facts(bytes, at + 24, pre, counts) {
-        return 0;
+    if sound_facts(bytes, at + 24, pre, counts)
+        && sound_facts(bytes, at + 24 + 12 * pre, eff, counts)
+    {
+        return Some(at + 24 + 12 * (pre + eff));
     }
-    if !sound_facts(bytes, at + 24 + 12 * pre, eff, counts) {
-        return 0;
-    }
-    at + 24 + 12 * (pre + eff)
+    None
 }
 
 // The action at bit `at`: the bit behind it.
-fn check_action(bytes: &[u8], at: u32, variables: u32, counts: &[u8; 64]) -> Number
+fn check_action(bytes: &[u8], at: u32, variables: u32, counts: &[u8; 64]) -> Result<u32, Refusal>
     requires { (at ≤ 398000) × (variables ≡ variables_in bytes.now) × (variables ≤ 64) × Counts bytes.now counts.now variables }
     ensures { value_of result ≡ answer (in_order (action_checks bytes.now at)) (action_end bytes.now at) }
 {
-    let end = sound_action(bytes, at as usize, counts);
-    if end == 0 {
+    let Some(end) = sound_action(bytes, at as usize, counts) else {
         return check_action_fields(bytes, at, variables, counts);
-    }
-    Number::Value(end as u32)
+    };
+    Ok(end as u32)
 }
 
 // All actions, from the bit behind the variables on: the bit behind them.
-fn check_actions(bytes: &[u8], count: u32, variables: u32, counts: &[u8; 64]) -> Number
+fn check_actions(
+    bytes: &[u8],
+    count: u32,
+    variables: u32,
+    counts: &[u8; 64],
+) -> Result<u32, Refusal>
     requires { (count ≤ 1024) × (variables ≡ variables_in bytes.now) × (variables ≤ 64) × Counts bytes.now counts.now variables }
     ensures { value_of result ≡ answer (in_order (actions_checks bytes.now (22 + 20 * variables) count)) (actions_end bytes.now (22 + 20 * variables) count) }
 {
     let mut at = 22 + 20 * variables;
-    let mut i: u32 = 0;
-    while i < count {
-        let a = check_action(bytes, at, variables, counts);
-        let Number::Value(end) = a else {
-            return a;
-        };
-        at = end;
-        i += 1;
+    for _ in 0..count {
+        at = check_action(bytes, at, variables, counts)?;
     }
-    Number::Value(at)
+    Ok(at)
 }
 
 // The goal of the variable at bit `at`, whose greatest value is `last`.
-fn check_goal(bytes: &[u8], at: u32, last: u32) -> Number
+fn check_goal(bytes: &[u8], at: u32, last: u32) -> Result<(), Refusal>
     requires { (at ≤ 2000) × (last ≤ 63) }
-    ensures { value_of result ≡ answer (in_order (goal_checks bytes.now at last)) last }
+    ensures { check_of result ≡ in_order (goal_checks bytes.now at last) }
 {
-    let p = take(bytes, at + 13, 1);
-    let Number::Value(present) = p else {
-        return p;
-    };
-    let g = take(bytes, at + 14, 6);
-    let Number::Value(goal) = g else {
-        return g;
-    };
+    let present = take(bytes, at + 13, 1)?;
+    let goal = take(bytes, at + 14, 6)?;
     if last * present < goal {
-        return Number::Refused(Refusal {
-            number: 4,
+        return Err(Refusal {
+            reason: Reason::Value,
             place: at + 14,
         });
     }
-    Number::Value(last)
+    Ok(())
 }
 
 // The initial value and the goal of the variable at bit `at`.
-fn check_initial(bytes: &[u8], at: u32, last: u32) -> Number
+fn check_initial(bytes: &[u8], at: u32, last: u32) -> Result<(), Refusal>
     requires { (at ≤ 2000) × (last ≤ 63) }
-    ensures { value_of result ≡ answer (in_order (initial_checks bytes.now at last)) last }
+    ensures { check_of result ≡ in_order (initial_checks bytes.now at last) }
 {
-    let i = take(bytes, at + 7, 6);
-    let Number::Value(init) = i else {
-        return i;
-    };
+    let init = take(bytes, at + 7, 6)?;
     if last < init {
-        return Number::Refused(Refusal {
-            number: 4,
+        return Err(Refusal {
+            reason: Reason::Value,
             place: at + 7,
         });
     }
@@ -333,19 +292,14 @@ fn check_initial(bytes: &[u8], at: u32, last: u32) -> Number
 }
 
 // The variable at bit `at`, field by field: its greatest value.
-fn check_variable_fields(bytes: &[u8], at: u32) -> Number
+fn check_variable_fields(bytes: &[u8], at: u32) -> Result<u32, Refusal>
     requires { at ≤ 2000 }
     ensures { value_of result ≡ answer (in_order (variable_checks bytes.now at)) (bits_at bytes.now at 6) }
 {
-    let l = take(bytes, at, 6);
-    let Number::Value(last) = l else {
-        return l;
-    };
-    let b = take(bytes, at + 6, 1);
-    let Number::Value(_) = b else {
-        return b;
-    };
-    check_initial(bytes, at, last)
+    let last = take(bytes, at, 6)?;
+    take(bytes, at + 6, 1)?;
+    check_initial(bytes, at, last)?;
+    Ok(last)
 }
 
 // Whether the 20 bits of a variable are sound: its initial value and its goal are not above its greatest value, and without a
@@ -379,7 +333,7 @@ pub fn is_sound_header(fields: u64) -> bool
 }
 
 // The variable at bit `at`: its greatest value.
-fn check_variable(bytes: &[u8], at: u32) -> Number
+fn check_variable(bytes: &[u8], at: u32) -> Result<u32, Refusal>
     requires { at ≤ 2000 }
     ensures { value_of result ≡ answer (in_order (variable_checks bytes.now at)) (bits_at bytes.now at 6) }
 {
@@ -393,63 +347,55 @@ fn check_variable(bytes: &[u8], at: u32) -> Number
     if !is_sound_variable(w) {
         return check_variable_fields(bytes, at);
     }
-    Number::Value((w / 16384) as u32)
+    Ok((w / 16384) as u32)
 }
 
 // All variables: the count of values of each goes to `counts`, which is 0 behind them.
-fn check_variables(bytes: &[u8], count: u32, counts: &mut [u8; 64]) -> Number
+fn check_variables(bytes: &[u8], count: u32, counts: &mut [u8; 64]) -> Result<(), Refusal>
     requires { (count ≤ 64) × (length counts.old ≡ 64) × Counts bytes.now counts.old 0 }
-    ensures { (value_of result ≡ answer (in_order (variables_checks bytes.now 22 count)) 0) × (value_of result ≡ done 0 → Counts bytes.now counts.new count) }
+    ensures answer { check_of result ≡ in_order (variables_checks bytes.now 22 count) }
+    ensures counts { OnOk result (Counts bytes.now counts.new count) }
 {
-    let mut i: u32 = 0;
-    while i < count {
-        let v = check_variable(bytes, 22 + 20 * i);
-        let Number::Value(last) = v else {
-            return v;
-        };
+    for i in 0..count {
+        let last = check_variable(bytes, 22 + 20 * i)?;
         counts[i as usize] = ((last + 1) % 256) as u8;
-        i += 1;
     }
-    Number::Value(0)
+    Ok(())
 }
 
 // The record from its actions on.
-fn check_from_actions(bytes: &[u8], actions: u32, variables: u32, counts: &[u8; 64]) -> Number
+fn check_from_actions(
+    bytes: &[u8],
+    actions: u32,
+    variables: u32,
+    counts: &[u8; 64],
+) -> Result<(), Refusal>
     requires { (actions ≡ actions_in bytes.now) × (actions ≤ 1024) × (variables ≡ variables_in bytes.now) × (variables ≤ 64) × Counts bytes.now counts.now variables }
-    ensures { value_of result ≡ answer (in_order (from_actions bytes.now)) 0 }
+    ensures { check_of result ≡ in_order (from_actions bytes.now) }
 {
-    let a = check_actions(bytes, actions, variables, counts);
-    let Number::Value(end) = a else {
-        return a;
-    };
+    let end = check_actions(bytes, actions, variables, counts)?;
     check_end(bytes, end)
 }
 
 // The record from its variables on.
-fn check_from_variables(bytes: &[u8], actions: u32, variables: u32) -> Number
+fn check_from_variables(bytes: &[u8], actions: u32, variables: u32) -> Result<(), Refusal>
     requires { (actions ≡ actions_in bytes.now) × (actions ≤ 1024) × (variables ≡ variables_in bytes.now) × (variables ≤ 64) }
-    ensures { value_of result ≡ answer (in_order (from_variables bytes.now)) 0 }
+    ensures { check_of result ≡ in_order (from_variables bytes.now) }
 {
     let mut counts = [0u8; 64];
-    let v = check_variables(bytes, variables, &mut counts);
-    let Number::Value(_) = v else {
-        return v;
-    };
+    check_variables(bytes, variables, &mut counts)?;
     check_from_actions(bytes, actions, variables, &counts)
 }
 
 // The record from its count of actions on.
-fn check_from_action_count(bytes: &[u8], variables: u32) -> Number
+fn check_from_action_count(bytes: &[u8], variables: u32) -> Result<(), Refusal>
     requires { (variables ≡ variables_in bytes.now) × (variables ≤ 64) }
-    ensures { value_of result ≡ answer (in_order (from_action_count bytes.now)) 0 }
+    ensures { check_of result ≡ in_order (from_action_count bytes.now) }
 {
-    let a = take(bytes, 11, 11);
-    let Number::Value(actions) = a else {
-        return a;
-    };
+    let actions = take(bytes, 11, 11)?;
     if 1024 < actions {
-        return Number::Refused(Refusal {
-            number: 3,
+        return Err(Refusal {
+            reason: Reason::Size,
             place: 11,
         });
     }
@@ -457,52 +403,29 @@ fn check_from_action_count(bytes: &[u8], variables: u32) -> Number
 }
 
 // The record from its count of variables on.
-fn check_from_variable_count(bytes: &[u8]) -> Number
-    ensures { value_of result ≡ answer (in_order (from_variable_count bytes.now)) 0 }
+fn check_from_variable_count(bytes: &[u8]) -> Result<(), Refusal>
+    ensures { check_of result ≡ in_order (from_variable_count bytes.now) }
 {
-    let v = take(bytes, 4, 7);
-    let Number::Value(variables) = v else {
-        return v;
-    };
-    if variables < 1 {
-        return Number::Refused(Refusal {
-            number: 3,
-            place: 4,
-        });
-    }
-    if 64 < variables {
-        return Number::Refused(Refusal {
-            number: 3,
+    let variables = take(bytes, 4, 7)?;
+    if variables < 1 || 64 < variables {
+        return Err(Refusal {
+            reason: Reason::Size,
             place: 4,
         });
     }
     check_from_action_count(bytes, variables)
 }
 
-// The whole record.
-fn check_record(bytes: &[u8]) -> Number
-    ensures { value_of result ≡ answer (record_check bytes.now) 0 }
+// The check of a record: accepted, or its refusal with its place.
+pub fn check(bytes: &[u8]) -> Result<(), Refusal>
+    ensures { check_of result ≡ record_check bytes.now }
 {
-    let e = take(bytes, 0, 4);
-    let Number::Value(edition) = e else {
-        return e;
-    };
+    let edition = take(bytes, 0, 4)?;
     if edition != 1 {
-        return Number::Refused(Refusal {
-            number: 2,
+        return Err(Refusal {
+            reason: Reason::Edition,
             place: 0,
         });
     }
     check_from_variable_count(bytes)
-}
-
-// The check of a record: accepted, or its refusal with its place.
-pub fn check(bytes: &[u8]) -> Checked
-    ensures { check_of result ≡ record_check bytes.now }
-{
-    let r = check_record(bytes);
-    let Number::Refused(f) = r else {
-        return Checked::Accepted;
-    };
-    Checked::Refused(f)
 }
