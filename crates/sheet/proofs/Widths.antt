@@ -2,11 +2,13 @@
 use mathlib.Core.Bool.{Bool, true, false, not}
 use mathlib.Core.List.{List, [], ◌∷◌}
 use mathlib.Core.Path.{◌≡◌, refl}
-use Prim.Native.Nat.{ℕ, zero, suc, ◌*◌, ◌≤◌}
+use Prim.Native.Nat.{ℕ, zero, suc, ◌+◌, ◌*◌, ◌/◌, ◌≤◌}
 use native.Mathlib.Nat.{mul-le-mul}
 use native.Mathlib.Omega.{arith}
-use borrow.Author.Tests.{ne_eqb}
 use lib.Dec.{eqb}
+use mir.Val.{bool_byte}
+use Rattle.std.specs.Prelude.{nat_eq}
+use Rattle.std.specs.Int.{div_ceil}
 use lib.ListN.{get_or, drop}
 use Rattle.planning.specs.Basics.{one_if}
 use Rattle.planning.specs.Sheet.{mark_width, mark_of, step_bits, sheet_end, sheet_size}
@@ -43,13 +45,17 @@ pub sheet_size_suc : (e n : ℕ) → sheet_size (suc (mark_width e)) n ≡ sheet
 unfolding sheet_size sheet_end
 sheet_size_suc e n = rw (mark_width_suc (mark_width e) (mark_width_le e)) refl
 
-pub width_one : (e : ℕ) → e ≡ 1 → 0 ≡ mark_width e
+pub width_is : (e : ℕ) → bool_byte (not (nat_eq e 1)) ≡ mark_width e
 unfolding mark_width one_if
-width_one e q = rw q refl
+width_is e = go (eqb e 1)
+  where
+    go : (b : Bool) → bool_byte (not b) ≡ one_if (not b)
+    go true = refl
+    go false = refl
 
-pub width_other : (e : ℕ) → (e ≡ 1 → ⊥) → 1 ≡ mark_width e
-unfolding mark_width one_if
-width_other e q = rw (ne_eqb e 1 q) refl
+-- the bytes that so many bits fill
+pub eighths : (n : ℕ) → div_ceil n 8 ≡ (n + 7) / 8
+eighths n = omega arith
 
 -- The marks of a sheet have no more bits than it may have steps.
 pub marks_few : (w n : ℕ) → w ≤ 1 → n ≤ 32768 → w * n ≤ 32768

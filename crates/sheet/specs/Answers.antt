@@ -1,11 +1,12 @@
 -- The answers of writing (8.3) and reading (8.4) a sheet: number, place and values for each case.
-use Rattle.std.specs.Prelude.{ℕ, ◌+◌, ◌-◌, ◌*◌, ◌/◌, ◌%◌, min, Bool, List, [], ◌∷◌, ◌++◌, take}
-use Rattle.planning.specs.Basics.{Check, check, in_order, Answer, refused, done}
+use Rattle.std.specs.Prelude.{ℕ, ◌+◌, ◌-◌, ◌*◌, ◌/◌, ◌%◌, min, Bool, List, [], ◌∷◌, ◌++◌, Result, take}
+use Rattle.planning.specs.Basics.{Check, check, in_order, Answer, refused}
 use Rattle.planning.specs.Record.{ends_at}
 use Rattle.planning.specs.Sheet.{Sheet, sheet_of, mark_width, sheet_end, edition_in, steps_in, steps_checks}
 use Rattle.planning.specs.Calls.{Read}
-use Rattle.sheet.specs.declared.Reading.{Reading}
-use Rattle.sheet.specs.declared.Reading.TheVariants as reading
+use Rattle.answers.specs.Answers.{answer_by}
+use Rattle.answers.specs.declared.Refusal.{Refusal}
+use Rattle.sheet.specs.declared.Heading.{Heading}
 
 -- the sheet of an edition, a list, marks, a cost and a verdict
 abbrev pub sheet : ℕ → List ℕ → List ℕ → ℕ → Bool → Sheet
@@ -18,9 +19,12 @@ heading n c e b = record { steps = n; cost = c; edition = e; real' = b }
 abbrev pub handed_out : Read → List ℕ → List ℕ → Sheet
 handed_out h l ms = sheet h.edition (take h.steps l) (take h.steps ms) h.cost h.real'
 
-unfoldable pub reading_as : Reading → Answer Read
-reading_as (reading.Plan n c e b) = done (heading n c e b)
-reading_as (reading.Refused f) = refused f.number f.place
+-- what the code tells of a sheet
+abbrev pub read_of : Heading → Read
+read_of h = heading h.steps h.cost h.edition h.real
+
+abbrev pub reading_as : Result Heading Refusal → Answer Read
+reading_as = answer_by read_of
 
 abbrev pub declined : ℕ → ℕ → Answer Read
 declined n p = refused n p

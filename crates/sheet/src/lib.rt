@@ -11,43 +11,36 @@ ghost use Rattle.planning.specs.Calls.{not_below, write_call, read_call};
 ghost use Rattle.answers.specs.Answers.{check_of, value_of};
 ghost use Rattle.sheet.specs.Answers.{sheet, reading_as, declined, heading_of, end_check, cut_in};
 
-use answers::{Checked, Number, Refusal};
+use answers::{Reason, Refusal};
 
-// What a sheet says of its plan, or the refusal.
-#[derive(Clone, Copy)]
-pub enum Reading {
-    Plan {
-        steps: u32,
-        cost: u32,
-        edition: u32,
-        real: bool,
-    },
-    Refused(Refusal),
+// What a sheet says of its plan.
+#[derive(Clone, Copy, Debug, PartialEq, Eq)]
+pub struct Heading {
+    pub steps: u32,
+    pub cost: u32,
+    pub edition: u32,
+    pub real: bool,
 }
 
 // The bits of a mark: none in edition 1, one in any other (8.6).
 pub fn mark_width(edition: u32) -> usize
     ensures { (result ≡ mark_width edition) × (result ≤ 1) }
 {
-    if edition == 1 { 0 } else { 1 }
+    usize::from(edition != 1)
 }
 
 // 13 at the lowest entry that no sheet can hold.
-fn check_each(list: &[u16]) -> Checked
+fn check_each(list: &[u16]) -> Result<(), Refusal>
     requires { length list.now ≤ 32768 }
     ensures { check_of result ≡ refuse_at 13 (not_below 1024 0 list.now) }
 {
-    let mut i: usize = 0;
-    while i < list.len() {
-        if 1023 < list[i] {
-            return Checked::Refused(Refusal {
-                number: 13,
-                place: i as u32,
-            });
-        }
-        i += 1;
+    if let Some(i) = list.iter().position(|x| 1023 < *x) {
+        return Err(Refusal {
+            reason: Reason::Length,
+            place: i as u32,
+        });
     }
-    Checked::Accepted
+    Ok(())
 }
 
 // 0 only if no entry is over 1,023: a pass without a branch, which most lists need alone.
@@ -55,52 +48,50 @@ fn excess(list: &[u16]) -> u16
     ensures { result ≡ 0 → not_below 1024 0 list.now ≡ none }
 {
     let mut any: u16 = 0;
-    let mut i: usize = 0;
-    while i < list.len() {
-        any = any | list[i];
-        i += 1;
+    for x in list {
+        any = any | *x;
     }
     any / 1024
 }
 
-fn check_entries(list: &[u16]) -> Checked
+fn check_entries(list: &[u16]) -> Result<(), Refusal>
     requires { length list.now ≤ 32768 }
     ensures { check_of result ≡ refuse_at 13 (not_below 1024 0 list.now) }
 {
     if excess(list) == 0 {
-        return Checked::Accepted;
+        return Ok(());
     }
     check_each(list)
 }
 
 // Whether the list can be written into that many bytes: 13, length first, then 11.
-pub fn size_for(list: &[u16], edition: u32, room: usize) -> Number
+pub fn size_for(list: &[u16], edition: u32, room: usize) -> Result<u32, Refusal>
     ensures { (ms : List ℕ) (c : ℕ) (b : Bool) → value_of result ≡ write_call (sheet edition list.now ms c b) room }
 {
     if 32768 < list.len() {
-        return Number::Refused(Refusal {
-            number: 13,
+        return Err(Refusal {
+            reason: Reason::Length,
             place: 32768,
         });
     }
-    let entries = check_entries(list);
-    let Checked::Accepted = entries else {
-        return Number::Refused(answers::refusal_in(entries));
-    };
-    let size = (53 + (mark_width(edition) + 10) * list.len() + 7) / 8;
+    check_entries(list)?;
+    let size = (53 + (mark_width(edition) + 10) * list.len()).div_ceil(8);
     if room < size {
-        return Number::Refused(Refusal {
-            number: 11,
+        return Err(Refusal {
+            reason: Reason::Room,
             place: room as u32,
         });
     }
-    Number::Value(size as u32)
+    Ok(size as u32)
 }
 
-fn refused(place: u32) -> Reading
+fn refused(place: u32) -> Result<Heading, Refusal>
     ensures { reading_as result ≡ declined 12 place }
 {
-    Reading::Refused(Refusal { number: 12, place })
+    Err(Refusal {
+        reason: Reason::Sheet,
+        place,
+    })
 }
 
 // the padding is 0 and there is no byte behind it (8.4)
@@ -109,7 +100,7 @@ fn ends(bytes: &[u8], end: usize) -> bool
     ensures { result ≡ ends_at bytes.now end }
 {
     let n = bytes.len();
-    if n != (end + 7) / 8 {
+    if n != end.div_ceil(8) {
         return false;
     }
     bits::read_bits(bytes, end, 8 * n - end) == 0
@@ -128,35 +119,33 @@ fn cut_at(bits: usize, mark: usize) -> usize
     ensures { (result ≡ cut_in mark bits) × (result ≤ bits) }
 {
     let held = bits - 53;
-    if mark == 0 {
-        return 53 + held / 10 * 10;
-    }
-    53 + held / 11 * 11 + lists::lesser(1, held % 11)
+    let entry = mark + 10;
+    53 + held / entry * entry + mark.min(held % entry)
 }
 
 // The steps and what is behind them, of a sheet whose fields before the steps are there.
-fn read_end(bytes: &[u8], edition: u32, steps: usize) -> Reading
+fn read_end(bytes: &[u8], edition: u32, steps: usize) -> Result<Heading, Refusal>
     requires { (7 ≤ length bytes.now) × (edition ≡ edition_in bytes.now) × (steps ≡ steps_in bytes.now) × (steps ≤ 32768) }
     ensures { reading_as result ≡ answer (end_check bytes.now) (heading_of bytes.now) }
 {
     let mark = mark_width(edition);
     let end = 53 + (mark + 10) * steps;
-    if bytes.len() < (end + 7) / 8 {
+    if bytes.len() < end.div_ceil(8) {
         return refused(cut_at(8 * bytes.len(), mark) as u32);
     }
-    if ends(bytes, end) {
-        return Reading::Plan {
-            steps: steps as u32,
-            cost: cost_in(bytes),
-            edition,
-            real: bits::read_bits(bytes, 4, 1) == 1,
-        };
+    if !ends(bytes, end) {
+        return refused(end as u32);
     }
-    refused(end as u32)
+    Ok(Heading {
+        steps: steps as u32,
+        cost: cost_in(bytes),
+        edition,
+        real: bits::read_bits(bytes, 4, 1) == 1,
+    })
 }
 
 // The fields of a sheet in bit order: 12.
-fn read_fields(bytes: &[u8]) -> Reading
+fn read_fields(bytes: &[u8]) -> Result<Heading, Refusal>
     ensures { reading_as result ≡ answer (sheet_check bytes.now) (heading_of bytes.now) }
 {
     if bytes.len() < 1 {
@@ -183,24 +172,15 @@ fn read_fields(bytes: &[u8]) -> Reading
 }
 
 // 12, then 11 with the room of list and marks.
-pub fn read_checked(bytes: &[u8], room: usize) -> Reading
+pub fn read_checked(bytes: &[u8], room: usize) -> Result<Heading, Refusal>
     ensures { (n m : ℕ) → room ≡ min n m → reading_as result ≡ read_call bytes.now n m }
 {
-    let a = read_fields(bytes);
-    let Reading::Plan {
-        steps,
-        cost: _,
-        edition: _,
-        real: _,
-    } = a
-    else {
-        return a;
-    };
-    if room < steps as usize {
-        return Reading::Refused(Refusal {
-            number: 11,
+    let heading = read_fields(bytes)?;
+    if room < heading.steps as usize {
+        return Err(Refusal {
+            reason: Reason::Room,
             place: room as u32,
         });
     }
-    a
+    Ok(heading)
 }
