@@ -2,7 +2,7 @@
 // from where the red-black one stops.
 #![tactic(auto)]
 
-ghost use Rattle.std.specs.Prelude.{◌≡◌, length};
+ghost use Rattle.std.specs.Prelude.{◌≡◌, ◌≤◌, length};
 ghost use Rattle.planning.specs.Basics.{answer};
 ghost use Rattle.planning.specs.Runs.{relaxed, judged};
 ghost use Rattle.answers.specs.Answers.{value_of};
@@ -10,9 +10,10 @@ ghost use Rattle.task.specs.Task.{task_in, Loaded};
 ghost use Rattle.sets.specs.Sets.{sets_of};
 ghost use Rattle.entries.specs.Entries.{Ready};
 ghost use Rattle.callers.specs.Answers.{judged_of};
-ghost use Rattle.callers.specs.Callers.{caller_check, Relaxes};
+ghost use Rattle.callers.specs.Callers.{caller_check, judged_at, Relaxes};
 
-use answers::{Number, Refusal};
+use answers::{Reason, Refusal};
+use applying::Holding;
 use state::{Goals, State};
 
 // Under one semantics (3.11): how many steps run, and whether the list is a plan.
@@ -22,6 +23,24 @@ pub struct Verdict {
     pub plan: bool,
 }
 
+// The verdict on a list of which `steps` steps run, by the state behind them: it is a plan if these are all and the goals are held there.
+pub fn judge_at<S: Holding>(task: &[u16], list: &[u16], state: &S, steps: usize) -> Verdict
+    requires { Ready task.now list.now × (steps ≤ length list.now) }
+    ensures { judged_of result ≡ judged_at (task_in task.now) list.now (S.state state.now) steps }
+{
+    if steps < list.len() {
+        return Verdict {
+            steps: steps as u32,
+            plan: false,
+        };
+    }
+    let goals = Goals::load(task);
+    Verdict {
+        steps: steps as u32,
+        plan: applying::all_hold(state, goals.listed()),
+    }
+}
+
 // The relaxed run from the state behind the first `from` steps, which run. An action whose effects are held adds nothing to the sets; newest
 // values are not asked for here.
 pub fn judge_relaxed(task: &[u16], list: &[u16], start: State, from: usize) -> Verdict
@@ -29,46 +48,37 @@ pub fn judge_relaxed(task: &[u16], list: &[u16], start: State, from: usize) -> V
     ensures { judged_of result ≡ judged (task_in task.now) relaxed list.now }
 {
     let mut s = start;
-    let mut k = from;
-    while k < list.len() {
-        let i = list[k] as usize;
+    for k in from..list.len() {
+        let i = usize::from(list[k]);
         if !applying::applies(&s.sets, task, i) {
-            let steps = k as u32;
-            return Verdict { steps, plan: false };
+            return judge_at(task, list, &s.sets, k);
         }
-        k += 1;
         if applying::has_effects(&s.sets, task, i) {
             continue;
         }
         s = s.step(task, i);
     }
-    let g = Goals::load(task);
-    let n = g.count;
-    let steps = k as u32;
-    Verdict {
-        steps,
-        plan: sets::all_hold(&s.sets, &g.facts, 0, n),
-    }
+    judge_at(task, list, &s.sets, list.len())
 }
 
 // A caller's relaxed plan: 13, then 9. Its entries run up to the first that is not below A.
-pub fn check_relaxed(task: &[u16], list: &[u16]) -> Number
+pub fn check_relaxed(task: &[u16], list: &[u16]) -> Result<u32, Refusal>
     requires { Loaded task.now }
     ensures { value_of result ≡ answer (caller_check (task_in task.now) list.now) (length list.now) }
 {
     if 32768 < list.len() {
-        return Number::Refused(Refusal {
-            number: 13,
+        return Err(Refusal {
+            reason: Reason::Length,
             place: 32768,
         });
     }
     let n = entries::leading(list, task::actions(task));
     let v = judge_relaxed(task, &list[..n], State::initial(task), 0);
     if v.plan && n == list.len() {
-        return Number::Value(n as u32);
+        return Ok(n as u32);
     }
-    Number::Refused(Refusal {
-        number: 9,
+    Err(Refusal {
+        reason: Reason::Entry,
         place: v.steps,
     })
 }
