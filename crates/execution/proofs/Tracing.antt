@@ -2,15 +2,17 @@
 -- semantics, and the steps counted are those of the real run; there the newest values are the state, as long as it goes on. A step that
 -- applies for real applies red-black.
 use mathlib.Core.Path.{◌≡◌, refl, sym, ap, ◌∙◌}
-use mathlib.Core.Bool.{Bool, true, false}
+use mathlib.Core.Bool.{Bool, true, false, ◌&&◌}
 use mathlib.Core.List.{List, [], ◌∷◌, ◌++◌}
 use Prim.Native.Nat.{ℕ, suc, ◌+◌, ◌<◌, ◌≤◌}
 use native.Mathlib.Numerals.{add-one}
 use native.Mathlib.Omega.{arith}
 use native.Mathlib.Decide.{ℕ_discrete}
+use borrow.Author.Tests.{eq-eqb, ne_eqb}
+use lib.Dec.{eqb}
 use lib.ListN.{length, get_or, take, drop, take-append-drop}
 use lib.Seq.{drop-cons, take-suc, length-take-le, take_all}
-use Rattle.planning.specs.Record.{Task}
+use Rattle.planning.specs.Record.{Fact, Task}
 use Rattle.planning.specs.Runs.{State, Mode, holds, step, variables, actions, act, count, relaxed, real, black, initial, goals, run, steps_run, judged, run_by, steps_by}
 use Rattle.planning.specs.Newest.{Values, initial_values, newer, tracked, alone, red_black_steps, stops_in}
 use Rattle.laws.proofs.Tests.{T→true, true→T}
@@ -21,9 +23,9 @@ use Rattle.laws.proofs.Prefixes.{run_by_behind, steps_by_on, steps_by_fails, ste
 use Rattle.laws.proofs.Newest.{newest_after, track_sets, track_newest, real_applies, real_holds}
 use Rattle.sets.specs.Sets.{further, red_black_of}
 use Rattle.applying.proofs.Running.{further_fails, further_stopped, further_steps}
-use Rattle.applying.proofs.RedBlack.{red_black_step, red_black_initial, step_held}
+use Rattle.applying.proofs.RedBlackSteps.{red_black_step, red_black_initial, step_held}
 use Rattle.execution.specs.Traces.{StopsAs, RunsAs}
-use Rattle.callers.specs.Callers.{Relaxes}
+use Rattle.callers.specs.Callers.{judged_at, Relaxes}
 use Rattle.execution.proofs.Modes.{red_black_further, relaxed_further, judged_of_lem}
 
 module _ (t : Task) (l : List ℕ) where
@@ -144,6 +146,10 @@ module _ (t : Task) (l : List ℕ) where
     unfolding stops_in tracked
     traced_newest e = p.newest ∙ sym (track_newest (act t) (black t) (take (red_black_steps t l) l) (tracked t) ∙ rw (← e) refl)
 
+-- a test of the state that a set of variables shows is one of the state that the painting shows
+pub painted_by : (s : State) (f : Values) (fs : List Fact) {m n : Mode} {b x : Bool} → m ≡ n → b ≡ holds (red_black_of m s f) fs → b ≡ x → holds (red_black_of n s f) fs ≡ x
+painted_by s f fs e q h = rw (← e) (sym q ∙ h)
+
 -- The pass keeps the values held, which are those of the relaxed run, and reads the red-black state off them and the newest values.
 module _ (t : Task) (l : List ℕ) where
   abbrev shown : State → Values → State
@@ -190,29 +196,25 @@ stops_few t l s f n p = omega (arith, p.steps, steps_by_le (λ i s. holds s (act
 pub runs_few : (t : Task) (l : List ℕ) (f : Values) (n : ℕ) → RunsAs t l f n → n ≤ length l
 runs_few t l f n p = omega (arith, p.runs, steps_by_le (λ i s. holds s (act t i).pre) (λ i. step real (act t i)) l (initial t))
 
--- the verdicts where the pass went through the whole list
+-- the verdicts where the pass stops
 module _ (t : Task) (F : Formed t) (l : List ℕ) (below : (j : ℕ) → j < length l → get_or l j 0 < actions t) where
-  pub painted_short : (s : State) (f : Values) (n : ℕ) → StopsAs t l s f n → n < length l → record { steps = n; plan = false } ≡ judged t (black t) l
-  unfolding red_black_steps
-  painted_short s f n p h = judged_of_lem t (black t) l below n p.steps false (λ e. absurd (omega arith)) (λ e. refl)
+  pub painted_judged : (s : State) (f : Values) (n : ℕ) → StopsAs t l s f n → judged_at t l (red_black_of (black t) s f) n ≡ judged t (black t) l
+  unfolding judged_at red_black_steps stops_in tracked
+  painted_judged s f n p =
+      judged_of_lem t (black t) l below n p.steps (eqb n (length l) && holds (red_black_of (black t) s f) (goals t)) (λ x. whole x) (λ x. rw (ne_eqb n (length l) x) refl)
+    where
+      whole : n ≡ length l → (eqb n (length l) && holds (red_black_of (black t) s f) (goals t)) ≡ holds (run (act t) (black t) l (initial t)) (goals t)
+      whole x =
+          let e : take (red_black_steps t l) l ≡ l = take_all (red_black_steps t l) l (omega (arith, p.steps)) in
+          let q : red_black_of (black t) s f ≡ run (act t) (black t) l (initial t) = p.state ∙ track_sets (act t) (black t) (take (red_black_steps t l) l) (tracked t) ∙ rw e refl in
+          rw (eq-eqb n (length l) x, q) refl
 
-  pub painted_whole : (s : State) (f : Values) (n : ℕ) → StopsAs t l s f n → length l ≤ n → (b : Bool) → b ≡ holds (red_black_of (black t) s f) (goals t)
-      → record { steps = n; plan = b } ≡ judged t (black t) l
-  unfolding red_black_steps stops_in tracked
-  painted_whole s f n p h b eb =
-      let e : take (red_black_steps t l) l ≡ l = take_all (red_black_steps t l) l (omega (arith, p.steps)) in
-      let q : red_black_of (black t) s f ≡ run (act t) (black t) l (initial t) = p.state ∙ track_sets (act t) (black t) (take (red_black_steps t l) l) (tracked t) ∙ rw e refl in
-      judged_of_lem t (black t) l below n p.steps b (λ x. eb ∙ rw q refl)
-      (λ x. absurd (x (omega (arith, p.steps, steps_by_le (λ i s. holds s (act t i).pre) (λ i. step (black t) (act t i)) l (initial t)))))
-
-  pub real_short : (f : Values) (n : ℕ) → RunsAs t l f n → n < length l → record { steps = n; plan = false } ≡ judged t real l
-  real_short f n p h = judged_of_lem t real l below n p.runs false (λ e. absurd (omega arith)) (λ e. refl)
-
-  pub real_whole : (f : Values) (n : ℕ) → RunsAs t l f n → length l ≤ n → (b : Bool) → b ≡ holds (alone f) (goals t) → record { steps = n; plan = b } ≡ judged t real l
-  unfolding red_black_steps stops_in tracked
-  real_whole f n p h b eb =
-      let e : take (red_black_steps t l) l ≡ l = take_all (red_black_steps t l) l (omega (arith, p.runs, red_black_further t l)) in
-      let q : f ≡ newest_after t l = p.newest ∙ track_newest (act t) (black t) (take (red_black_steps t l) l) (tracked t) ∙ rw e refl in
-      let g : holds (alone f) (goals t) ≡ holds (run (act t) real l (initial t)) (goals t) = rw q
-      (sym (real_holds t F l (goals t) (λ v d x. (sorted_has (variables t) (count t) 0 (goals t) (goals_sorted t F) v d x).var_below))) in
-      judged_of_lem t real l below n p.runs b (λ x. eb ∙ g) (λ x. absurd (x (omega (arith, p.runs, steps_by_le (λ i s. holds s (act t i).pre) (λ i. step real (act t i)) l (initial t)))))
+  pub real_judged : (f : Values) (n : ℕ) → RunsAs t l f n → judged_at t l (alone f) n ≡ judged t real l
+  unfolding judged_at red_black_steps stops_in tracked
+  real_judged f n p = judged_of_lem t real l below n p.runs (eqb n (length l) && holds (alone f) (goals t)) (λ x. whole x) (λ x. rw (ne_eqb n (length l) x) refl)
+    where
+      whole : n ≡ length l → (eqb n (length l) && holds (alone f) (goals t)) ≡ holds (run (act t) real l (initial t)) (goals t)
+      whole x =
+          let e : take (red_black_steps t l) l ≡ l = take_all (red_black_steps t l) l (omega (arith, p.runs, red_black_further t l)) in
+          let q : f ≡ newest_after t l = p.newest ∙ track_newest (act t) (black t) (take (red_black_steps t l) l) (tracked t) ∙ rw e refl in
+          rw (eq-eqb n (length l) x, q) (sym (real_holds t F l (goals t) (λ v d x. (sorted_has (variables t) (count t) 0 (goals t) (goals_sorted t F) v d x).var_below)))

@@ -5,6 +5,7 @@ ghost use Rattle.task.specs.Task.{task_in};
 ghost use Rattle.entries.specs.Entries.{Ready};
 ghost use Rattle.execution.specs.Traces.{Traces};
 
+use applying::RedBlack;
 use state::State;
 
 // Where the red-black run of a list stops: the values held and the newest ones there, how many steps run, and how many run for real.
@@ -24,15 +25,22 @@ pub fn follow(task: &[u16], list: &[u16]) -> Trace
     let paint = sets::painted(task);
     let mut s = State::initial(task);
     let mut known = [0u64; 16];
-    let mut k: usize = 0;
-    let mut runs: usize = 0;
-    while k < list.len() {
-        let i = list[k] as usize;
+    let mut runs = 0;
+    for (k, i) in list.iter().enumerate() {
+        let i = usize::from(*i);
         runs = applying::further(&s.newest.values, task, i, runs, k);
-        if runs <= k && !applying::applies_red_black(paint, &s.sets, &s.newest.values, task, i) {
-            break;
+        let shown = RedBlack {
+            paint,
+            sets: &s.sets,
+            newest: &s.newest.values,
+        };
+        if runs <= k && !applying::applies(&shown, task, i) {
+            return Trace {
+                state: s,
+                steps: k,
+                runs,
+            };
         }
-        k += 1;
         if applying::knows_effects(&s.sets, task, i, &mut known) {
             let old = s.newest;
             let newest = old.step(task, i);
@@ -43,7 +51,7 @@ pub fn follow(task: &[u16], list: &[u16]) -> Trace
     }
     Trace {
         state: s,
-        steps: k,
+        steps: list.len(),
         runs,
     }
 }
