@@ -18,6 +18,7 @@ use Rattle.laws.proofs.Tests.{T→true, or_l}
 use Rattle.sets.specs.Sets.{in_set, sets_of}
 use Rattle.sets.proofs.Least.{least_below, least_in, least_out}
 use Rattle.sets.proofs.Members.{in_set_or, in_set_single, in_set_empty, in_set_half, in_set_zero}
+use Rattle.std.specs.Prelude.{Some, None}
 use Rattle.ready.specs.Ready.{member, Ready, LowestIn, Lowest, With, Without}
 
 in_set_odd : (m : ℕ) → T (in_set m 0) → m % 2 ≡ 1
@@ -65,17 +66,17 @@ module _ (ready : List ℕ) (R : Ready ready) where
       go (no n) (yes l) = (l, omega arith)
       go (no n) (no l) = absurd (n (get_or-eq_default ready 0 (omega (arith, R.long))))
 
-  pub lowest_none : get_or ready 0 0 ≡ 0 → Lowest ready 1024
-  lowest_none e = record { few = omega arith; is = λ l. absurd (omega arith); least = λ j l t. rw (e, in_set_empty (j / 64)) at (member_filled j t) }
+  pub lowest_none : get_or ready 0 0 ≡ 0 → Lowest ready None
+  lowest_none e j l t = rw (e, in_set_empty (j / 64)) at (member_filled j t)
 
-  pub lowest_found : (w t : ℕ) → LowestIn (get_or ready 0 0) 64 w → LowestIn (get_or ready (w + 1) 0) 64 t → Lowest ready (64 * w + t)
+  pub lowest_found : (w t : ℕ) → LowestIn (get_or ready 0 0) 64 w → LowestIn (get_or ready (w + 1) 0) 64 t → Lowest ready (Some (64 * w + t))
   unfolding member sets_of
   lowest_found w t W L =
       let b = L.below in
       let h = (filled_some w W.is).0 in
       let q : (64 * w + t) / 64 ≡ w = omega arith in
       let r : (64 * w + t) % 64 ≡ t = omega arith in
-      record { few = omega arith; is = λ _. rw (q, r) L.is; least = λ j l i. go j l i (ℕ_discrete (j / 64) w) }
+      record { few = omega arith; is = rw (q, r) L.is; least = λ j l i. go j l i (ℕ_discrete (j / 64) w) }
     where
       go : (j : ℕ) → j < 64 * w + t → T (member ready j) → Dec (j / 64 ≡ w) → ⊥
       go j l i (yes e) = L.least (j % 64) (omega arith) (rw e at i)

@@ -1,5 +1,5 @@
 -- Sets of ready ranks, their least member, and what putting a rank in and taking one out comes to.
-use Rattle.std.specs.Prelude.{◌≡◌, Bool, not, ◌&&◌, ◌||◌, List, ℕ, ◌+◌, ◌/◌, ◌%◌, ◌<◌, ◌≤◌, T, eqb, length, get_or}
+use Rattle.std.specs.Prelude.{◌≡◌, Bool, not, ◌&&◌, ◌||◌, List, ℕ, ◌+◌, ◌/◌, ◌%◌, ◌<◌, T, eqb, length, get_or, Option, Some, None}
 use Rattle.sets.specs.Sets.{in_set, sets_of}
 
 -- A set of numbers below 1,024 is 17 entries: 16 sets of 64 behind one that says which of them have a member. Number i is in it:
@@ -17,11 +17,16 @@ pub record LowestIn (m k t : ℕ) : Type 0 where
   pub is : T (in_set m t)
   pub least : (x : ℕ) → x < t → T (in_set m x) → ⊥
 
--- r is the least member, 1,024 if there is none
-pub record Lowest (ready : List ℕ) (r : ℕ) : Type 0 where
-  pub few : r ≤ 1024
-  pub is : r < 1024 → T (member ready r)
+-- r is the least member
+pub record Least (ready : List ℕ) (r : ℕ) : Type 0 where
+  pub few : r < 1024
+  pub is : T (member ready r)
   pub least : (j : ℕ) → j < r → T (member ready j) → ⊥
+
+-- the least member; without one there is no member
+abbrev pub Lowest : List ℕ → Option ℕ → Type 0
+Lowest ready None = (j : ℕ) → j < 1024 → T (member ready j) → ⊥
+Lowest ready (Some r) = Least ready r
 
 -- a set with i, and without i
 pub record With (ready : List ℕ) (i : ℕ) (new : List ℕ) : Type 0 where

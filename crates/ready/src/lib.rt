@@ -10,23 +10,23 @@ fn lowest_in(m: u64) -> usize
     requires { 0 < m }
     ensures { LowestIn m 64 result }
 {
-    u64::trailing_zeros(m) as usize
+    m.trailing_zeros() as usize
 }
 
 // Ready ranks: 16 sets of 64 behind one that says which of them have a member.
 pub const SETS: usize = 17;
 
-// The rank to try next: the lowest of the ready ones; 1,024 if there is none.
-pub fn lowest(ready: &[u64; SETS]) -> usize
+// The rank to try next: the lowest of the ready ones.
+pub fn lowest(ready: &[u64; SETS]) -> Option<usize>
     requires { Ready ready.now }
     ensures { Lowest ready.now result }
 {
     let filled = ready[0];
     if filled == 0 {
-        return 1024;
+        return None;
     }
     let w = lowest_in(filled);
-    64 * w + lowest_in(ready[w + 1])
+    Some(64 * w + lowest_in(ready[w + 1]))
 }
 
 pub fn mark(ready: &mut [u64; SETS], i: usize)
@@ -34,8 +34,8 @@ pub fn mark(ready: &mut [u64; SETS], i: usize)
     ensures { With ready.old i ready.new }
 {
     let w = i / 64;
-    ready[w + 1] = ready[w + 1] | sets::single(i % 64);
-    ready[0] = ready[0] | sets::single(w);
+    ready[w + 1] |= sets::single(i % 64);
+    ready[0] |= sets::single(w);
 }
 
 pub fn unmark(ready: &mut [u64; SETS], i: usize)
@@ -46,6 +46,6 @@ pub fn unmark(ready: &mut [u64; SETS], i: usize)
     let rest = ready[w + 1] - sets::single(i % 64);
     ready[w + 1] = rest;
     if rest == 0 {
-        ready[0] = ready[0] - sets::single(w);
+        ready[0] -= sets::single(w);
     }
 }
