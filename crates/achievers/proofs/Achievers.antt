@@ -10,9 +10,9 @@ use native.Mathlib.Omega.{arith}
 use native.Mathlib.Decide.{ℕ_discrete, dec_lt}
 use borrow.Author.Tests.{eq-eqb}
 use lib.Dec.{T, eqb, eqb→eq, ltb, lt→ltb, ltb→lt}
-use lib.ListN.{length, get_or, set, drop, replicate, length-set, get_or-replicate}
-use lib.Seq.{get_or-set_same, get_or-set_other, get_or-take, drop-cons, drop-length, length-take-le}
-use Rattle.planning.specs.Record.{Action, Task}
+use lib.ListN.{length, get_or, set, drop, replicate, length-set, get_or-replicate, drop_of_length-le}
+use lib.Seq.{get_or-set_same, get_or-set_other, get_or-take, drop-cons, length-take-le}
+use Rattle.planning.specs.Record.{Fact, Action, Task}
 use Rattle.planning.specs.Runs.{State, has, touches, step, relaxed, actions, act, variables, variable, initial}
 use Rattle.planning.specs.Relaxed.{forward_run, first_achiever}
 use Rattle.laws.proofs.Achievers.{first_achiever_held}
@@ -20,27 +20,22 @@ use Rattle.laws.proofs.Tests.{T→true, F→false, and_l, and_r}
 use Rattle.laws.proofs.Formed.{Formed, initial_holds, initial_elim}
 use Rattle.laws.proofs.Forward.{forward_run_ran}
 use Rattle.laws.proofs.Lists.{all_at}
-use Rattle.task.specs.Task.{fact_of, facts_in, task_in}
+use Rattle.task.specs.Task.{fact_of, facts_of, task_in}
 use Rattle.sets.specs.Sets.{choose}
-use Rattle.sets.proofs.Effects.{facts_in_cons, facts_in_none}
+use Rattle.sets.proofs.Slices.{facts_of_drop, facts_of_end}
 use Rattle.achievers.specs.Achievers.{Noted, achiever, AchievedFrom, Achieved, Setters, Replay}
 
 -- one action is noted: the facts from place k on are still to be written
-pub record Noting (facts : List ℕ) (a b i : ℕ) (fst₀ fst : List ℕ) (k : ℕ) : Type 0 where
-  pub from : a ≤ k
-  pub to : k ≤ b
+pub record Noting (facts : List ℕ) (i : ℕ) (fst₀ fst : List ℕ) (k : ℕ) : Type 0 where
   pub long : length fst ≡ 4096
-  pub so_far : (y : ℕ) → y < 4096
-      → choose (has (facts_in facts a b) (y / 64) (y % 64)) i (get_or fst₀ y 0) ≡ choose (has (facts_in facts k b) (y / 64) (y % 64)) i (get_or fst y 0)
+  pub so_far : (y : ℕ) → y < 4096 → choose (has (facts_of facts) (y / 64) (y % 64)) i (get_or fst₀ y 0) ≡ choose (has (facts_of (drop k facts)) (y / 64) (y % 64)) i (get_or fst y 0)
 
-module _ (facts : List ℕ) (a b i : ℕ) (q : b ≤ length facts) (fst₀ : List ℕ) where
-  pub noting_turn : (fst : List ℕ) (k f : ℕ) → Noting facts a b i fst₀ fst k → k < b → f ≡ get_or facts k 0 → f < 4096 → Noting facts a b i fst₀ (set fst f i) (k + 1)
+module _ (facts : List ℕ) (i : ℕ) (fst₀ fst : List ℕ) (k : ℕ) (N : Noting facts i fst₀ fst k) where
+  pub noting_turn : (f : ℕ) → k < length facts → f ≡ get_or facts k 0 → f < 4096 → Noting facts i fst₀ (set fst f i) (k + 1)
   unfolding has fact_of choose
-  noting_turn fst k f N h e g = record {
-    from = omega (arith, N.from);
-    to = omega arith;
+  noting_turn f h e g = record {
     long = simp length-set N.long;
-    so_far = λ y c. N.so_far y c ∙ rw (facts_in_cons facts k b h q, ← e) (turn y (has (facts_in facts (k + 1) b) (y / 64) (y % 64)) (ℕ_discrete y f));
+    so_far = λ y c. N.so_far y c ∙ rw (facts_of_drop facts k h, ← e) (turn y (has (facts_of (drop (k + 1) facts)) (y / 64) (y % 64)) (ℕ_discrete y f));
   }
     where
       both : (r : Bool) → i ≡ choose r i i
@@ -57,9 +52,9 @@ module _ (facts : List ℕ) (a b i : ℕ) (q : b ≤ length facts) (fst₀ : Lis
           apart : T (eqb (y / 64) (f / 64)) → T (eqb (y % 64) (f % 64)) → y ≡ f
           apart s t = omega (arith, eqb→eq (y / 64) (f / 64) s, eqb→eq (y % 64) (f % 64) t)
 
-  pub noting_end : (fst : List ℕ) (k : ℕ) → Noting facts a b i fst₀ fst k → b ≤ k → Noted (has (facts_in facts a b)) i fst₀ fst
+  pub noting_end : length facts ≤ k → (fs : List Fact) → facts_of facts ≡ fs → Noted (has fs) i fst₀ fst
   unfolding has choose
-  noting_end fst k N h = record { long = N.long; are = λ y c. sym (N.so_far y c ∙ rw (facts_in_none facts k b (omega (arith, N.to))) refl) }
+  noting_end h fs e = rw (← e) (record { long = N.long; are = λ y c. sym (N.so_far y c ∙ rw (facts_of_end facts k h) refl) })
 
 -- first achievers depend on the state before them in the one fact only, and a fact that is held has none
 module _ (act : ℕ → Action) (v d : ℕ) where
@@ -160,38 +155,29 @@ module _ (t : Task) (F : Formed t) (fst₀ : List ℕ) where
       whole u d false q = and-false (ltb u v)
       whole u d true q = let E = initial_elim t u d (rw q tt) in rw (T→true (ltb u v) (lt→ltb u v (omega (arith, E.0)))) refl
 
--- the run at hand, from its end
-module _ {task run : List ℕ} {n : ℕ} (R : Replay task run n) where
-  abbrev t : Task
-  t = task_in task
-
-  formed : Formed t
-  formed = R.loaded.formed
-
-  pub run_long : length (forward_run t) ≡ n
-  run_long = rw (← R.list, length-take-le n run (omega (arith, R.long, R.few))) refl
-
-  pub setters_start : (fst : List ℕ) → fst ≡ replicate 4096 65535 → Setters t (drop n (forward_run t)) fst
+-- the run from its end
+module _ (t : Task) (F : Formed t) where
+  pub setters_start : (k : ℕ) → length (forward_run t) ≤ k → (fst : List ℕ) → fst ≡ replicate 4096 65535 → Setters t (drop k (forward_run t)) fst
   unfolding AchievedFrom first_achiever achiever
-  setters_start fst e f b =
-      let z : drop n (forward_run t) ≡ [] = rw (← run_long) (drop-length (forward_run t)) in
-      rw (z, e) (get_or-replicate {A = ℕ} 4096 f 65535 0 b)
+  setters_start k h fst e f b = rw (drop_of_length-le (forward_run t) h, e) (get_or-replicate {A = ℕ} 4096 f 65535 0 b)
 
-  module _ (k : ℕ) (b : k < n) where
+  module _ (k : ℕ) (b : k < length (forward_run t)) where
     abbrev i : ℕ
-    i = get_or run k 0
-
-    abbrev later : List ℕ
-    later = drop (k + 1) (forward_run t)
-
-    at_k : get_or (forward_run t) k 0 ≡ i
-    at_k = rw (← R.list) (get_or-take n run k 0 b)
+    i = get_or (forward_run t) k 0
 
     pub entry_below : i < actions t
-    entry_below = rw (← at_k) (all_at (λ j. j < actions t) (forward_run t) (forward_run_ran t formed).below k (omega (arith, run_long)))
+    entry_below = all_at (λ j. j < actions t) (forward_run t) (forward_run_ran t F).below k b
 
-    pub from_k : drop k (forward_run t) ≡ i ∷ later
-    from_k = rw (drop-cons (forward_run t) k 0 (omega (arith, run_long)), at_k, add-one) refl
+    pub from_k : drop k (forward_run t) ≡ i ∷ drop (k + 1) (forward_run t)
+    from_k = rw (drop-cons (forward_run t) k 0 b, add-one) refl
 
-    pub setters_turn : (fst fst' : List ℕ) → Setters t later fst → Noted (has (act t i).eff) i fst fst' → Setters t (drop k (forward_run t)) fst'
-    setters_turn fst fst' S N = rw from_k (setters_more t later i fst fst' S N)
+    pub setters_turn : (fst fst' : List ℕ) → Setters t (drop (k + 1) (forward_run t)) fst → Noted (has (act t i).eff) i fst fst' → Setters t (drop k (forward_run t)) fst'
+    setters_turn fst fst' S N = rw from_k (setters_more t (drop (k + 1) (forward_run t)) i fst fst' S N)
+
+-- the run in the front of a list
+module _ {task run : List ℕ} {n : ℕ} (R : Replay task run n) where
+  pub run_long : length (forward_run (task_in task)) ≡ n
+  run_long = rw (← R.list, length-take-le n run (omega (arith, R.long, R.few))) refl
+
+  pub run_at : (k : ℕ) → k < n → get_or (forward_run (task_in task)) k 0 ≡ get_or run k 0
+  run_at k b = rw (← R.list) (get_or-take n run k 0 b)
