@@ -1,6 +1,6 @@
 -- The loops of the way back: first achievers that join the set of wanted actions, and the run gone through. An action that first reached a
 -- fact has it among its effects, so the first achievers of needed facts are the actions that first reached a needed effect of their own.
-use mathlib.Core.Path.{◌≡◌, refl, sym, ap, ◌∙◌, subst}
+use mathlib.Core.Path.{◌≡◌, refl, sym, ap, ◌∙◌}
 use mathlib.Core.Logic.{◌⊎◌, inl, inr}
 use mathlib.Core.Bool.{Bool, true, false, not, ◌&&◌, ◌||◌, or_comm, or-false}
 use mathlib.Core.List.{List, [], ◌∷◌}
@@ -14,19 +14,18 @@ use lib.Dec.{T, eqb, eqb→eq, eqb_refl}
 use lib.ListN.{length, get_or, set, take, drop, replicate, length-set}
 use lib.Seq.{get_or-set_same, get_or-set_other, get_or-take, drop-cons, drop-length, drop-set-lt, take-set-le, take-take}
 use Rattle.planning.specs.Record.{Fact, Action, Task}
-use Rattle.planning.specs.Runs.{State, has, act, step, relaxed, variables, count, initial, goals}
+use Rattle.planning.specs.Runs.{State, has, act, actions, step, relaxed, variables, count, initial, goals}
 use Rattle.planning.specs.Relaxed.{forward_run, first_achiever, is, reached_needed, keep, relaxed_plan}
 use Rattle.laws.proofs.Tests.{bool_same, or_l, or_r, or_cases, and_i, and_l, and_r}
 use Rattle.laws.proofs.Lists.{get_d_zeros}
 use Rattle.laws.proofs.Formed.{Formed, Sorted, sorted_has, goals_sorted}
 use Rattle.laws.proofs.Achievers.{reached_needed_intro}
-use Rattle.task.specs.Task.{fact_of, facts_in, pre_at, eff_at, action_in, task_in}
+use Rattle.task.specs.Task.{fact_of, facts_of, task_in}
 use Rattle.sets.specs.Sets.{in_set, listed}
 use Rattle.sets.proofs.Members.{in_set_empty, in_set_added}
-use Rattle.sets.proofs.Listed.{Listed}
-use Rattle.sets.proofs.Effects.{facts_in_cons, facts_in_none}
+use Rattle.sets.proofs.Slices.{facts_of_drop, facts_of_end}
 use Rattle.achievers.specs.Achievers.{achiever, AchievedFrom, Achieved, Replay}
-use Rattle.achievers.proofs.Achievers.{run_long, entry_below, from_k}
+use Rattle.achievers.proofs.Achievers.{run_long, run_at, entry_below, from_k}
 use Rattle.extraction.specs.Keeping.{wants, by_of, Joined, Keeping}
 
 -- one action joins the set, if it is one
@@ -49,24 +48,19 @@ module _ (ms : List ℕ) (a : ℕ) (n : length ms ≡ 16) where
   joined_none b = record { long = n; are = λ i c. rw (ne_eqb i a (λ p. omega arith)) refl }
 
 -- the first achievers of the facts from place k on are still to join the set
-pub record Adding (fst facts : List ℕ) (a b : ℕ) (ms₀ ms : List ℕ) (k : ℕ) : Type 0 where
-  pub from : a ≤ k
-  pub to : k ≤ b
+pub record Adding (fst facts ms₀ ms : List ℕ) (k : ℕ) : Type 0 where
   pub long : length ms ≡ 16
-  pub so_far : (i : ℕ) → i < 1024 → (wants (by_of fst) (facts_in facts a b) i || listed ms₀ i) ≡ (wants (by_of fst) (facts_in facts k b) i || listed ms i)
+  pub so_far : (i : ℕ) → i < 1024 → (wants (by_of fst) (facts_of facts) i || listed ms₀ i) ≡ (wants (by_of fst) (facts_of (drop k facts)) i || listed ms i)
 
-module _ (fst facts : List ℕ) (a b : ℕ) (q : b ≤ length facts) (ms₀ : List ℕ) where
-  pub adding_turn : (ms : List ℕ) (k x : ℕ) (ms' : List ℕ) → Adding fst facts a b ms₀ ms k → k < b → x ≡ get_or fst (get_or facts k 0) 0 → Joined (λ i. eqb i x) ms ms'
-      → Adding fst facts a b ms₀ ms' (k + 1)
+module _ (fst facts ms₀ ms : List ℕ) (k : ℕ) (A : Adding fst facts ms₀ ms k) where
+  pub adding_turn : (x : ℕ) (ms' : List ℕ) → k < length facts → x ≡ get_or fst (get_or facts k 0) 0 → Joined (λ i. eqb i x) ms ms' → Adding fst facts ms₀ ms' (k + 1)
   unfolding wants reached_needed is by_of fact_of
-  adding_turn ms k x ms' A h e J = record {
-    from = omega (arith, A.from);
-    to = omega arith;
+  adding_turn x ms' h e J = record {
     long = J.long;
     so_far = λ i c.
         let f = get_or facts k 0 in
         let p : 64 * (f / 64) + f % 64 ≡ f = omega arith in
-        A.so_far i c ∙ rw (facts_in_cons facts k b h q, J.are i c, p, e) (turn (eqb i (get_or fst f 0)) (wants (by_of fst) (facts_in facts (k + 1) b) i) (listed ms i));
+        A.so_far i c ∙ rw (facts_of_drop facts k h, J.are i c, p, e) (turn (eqb i (get_or fst f 0)) (wants (by_of fst) (facts_of (drop (k + 1) facts)) i) (listed ms i));
   }
     where
       turn : (x h s : Bool) → (((x && true) || h) || s) ≡ (h || (x || s))
@@ -75,15 +69,9 @@ module _ (fst facts : List ℕ) (a b : ℕ) (q : b ≤ length facts) (ms₀ : Li
       turn false true s = refl
       turn false false s = refl
 
-  pub adding_end : (ms : List ℕ) (k : ℕ) → Adding fst facts a b ms₀ ms k → b ≤ k → Joined (wants (by_of fst) (facts_in facts a b)) ms₀ ms
+  pub adding_end : length facts ≤ k → Joined (wants (by_of fst) (facts_of facts)) ms₀ ms
   unfolding wants reached_needed
-  adding_end ms k A h = record { long = A.long; are = λ i c. sym (A.so_far i c ∙ rw (facts_in_none facts k b (omega (arith, A.to))) refl) }
-
--- those of the preconditions of action i, by their places
-pub joined_pre : (task fst : List ℕ) (i a b : ℕ) (before after : List ℕ) → Listed task i → Joined (wants (by_of fst) (facts_in task a b)) before after → a ≡ pre_at task i → b ≡ eff_at task i
-    → Joined (wants (by_of fst) (act (task_in task) i).pre) before after
-unfolding action_in
-joined_pre task fst i a b before after L J ea eb = subst (λ (x : Action). Joined (wants (by_of fst) x.pre) before after) L.states (rw (ea, eb) at J)
+  adding_end h = record { long = A.long; are = λ i c. sym (A.so_far i c ∙ rw (facts_of_end facts k h) refl) }
 
 -- the test depends on the first achievers of the facts only
 reached_needed_same : (by by' : ℕ → ℕ → Option ℕ) (N : State) (i : ℕ) (fs : List Fact) → ((v d : ℕ) → T (has fs v d) → is i (by v d) ≡ is i (by' v d))
@@ -231,8 +219,17 @@ module _ {task run : List ℕ} {n : ℕ} (R : Replay task run n) where
     abbrev later : List ℕ
     later = drop (k + 1) (forward_run t)
 
+    inside : k < length (forward_run t)
+    inside = omega (arith, run_long R)
+
+    pub entry_named : i < actions t
+    entry_named = rw (← run_at R k b) (entry_below t formed k inside)
+
     pub entry_near : i < 1024
-    entry_near = omega (arith, entry_below R k b, formed.actions_max)
+    entry_near = omega (arith, entry_named, formed.actions_max)
+
+    from_here : drop k (forward_run t) ≡ i ∷ later
+    from_here = from_k t formed k inside ∙ rw (run_at R k b) refl
 
     module _ {wanted kept : List ℕ} {m : ℕ} (K : Keeping t run n wanted kept (k + 1) m) where
       pub keeping_room : 0 < m
@@ -257,8 +254,8 @@ module _ {task run : List ℕ} {n : ℕ} (R : Replay task run n) where
             end = K.end;
             long = K.long;
             unread = unread_less;
-            kept_are = rw (from_k R k b, z) K.kept_are;
-            wanted_are = rw (from_k R k b, z) K.wanted_are;
+            kept_are = rw (from_here, z) K.kept_are;
+            wanted_are = rw (from_here, z) K.wanted_are;
           }
 
       pub keeping_yes : (fst : List ℕ) → Achieved t (forward_run t) fst → true ≡ listed wanted i → (wanted' : List ℕ) → Joined (wants (by_of fst) (act t i).pre) wanted wanted'
@@ -281,8 +278,8 @@ module _ {task run : List ℕ} {n : ℕ} (R : Replay task run n) where
             end = omega (arith, K.end);
             long = simp length-set K.long;
             unread = take-set-le k kept (m - 1) j (omega (arith, K.room, R.few)) ∙ unread_less;
-            kept_are = rw (from_k R k b, z.0, d, K.kept_are) refl;
-            wanted_are = rw (from_k R k b, z.1) (record {
+            kept_are = rw (from_here, z.0, d, K.kept_are) refl;
+            wanted_are = rw (from_here, z.1) (record {
               long = J.long;
               are = λ x p. J.are x p ∙ rw (wants_are fst S (act t i).pre (formed.pre_sorted i) x p, K.wanted_are.are x p)
                   (sym (reached_needed_or by x (has (act t i).pre) N (act t x).eff));
