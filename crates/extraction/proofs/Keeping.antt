@@ -44,9 +44,6 @@ module _ (ms : List ℕ) (a : ℕ) (n : length ms ≡ 16) where
           rw (← same i q (ℕ_discrete i a), q, get_or-set_same ms (a / 64) w 0 (omega arith), e, in_set_added old (a % 64) (i % 64)) (or_comm (in_set old (i % 64)) (eqb (i % 64) (a % 64)))
       go i (no q) = rw (get_or-set_other ms (a / 64) (i / 64) w 0 q, ne_eqb i a (λ p. q (ap (λ x. x / 64) p))) refl
 
-  pub joined_none : 1024 ≤ a → Joined (λ i. eqb i a) ms ms
-  joined_none b = record { long = n; are = λ i c. rw (ne_eqb i a (λ p. omega arith)) refl }
-
 -- the first achievers of the facts from place k on are still to join the set
 pub record Adding (fst facts ms₀ ms : List ℕ) (k : ℕ) : Type 0 where
   pub long : length ms ≡ 16
@@ -258,9 +255,9 @@ module _ {task run : List ℕ} {n : ℕ} (R : Replay task run n) where
             wanted_are = rw (from_here, z) K.wanted_are;
           }
 
-      pub keeping_yes : (fst : List ℕ) → Achieved t (forward_run t) fst → true ≡ listed wanted i → (wanted' : List ℕ) → Joined (wants (by_of fst) (act t i).pre) wanted wanted'
-          → (j : ℕ) → j ≡ i → Keeping t run n wanted' (set kept (m - 1) j) k (m - 1)
-      keeping_yes fst S e wanted' J j ej =
+      pub keeping_yes : (fst : List ℕ) → Achieved t (forward_run t) fst → true ≡ listed wanted i → (wanted' pre : List ℕ) → facts_of pre ≡ (act t i).pre
+          → Joined (wants (by_of fst) (facts_of pre)) wanted wanted' → (j : ℕ) → j ≡ i → Keeping t run n wanted' (set kept (m - 1) j) k (m - 1)
+      keeping_yes fst S e wanted' pre ep J j ej =
           let N = (keep (act t) by (goals t) later).needed in
           let z = keep_yes (act t) by (goals t) i later (tested true e) in
           let c : m - 1 < length kept = omega (arith, K.long, K.end, keeping_room) in
@@ -281,7 +278,7 @@ module _ {task run : List ℕ} {n : ℕ} (R : Replay task run n) where
             kept_are = rw (from_here, z.0, d, K.kept_are) refl;
             wanted_are = rw (from_here, z.1) (record {
               long = J.long;
-              are = λ x p. J.are x p ∙ rw (wants_are fst S (act t i).pre (formed.pre_sorted i) x p, K.wanted_are.are x p)
+              are = λ x p. J.are x p ∙ rw (ep, wants_are fst S (act t i).pre (formed.pre_sorted i) x p, K.wanted_are.are x p)
                   (sym (reached_needed_or by x (has (act t i).pre) N (act t x).eff));
             });
           }

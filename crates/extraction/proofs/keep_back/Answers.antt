@@ -42,9 +42,9 @@ pub loop-k-preserved-then-is_listed : goal.loop-k-preserved-then-is_listed
 loop-k-preserved-then-is_listed c =
     let d = (goal.at.loop-k-preserved-then-is_listed c).In-loop-k in
     let e = c.from-then-is_listed.ensures ∙ same d in
-    let J = rw (c.preconditions-needed.ensures.stated, e) at c.want-then-is_listed.ensures in
     keeping_yes c.requires.replay.0 (c.loop-k.k - 1) (within d) (behind d) _ c.requires.replay.1
-    (sym c.if-is_listed.true ∙ c.is_listed.ensures ∙ ap (listed c.loop-k.wanted) (c.from.ensures ∙ same d)) _ J _ (same d)
+    (sym c.if-is_listed.true ∙ c.is_listed.ensures ∙ ap (listed c.loop-k.wanted) (c.from.ensures ∙ same d)) _ _
+    (rw e at c.preconditions-needed.ensures.stated) c.want-then-is_listed.ensures _ (same d)
 
 pub loop-k-preserved : goal.loop-k-preserved
 loop-k-preserved c =
