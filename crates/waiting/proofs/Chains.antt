@@ -10,6 +10,7 @@ use Prim.Native.Nat.{ℕ, suc, ◌+◌, ◌-◌, ◌/◌, ◌%◌, ◌<◌, ◌�
 use native.Mathlib.Omega.{arith}
 use native.Mathlib.Decide.{ℕ_discrete, dec_lt}
 use borrow.Author.Tests.{ne_eqb, eq-eqb}
+use Rattle.std.specs.Prelude.{Some, None}
 use lib.Dec.{T, T_not, not_T, eqb, eqb→eq, eqb_refl}
 use lib.ListN.{length, get_or, set, length-set, replicate, length-replicate, get_or-replicate}
 use lib.Seq.{get_or-set_same, get_or-set_other}
@@ -463,13 +464,13 @@ module _ {task order : List ℕ} {A : ℕ} {s owed : State} {work ready : List �
       unfolding adds
       rank_ready i b t = let r = R.every i b in (r.0, r.1, r.2, adds_ready r.0 r.1 (rw r.2 t))
 
-      pub sites_none : Lowest ready 1024 → choice (act (task_in task)) A s ≡ none
-      sites_none L = choice_none (act (task_in task)) A s (λ i b t. let r = rank_ready i b t in L.least r.0 (omega (arith, S.few, r.1)) r.3)
+      pub sites_none : Lowest ready None → choice (act (task_in task)) A s ≡ none
+      sites_none L = choice_none (act (task_in task)) A s (λ i b t. let r = rank_ready i b t in L r.0 (omega (arith, S.few, r.1)) r.3)
 
-      pub sites_first : (p : ℕ) → Lowest ready p → p < 1024 → holds s (ranked task order p).eff ≡ false → choice (act (task_in task)) A s ≡ some (get_or order p 0)
+      pub sites_first : (p : ℕ) → Lowest ready (Some p) → holds s (ranked task order p).eff ≡ false → choice (act (task_in task)) A s ≡ some (get_or order p 0)
       unfolding adds
-      sites_first p L b e =
-          let k = S.sound p (L.is b) in
+      sites_first p L e =
+          let k = S.sound p L.is in
           choice_some (act (task_in task)) A s (get_or order p 0) (R.named p k.0)
           (and_i (holds s (ranked task order p).pre) (not (holds s (ranked task order p).eff)) k.1 (rw e tt))
           (λ j l t. let r = rank_ready j l t in subst Dearer r.2 (later r.0 r.1 r.3 (ℕ_discrete p r.0)))

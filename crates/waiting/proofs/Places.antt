@@ -1,6 +1,6 @@
 -- Facts by their places in a list of numbers: a list of facts has exactly those at its places, so that a test of it is a test at each
 -- place. The loops over facts stand on this.
-use mathlib.Core.Path.{◌≡◌, sym, ap, ◌∙◌, subst}
+use mathlib.Core.Path.{◌≡◌, sym, ap, subst}
 use mathlib.Core.Logic.{◌⊎◌, inl, inr, ◌≢◌}
 use mathlib.Core.Bool.{true, false, ◌&&◌, ◌||◌}
 use mathlib.Core.List.{List}
@@ -8,17 +8,19 @@ use Prim.Native.Nat.{ℕ, zero, suc, ◌+◌, ◌-◌, ◌/◌, ◌%◌, ◌<◌
 use native.Mathlib.Omega.{arith}
 use native.Mathlib.Decide.{ℕ_discrete, dec_lt}
 use lib.Dec.{T, eqb, eqb→eq, eqb_refl}
-use lib.ListN.{length, get_or}
+use lib.ListN.{length, get_or, take, drop, length-drop}
+use lib.Seq.{get_or-take, length-take-le, take_all}
 use Rattle.planning.specs.Runs.{State, has, holds, variables, count, act}
 use Rattle.laws.proofs.Tests.{and_l, and_r, and_i, or_l, or_r, or_cases}
 use Rattle.laws.proofs.Facts.{holds→sub, sub→holds}
 use Rattle.planning.specs.Record.{Action}
 use Rattle.laws.proofs.Formed.{Sorted, sorted_has}
-use Rattle.task.specs.Task.{fact_of, facts_in, pre_at, eff_at, end_at, action_in, task_in, Loaded}
+use Rattle.task.specs.Task.{fact_of, facts_of, facts_in, pre_at, eff_at, action_in, task_in, Loaded}
 use Rattle.sets.proofs.Listed.{Listed}
-use Rattle.sets.proofs.Facts.{between_inside}
+use Rattle.task.proofs.Slices.{sorted_inside}
+use Rattle.sets.proofs.Slices.{facts_of_drop}
 use Rattle.sets.proofs.Effects.{facts_in_cons, facts_in_none}
-use Rattle.waiting.specs.Waiting.{reaches, Passing, facts_end, Headed, Looked}
+use Rattle.waiting.specs.Waiting.{reaches, Passing, Unmet, facts_end, Headed, Looked}
 
 module _ (l : List ℕ) where
   at_has' : (n a b v d : ℕ) → a + n ≡ b → b ≤ length l → T (has (facts_in l a b) v d) → (x : ℕ) × (a ≤ x) × (x < b) × (v ≡ get_or l x 0 / 64) × (d ≡ get_or l x 0 % 64)
@@ -76,16 +78,12 @@ module _ (l : List ℕ) where
         go y v d p q t = rw (p, q) t
 
 -- the facts from place k on, but for the one there
-pub has_less : (l : List ℕ) (k b f : ℕ) → k < b → b ≤ length l → f ≡ get_or l k 0 → (y : ℕ) → y ≢ f → T (reaches (has (facts_in l k b)) y) → T (reaches (has (facts_in l (k + 1) b)) y)
-unfolding reaches
-has_less l k b f h q e y n t =
-    let r = at_has l k b (omega arith) q (y / 64) (y % 64) t in
-    let u : y ≡ get_or l r.0 0 = omega (arith, r.3, r.4) in
-    rw u (has_at l (k + 1) b (omega arith) q r.0 (above r.0 r.1 u (ℕ_discrete r.0 k)) r.2)
-  where
-    above : (x : ℕ) → k ≤ x → y ≡ get_or l x 0 → Dec (x ≡ k) → k + 1 ≤ x
-    above x p u (yes z) = absurd (n (u ∙ rw z (sym e)))
-    above x p u (no z) = omega arith
+pub has_less : (l : List ℕ) (k f : ℕ) → k < length l → f ≡ get_or l k 0 → (y : ℕ) → y ≢ f → T (reaches (has (facts_of (drop k l))) y) → T (reaches (has (facts_of (drop (k + 1) l))) y)
+unfolding reaches has fact_of
+has_less l k f h e y n t = elim (or_cases (eqb (y / 64) (f / 64) && eqb (y % 64) (f % 64)) (has (facts_of (drop (k + 1) l)) (y / 64) (y % 64)) (rw (facts_of_drop l k h, ← e) at t)) [
+  | inl q ↦ absurd (n (omega (arith, eqb→eq (y / 64) (f / 64) (and_l (eqb (y / 64) (f / 64)) (eqb (y % 64) (f % 64)) q), eqb→eq (y % 64) (f % 64) (and_r (eqb (y / 64) (f / 64)) (eqb (y % 64) (f % 64)) q))))
+  | inr q ↦ q
+]
 
 pub open_at : (s : State) (y f : ℕ) → f ≡ y → s (f / 64) (f % 64) ≡ false → reaches s y ≡ false
 unfolding reaches
@@ -107,17 +105,25 @@ passing_more s l a b k r P Q = record { from = omega (arith, P.from, Q.from); to
     go x p q (yes h) = P.passed x p h
     go x p q (no h) = Q.passed x (omega arith) q
 
--- the effects of action i are facts of the task
-pub effects_headed : (task : List ℕ) → Loaded task → (i : ℕ) → Listed task i → Headed task (eff_at task i) (end_at task i)
-unfolding action_in
-effects_headed task D i L =
-    let t = task_in task in
-    let sorted = subst (λ (a : Action). Sorted (variables t) (count t) 0 a.eff) (sym L.states) (D.formed.eff_sorted i) in
+pub rest_taken : (l : List ℕ) (n : ℕ) → take (length l - n) (drop n l) ≡ drop n l
+rest_taken l n = take_all (length l - n) (drop n l) (omega (arith, length-drop n l))
+
+-- the facts up to place b alone
+pub unmet_taken : (s : State) (l : List ℕ) (a b k : ℕ) → b ≤ length l → Unmet s (take b l) a (length (take b l)) k → Unmet s l a b k
+unmet_taken s l a b k h U =
+    let e : length (take b l) ≡ b = length-take-le b l h in
+    let P = U.passing in
     record {
-      rises = L.eff_below;
-      within = L.end_below;
-      small = λ k p q. omega (arith, between_inside (variables t) (count t) task (end_at task i) L.end_below (eff_at task i) k p q sorted);
+      passing = record { from = P.from; to = omega (arith, P.to); passed = λ x p q. rw (← get_or-take b l x 0 (omega (arith, P.to))) (P.passed x p q) };
+      open' = λ q. rw (← get_or-take b l k 0 q) (U.open' (omega arith));
     }
+
+-- the effects of action i are facts of the task
+pub effects_headed : (task : List ℕ) → Loaded task → (i : ℕ) (facts : List ℕ) → facts_of facts ≡ (act (task_in task) i).eff → Headed task facts
+effects_headed task D i facts e =
+    let t = task_in task in
+    let S = subst (Sorted (variables t) (count t) 0) (sym e) (D.formed.eff_sorted i) in
+    λ k h. omega (arith, sorted_inside (variables t) (count t) facts 0 S k h)
 
 -- what the first unmet precondition of action i says
 module _ (s : State) (task : List ℕ) (i k : ℕ) (D : Loaded task) (L : Listed task i) (P : Looked s task i k) where

@@ -51,11 +51,9 @@ Room task work = 2048 + facts_end task ≤ length work
 abbrev pub Free : List ℕ → List ℕ → Type 0
 Free task work = Room task work × (work ≡ replicate (length work) 65535)
 
--- the facts from place a up to b are of the task, so that each has its chain
-pub record Headed (task : List ℕ) (a b : ℕ) : Type 0 where
-  pub rises : a ≤ b
-  pub within : b ≤ length task
-  pub small : (k : ℕ) → a ≤ k → k < b → get_or task k 0 < facts_end task
+-- the facts are of the task, so that each has its chain
+abbrev pub Headed : List ℕ → List ℕ → Type 0
+Headed task facts = (k : ℕ) → k < length facts → get_or facts k 0 < facts_end task
 
 -- rank j in front of the chain of fact f
 unfoldable pub hung : List ℕ → ℕ → ℕ → List ℕ

@@ -2,30 +2,28 @@
 // from that one on, when the fact is reached. Actions go by their rank, the place in an order by cost and number that is made once.
 #![tactic(auto)]
 
-ghost use Rattle.std.specs.Prelude.{◌≡◌, [], ◌+◌, ◌<◌, ◌≤◌, length, get_or, replicate};
+ghost use Rattle.std.specs.Prelude.{◌≡◌, [], ℕ, ◌+◌, ◌<◌, ◌≤◌, length, get_or, replicate};
 ghost use Rattle.planning.specs.Runs.{has, actions};
-ghost use Rattle.task.specs.Task.{facts_in, task_in, Loaded};
-ghost use Rattle.sets.specs.Sets.{sets_of, Facts};
+ghost use Rattle.task.specs.Task.{facts_of, task_in, Loaded};
+ghost use Rattle.sets.specs.Sets.{sets_of};
 ghost use Rattle.ready.specs.Ready.{Ready};
 ghost use Rattle.waiting.specs.Waiting.{Unmet, hung, place_at, Looked, Settles, Sites, Settled, Headed, Room, Free, ByCost};
 
-// The first place from `from` up to `to` whose fact is not in the state; `to` if each is.
-pub fn unmet(sets: &[u64; 64], facts: &[u16], from: usize, to: usize) -> usize
-    requires { Facts facts.now from to }
-    ensures { Unmet (sets_of sets.now) facts.now from to result }
+// The first place from `from` on whose fact is not in the state; the one behind them all if each is.
+pub fn unmet(sets: &[u64; 64], facts: &[u16], from: usize) -> usize
+    requires { (from ≤ length facts.now) × ((k : ℕ) → from ≤ k → k < length facts.now → get_or facts.now k 0 < 4096) }
+    ensures { Unmet (sets_of sets.now) facts.now from (length facts.now) result }
 {
-    let mut k = from;
-    while k < to {
-        if !sets::holds(sets, lists::wide(facts[k])) {
+    for k in from..facts.len() {
+        if !sets::holds(sets, usize::from(facts[k])) {
             return k;
         }
-        k += 1;
     }
-    to
+    facts.len()
 }
 
 // What waits, by rank: each action's next on its chain; from PLACE on the place of the precondition that it waits for; from HEAD on for
-// each fact the head of its chain of actions. ALL is room for the facts of 64 variables, FEW for those of 16.
+// each fact the head of its chain of actions. 65,535 ends a chain: an option has no 16 bits of its own (fixed memory). ALL is room for the facts of 64 variables, FEW for those of 16.
 const PLACE: usize = 1024;
 
 const HEAD: usize = 2048;
@@ -39,7 +37,7 @@ fn hang(work: &mut [u16], f: usize, j: u16)
     requires { (f < 4096) × (2048 + f < length work.old) × (j < 1024) }
     ensures { work.new ≡ hung work.old f j }
 {
-    work[j as usize] = work[HEAD + f];
+    work[usize::from(j)] = work[HEAD + f];
     work[HEAD + f] = j;
 }
 
@@ -57,18 +55,18 @@ fn settle(
     requires ready { Ready ready.old × Looked (sets_of sets.now) task.now (get_or order.now j 0) (place_at work.old j) × Room task.now work.old }
     ensures { Settles (sets_of sets.now) task.now order.now j work.old ready.old work.new ready.new }
 {
-    let r = lists::wide(j);
-    let to = task::eff_start(task, lists::wide(order[r]));
-    let k = unmet(sets, task, lists::wide(work[PLACE + r]), to);
+    let r = usize::from(j);
+    let to = task::eff_start(task, usize::from(order[r]));
+    let k = unmet(sets, &task[..to], usize::from(work[PLACE + r]));
     work[PLACE + r] = k as u16;
     if k < to {
-        hang(work, lists::wide(task[k]), j);
+        hang(work, usize::from(task[k]), j);
     } else {
         ready::mark(ready, r);
     }
 }
 
-// Settles the actions on the chain from h on. The facts of the task from place `from` up to `to` are still to be looked at.
+// Settles the actions on the chain from h on. The facts that are owed are still to be looked at.
 fn settle_all(
     sets: &[u64; 64],
     task: &[u16],
@@ -76,46 +74,40 @@ fn settle_all(
     work: &mut [u16],
     ready: &mut [u64; ready::SETS],
     h: u16,
-    from: usize,
-    to: usize,
+    owed: &[u16],
 )
-    requires { Loaded task.now × Sites task.now order.now (actions (task_in task.now)) (sets_of sets.now) (has (facts_in task.now from to)) work.old ready.old h 1024 }
-    ensures { Settled task.now order.now (sets_of sets.now) (has (facts_in task.now from to)) work.new ready.new }
+    requires { Loaded task.now × Sites task.now order.now (actions (task_in task.now)) (sets_of sets.now) (has (facts_of owed.now)) work.old ready.old h 1024 }
+    ensures { Settled task.now order.now (sets_of sets.now) (has (facts_of owed.now)) work.new ready.new }
 {
     let mut j = h;
-    let mut left: usize = 1024;
-    while 0 < left {
+    for _left in (0..1024usize).rev() {
         if 1024 <= j {
             return;
         }
-        let after = work[j as usize];
+        let after = work[usize::from(j)];
         settle(sets, task, order, work, ready, j);
         j = after;
-        left -= 1;
     }
 }
 
-// The facts of the task from place `from` up to `to` are reached: their chains are taken off, and the actions on them settled.
+// The facts are reached: their chains are taken off, and the actions on them settled.
 pub fn wake(
     sets: &[u64; 64],
     task: &[u16],
     order: &[u16; 1024],
     work: &mut [u16],
     ready: &mut [u64; ready::SETS],
-    from: usize,
-    to: usize,
+    facts: &[u16],
 )
-    requires { Loaded task.now × Headed task.now from to × Settled task.now order.now (sets_of sets.now) (has (facts_in task.now from to)) work.old ready.old }
+    requires { Loaded task.now × Headed task.now facts.now × Settled task.now order.now (sets_of sets.now) (has (facts_of facts.now)) work.old ready.old }
     ensures settled { Settled task.now order.now (sets_of sets.now) (has []) work.new ready.new }
-    ensures ready_unchanged { to ≤ from → ready.new ≡ ready.old }
+    ensures ready_unchanged { length facts.now ≤ 0 → ready.new ≡ ready.old }
 {
-    let mut k = from;
-    while k < to {
-        let f = lists::wide(task[k]);
+    for (k, f) in facts.iter().enumerate() {
+        let f = usize::from(*f);
         let h = work[HEAD + f];
         work[HEAD + f] = 65535;
-        k += 1;
-        settle_all(sets, task, order, work, ready, h, k, to);
+        settle_all(sets, task, order, work, ready, h, &facts[k + 1..]);
     }
 }
 
@@ -131,10 +123,8 @@ pub fn settle_each(
     ensures { Settled task.now order.now (sets_of sets.now) (has []) work.new ready.new }
 {
     let n = task::actions(task);
-    let mut j: usize = 0;
-    while j < n {
-        work[PLACE + j] = task::pre_start(task, lists::wide(order[j])) as u16;
+    for j in 0..n {
+        work[PLACE + j] = task::pre_start(task, usize::from(order[j])) as u16;
         settle(sets, task, order, work, ready, j as u16);
-        j += 1;
     }
 }
