@@ -4,12 +4,12 @@ use mathlib.Core.Logic.{◌≢◌}
 use mathlib.Core.Bool.{true, false}
 use mathlib.Core.List.{List, [], ◌∷◌, ◌++◌, append_assoc, append-nil}
 use mathlib.Core.Option.{none, some}
-use Prim.Native.Nat.{ℕ, ◌+◌, ◌<◌, ◌≤◌, pred}
+use Prim.Native.Nat.{ℕ, ◌+◌, ◌-◌, ◌<◌, ◌≤◌, pred}
 use native.Mathlib.Numerals.{add-one}
 use native.Mathlib.Omega.{arith}
 use lib.Dec.{T}
 use lib.ListN.{length, get_or, set, take, length-set, length-append}
-use lib.Seq.{take-suc-set, length-take-le}
+use lib.Seq.{take-suc-set, length-take-le, get_or-take, take_all}
 use Rattle.planning.specs.Basics.{total, tally}
 use Rattle.planning.specs.Record.{Task}
 use Rattle.planning.specs.Runs.{State, holds, step, relaxed, run, variables, actions, act, count, variable, initial, goals, size, run_by}
@@ -19,7 +19,10 @@ use Rattle.laws.proofs.Below.{total_le, total_pred, total_one, tally_pos}
 use Rattle.laws.proofs.Steps.{All, run_append}
 use Rattle.laws.proofs.Formed.{Formed, initial_holds}
 use Rattle.laws.proofs.Forward.{Once, forward_take, forward_goal, forward_none, forward_run_ran, forward_run_once, eff_ranged}
-use Rattle.task.specs.Task.{facts_in}
+use Rattle.task.specs.Task.{facts_of, facts_in, States}
+use Rattle.task.proofs.Slices.{part_facts}
+use Rattle.state.specs.declared.Goals.{Goals}
+use Rattle.state.specs.Goals.{GoalsOf}
 use Rattle.waiting.specs.Waiting.{reaches, Each, Passing}
 use Rattle.sets.specs.Sets.{sets_of}
 use Rattle.forward_run.specs.declared.Ran.{Ran}
@@ -124,11 +127,24 @@ module _ {t : Task} (F : Formed t) where
     ended_none h e a en eb es = ended (forward_none (act t) (actions t) (goals t) G.k s e) a en (eb ∙ sym h) es
 
 -- the goals as the loop tests them
-module _ (t : Task) {s : State} {facts : List ℕ} {m r : ℕ} (q : m ≤ length facts) (e : facts_in facts 0 m ≡ goals t) (P : Passing s facts 0 m r) where
-  pub goals_met : r ≡ m → holds s (goals t) ≡ true
-  goals_met z = rw (← e) (T→true (holds s (facts_in facts 0 m)) (each_holds facts 0 m (omega arith) q s (λ x p l. P.passed x p (omega arith))))
+pub goals_listed : (t : Task) (g : Goals) (list : List ℕ) → GoalsOf t g → length g.facts ≡ 64 → list ≡ take g.count g.facts → States list (goals t)
+goals_listed t g list G n e =
+    let z : g.count - 0 ≡ g.count = omega arith in
+    let m : length (take g.count g.facts) ≡ g.count = length-take-le g.count g.facts (omega (arith, G.few)) in
+    rw e (record {
+      stated = (rw z at (part_facts g.facts 0 g.count (omega arith))) ∙ G.are;
+      small = λ k h. rw (get_or-take g.count g.facts k 0 (omega arith)) (G.small k (omega arith));
+    })
 
-  pub goals_open : r ≢ m → reaches s (get_or facts r 0) ≡ false → holds s (goals t) ≡ false
+module _ (t : Task) {s : State} {list : List ℕ} {r : ℕ} (e : facts_of list ≡ goals t) (P : Passing s list 0 (length list) r) where
+  whole : facts_in list 0 (length list) ≡ goals t
+  whole = sym (part_facts list 0 (length list) (omega arith)) ∙ ap facts_of (take_all (length list - 0) list (omega arith)) ∙ e
+
+  pub goals_met : r ≡ length list → holds s (goals t) ≡ true
+  goals_met z =
+      rw (← whole) (T→true (holds s (facts_in list 0 (length list))) (each_holds list 0 (length list) (omega arith) (omega arith) s (λ x p l. P.passed x p (omega arith))))
+
+  pub goals_open : r ≢ length list → reaches s (get_or list r 0) ≡ false → holds s (goals t) ≡ false
   goals_open z u =
-      rw (← e)
-      (F→false (holds s (facts_in facts 0 m)) (λ h. subst T u (holds_each facts 0 m (omega arith) q s h r (omega arith) (omega (arith, P.to)))))
+      rw (← whole)
+      (F→false (holds s (facts_in list 0 (length list))) (λ h. subst T u (holds_each list 0 (length list) (omega arith) (omega arith) s h r (omega arith) (omega (arith, P.to)))))

@@ -23,34 +23,38 @@ pub fn run_by(task: &[u16], order: &[u16; 1024], work: &mut [u16], plan: &mut [u
     requires { Loaded task.now × ByCost task.now order.now × Free task.now work.old × (length plan.old ≡ 1024) }
     ensures { RanOf (task_in task.now) plan.new result }
 {
-    let goals = Goals::load(task);
-    let count = goals.count;
+    let found = Goals::load(task);
+    let goals = found.listed();
     let mut s = Relaxed::initial(task);
     let mut ready = [0u64; ready::SETS];
     waiting::settle_each(&s.sets, task, order, work, &mut ready);
     let mut steps: usize = 0;
     let mut g: usize = 0;
-    let mut from: usize = 0;
-    let mut to: usize = 0;
+    let mut reached: &[u16] = &[];
     loop {
-        waiting::wake(&s.sets, task, order, work, &mut ready, from, to);
-        from = to;
-        g = waiting::unmet(&s.sets, &goals.facts, g, count);
-        let rank = ready::lowest(&ready);
-        if g == count || 1024 <= rank {
+        waiting::wake(&s.sets, task, order, work, &mut ready, reached);
+        reached = &[];
+        g = waiting::unmet(&s.sets, goals, g);
+        if g == goals.len() {
             return Ran {
                 steps,
-                solved: g == count,
+                solved: true,
                 state: s,
             };
         }
+        let Some(rank) = ready::lowest(&ready) else {
+            return Ran {
+                steps,
+                solved: false,
+                state: s,
+            };
+        };
         ready::unmark(&mut ready, rank);
-        let i = lists::wide(order[rank]);
+        let i = usize::from(order[rank]);
         if !applying::has_effects(&s.sets, task, i) {
             plan[steps] = i as u16;
             steps += 1;
-            from = task::eff_start(task, i);
-            to = task::eff_end(task, i);
+            reached = task::effects(task, i);
             s = s.step(task, i);
         }
     }
