@@ -9,7 +9,8 @@ ghost use Rattle.planning.specs.Calls.{Read, read_call, read_list, read_marks};
 ghost use Rattle.sheet.specs.Answers.{handed_out, reading_as};
 ghost use Rattle.sheet.specs.Again.{WritesAs};
 
-use sheet::Reading;
+use answers::Refusal;
+use sheet::Heading;
 
 // The steps of a sheet in front of the list, its marks in front of the area and zeros behind them; in edition 1 zeros throughout.
 fn unfold(bytes: &[u8], mark: usize, steps: usize, list: &mut [u16], marks: &mut [u8])
@@ -28,27 +29,21 @@ fn unfold(bytes: &[u8], mark: usize, steps: usize, list: &mut [u16], marks: &mut
 
 // Reads a sheet: what it says of its plan, the plan in the front of the list and 65,535 behind, its marks in the front of the mark area and 0
 // behind; after a refusal 65,535 and 0 throughout.
-pub fn read(bytes: &[u8], list: &mut [u16], marks: &mut [u8]) -> Reading
+pub fn read(bytes: &[u8], list: &mut [u16], marks: &mut [u8]) -> Result<Heading, Refusal>
     ensures result_value { reading_as result ≡ read_call bytes.now (length list.old) (length marks.old) }
     ensures list_after { list.new ≡ read_list bytes.now (length list.old) (length marks.old) }
     ensures marks_after { marks.new ≡ read_marks bytes.now (length list.old) (length marks.old) }
     ensures writes_as { (h : Read) → reading_as result ≡ done h → WritesAs (handed_out h list.new marks.new) bytes.now }
 {
-    let a = sheet::read_checked(bytes, lists::lesser(list.len(), marks.len()));
-    let Reading::Plan {
-        steps,
-        cost: _,
-        edition,
-        real: _,
-    } = a
-    else {
+    let answer = sheet::read_checked(bytes, list.len().min(marks.len()));
+    let Ok(heading) = answer else {
         lists::blank(list);
         lists::clear(marks);
-        return a;
+        return answer;
     };
-    let count = steps as usize;
-    let mark = sheet::mark_width(edition);
+    let count = heading.steps as usize;
+    let mark = sheet::mark_width(heading.edition);
     unfold(bytes, mark, count, list, marks);
     lists::blank_from(list, count);
-    a
+    answer
 }

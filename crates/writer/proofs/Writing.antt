@@ -11,9 +11,9 @@ use lib.Seq.{length-take-le, take_at, drop-drop}
 use Rattle.planning.specs.Basics.{one_if}
 use Rattle.planning.specs.Sheet.{Sheet, bits_of, edition_of, step_bits, sheet_bits, packed, sheet_size, sheet_end, sheet_bytes}
 use Rattle.bits.proofs.Pack.{bits_of_add, bits_of_low, packed_front, packed_none, length_packed, packed_same, same_prefix}
-use Rattle.pack.specs.Fields.{four_of, eight_bits}
+use Rattle.pack.specs.Fields.{entries, four_of, eight_bits}
 use Rattle.pack.proofs.Words.{low_bits}
-use Rattle.pack.proofs.Fields.{fields, up_to, fields_split, fields_padded, fields_eight, four_fields}
+use Rattle.pack.proofs.Fields.{length_entries, size_entries, fields, up_to, fields_split, fields_padded, fields_eight, four_fields}
 
 -- m low bits of a number do not see what stands above n of them
 low_of : (m n a b : ℕ) → m ≤ n → bits_of m (a * 2 ^ n + b) ≡ bits_of m b
@@ -126,6 +126,11 @@ pub record Writing (w : ℕ) (es : List ℕ) (head size : ℕ) (d₀ d : List �
   pub place : 8 * at ≡ 48 + (w + 10) * i
   pub long : length d ≡ length d₀
   pub so_far : take 6 d₀ ++ packed (size - 6) (bits_of 5 head ++ fields (w + 10) es) ≡ take at d ++ packed (size - at) (bits_of 5 five ++ fields (w + 10) (drop i es))
+
+-- as many entries as steps, and the size by them
+pub counted : (w : ℕ) → w ≤ 1 → (l ms : List ℕ) (size : ℕ) → size ≡ sheet_size (suc w) (length l)
+    → let es = entries (suc w) l ms in (length es ≡ length l) × (size ≡ (53 + (w + 10) * length es + 7) / 8)
+counted w h l ms size e = (length_entries _ l ms, e ∙ size_entries w h l ms)
 
 pub writing_start : (w : ℕ) (es : List ℕ) (head size : ℕ) (d : List ℕ) → Writing w es head size d d (head % 32) 6 0
 writing_start w es head size d = record { few = omega arith; passed = omega arith; place = omega arith; long = refl; so_far = rw (low_bits 5 head) refl }

@@ -11,46 +11,75 @@ ghost use Rattle.sheet.specs.Answers.{sheet};
 ghost use Rattle.sheet.specs.Again.{ReadsAs};
 ghost use Rattle.pack.specs.Fields.{eight_bits};
 
-use answers::Number;
+use answers::Refusal;
 
 // Eight entries behind five bits: as many bytes as an entry has bits, and five bits more. Each word is one store of eight bytes; the second
 // starts before the first one ends, and has the same bits there.
-fn write_eight(bytes: &mut [u8], at: usize, mark: usize, five: u64, a: u64, b: u64)
-    requires { (mark ≤ 1) × (at + mark + 11 ≤ length bytes.old) × (five < 32) × (a < 2 ^ (4 * (mark + 10))) × (b < 2 ^ (4 * (mark + 10))) }
-    ensures { take (at + (mark + 10)) bytes.new ≡ take at bytes.old ++ packed (mark + 10) (eight_bits mark five a b) }
+fn write_eight<const MARK: usize>(bytes: &mut [u8], at: usize, five: u64, a: u64, b: u64)
+    requires { (MARK ≤ 1) × (at + MARK + 11 ≤ length bytes.old) × (five < 32) × (a < 2 ^ (4 * (MARK + 10))) × (b < 2 ^ (4 * (MARK + 10))) }
+    ensures { take (at + (MARK + 10)) bytes.new ≡ take at bytes.old ++ packed (MARK + 10) (eight_bits MARK five a b) }
 {
-    bits::put_word(bytes, at, pack::first_word(mark, five, a));
-    bits::put_word(bytes, at + mark + 3, pack::second_word(mark, a, b));
+    bits::put_word(bytes, at, pack::first_word::<MARK>(five, a));
+    bits::put_word(bytes, at + MARK + 3, pack::second_word::<MARK>(a, b));
 }
 
 // The same by fewer bytes.
-fn write_last(bytes: &mut [u8], at: usize, count: usize, mark: usize, five: u64, a: u64, b: u64)
-    requires { (mark ≤ 1) × (count ≤ mark + 10) × (at + count ≤ length bytes.old) × (five < 32) × (a < 2 ^ (4 * (mark + 10))) × (b < 2 ^ (4 * (mark + 10))) }
-    ensures { take (at + count) bytes.new ≡ take at bytes.old ++ packed count (eight_bits mark five a b) }
+fn write_last<const MARK: usize>(
+    bytes: &mut [u8],
+    at: usize,
+    count: usize,
+    five: u64,
+    a: u64,
+    b: u64,
+)
+    requires { (MARK ≤ 1) × (count ≤ MARK + 10) × (at + count ≤ length bytes.old) × (five < 32) × (a < 2 ^ (4 * (MARK + 10))) × (b < 2 ^ (4 * (MARK + 10))) }
+    ensures { take (at + count) bytes.new ≡ take at bytes.old ++ packed count (eight_bits MARK five a b) }
 {
-    let n = lists::lesser(count, mark + 3);
-    bits::write_bits(bytes, at, pack::first_word(mark, five, a), 64, n);
-    bits::write_bits(bytes, at + n, pack::second_word(mark, a, b), 64, count - n);
+    let n = count.min(MARK + 3);
+    bits::write_bits(bytes, at, pack::first_word::<MARK>(five, a), 64, n);
+    bits::write_bits(
+        bytes,
+        at + n,
+        pack::second_word::<MARK>(a, b),
+        64,
+        count - n,
+    );
 }
 
 // The steps and their marks behind the last five bits of the front.
+fn write_entries<const MARK: usize>(
+    list: &[u16],
+    marks: &[u8],
+    head: u64,
+    size: usize,
+    bytes: &mut [u8],
+)
+    requires { (MARK ≤ 1) × ((k : ℕ) → get_or list.now k 0 < 1024) × (length list.now ≤ 32768) × (size ≡ sheet_size (suc MARK) (length list.now)) × (size ≤ length bytes.old) }
+    ensures { take size bytes.new ≡ take 6 bytes.old ++ packed (size - 6) (bits_of 5 head ++ step_bits (suc MARK) list.now marks.now) }
+{
+    let eights = list.len() / 8;
+    let mut five = head % 32;
+    let mut at: usize = 6;
+    for k in 0..eights {
+        let e = pack::eight_at::<MARK>(list, marks, 8 * k);
+        write_eight::<MARK>(bytes, at, five, e.first, e.second);
+        five = e.second % 32;
+        at += MARK + 10;
+    }
+    let a = pack::any_four::<MARK>(list, marks, 8 * eights);
+    let b = pack::any_four::<MARK>(list, marks, 8 * eights + 4);
+    write_last::<MARK>(bytes, at, size - at, five, a, b);
+}
+
+// The same where the bits of a mark are known when it runs.
 fn write_steps(list: &[u16], marks: &[u8], mark: usize, head: u64, size: usize, bytes: &mut [u8])
     requires { (mark ≤ 1) × ((k : ℕ) → get_or list.now k 0 < 1024) × (length list.now ≤ 32768) × (size ≡ sheet_size (suc mark) (length list.now)) × (size ≤ length bytes.old) }
     ensures { take size bytes.new ≡ take 6 bytes.old ++ packed (size - 6) (bits_of 5 head ++ step_bits (suc mark) list.now marks.now) }
 {
-    let mut five = head % 32;
-    let mut at: usize = 6;
-    let mut i: usize = 0;
-    while i + 8 <= list.len() {
-        let e = pack::eight_at(list, marks, mark, i);
-        write_eight(bytes, at, mark, five, e.first, e.second);
-        five = e.second % 32;
-        at += mark + 10;
-        i += 8;
+    if mark == 0 {
+        return write_entries::<0>(list, marks, head, size, bytes);
     }
-    let a = pack::any_four(list, marks, mark, i);
-    let b = pack::any_four(list, marks, mark, i + 4);
-    write_last(bytes, at, size - at, mark, five, a, b);
+    write_entries::<1>(list, marks, head, size, bytes);
 }
 
 // Writes the sheet of a list with its marks, an edition, a cost and a verdict: the count of its bytes, zeros behind it, and zeros throughout
@@ -62,15 +91,15 @@ pub fn write(
     cost: u32,
     real: bool,
     bytes: &mut [u8],
-) -> Number
+) -> Result<u32, Refusal>
     ensures result_value { value_of result ≡ write_call (sheet edition list.now marks.now cost real) (length bytes.old) }
     ensures bytes_after { bytes.new ≡ write_bytes (sheet edition list.now marks.now cost real) (length bytes.old) }
     ensures by_index { (n : ℕ) → value_of result ≡ done n → ReadsAs (take n bytes.new) (sheet edition list.now marks.now cost real) }
 {
-    let a = sheet::size_for(list, edition, bytes.len());
-    let Number::Value(n) = a else {
+    let answer = sheet::size_for(list, edition, bytes.len());
+    let Ok(n) = answer else {
         lists::clear(bytes);
-        return a;
+        return answer;
     };
     let size = n as usize;
     let mark = sheet::mark_width(edition);
@@ -78,5 +107,5 @@ pub fn write(
     bits::write_bits(bytes, 0, head, 53, 6);
     write_steps(list, marks, mark, head, size, bytes);
     lists::clear_from(bytes, size);
-    a
+    answer
 }
