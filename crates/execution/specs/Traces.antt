@@ -3,7 +3,7 @@ use Rattle.std.specs.Prelude.{◌≡◌, List, ℕ}
 use Rattle.planning.specs.Record.{Task}
 use Rattle.planning.specs.Runs.{State, real, black, act, initial, steps_run}
 use Rattle.planning.specs.Newest.{Values, red_black_steps, stops_in}
-use Rattle.sets.specs.Sets.{sets_of, values_of, red_black_of}
+use Rattle.sets.specs.Sets.{sets_of, values_of, mode_of, red_black_of}
 use Rattle.callers.specs.Callers.{Relaxes}
 use Rattle.execution.specs.declared.Trace.{Trace}
 
@@ -19,6 +19,7 @@ pub record RunsAs (t : Task) (l : List ℕ) (f : Values) (n : ℕ) : Type 0 wher
 
 -- 3.13: what a pass over the list l finds
 pub record Traces (t : Task) (l : List ℕ) (x : Trace) : Type 0 where
+  pub black_ones : mode_of x.paint ≡ black t
   pub painted : StopsAs t l (sets_of x.state.sets) (values_of x.state.newest.values) x.steps
   pub run_real : RunsAs t l (values_of x.state.newest.values) x.runs
   pub relaxed' : Relaxes t l (sets_of x.state.sets) x.steps

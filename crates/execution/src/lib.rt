@@ -8,9 +8,11 @@ ghost use Rattle.execution.specs.Traces.{Traces};
 use applying::RedBlack;
 use state::State;
 
-// Where the red-black run of a list stops: the values held and the newest ones there, how many steps run, and how many run for real.
+// Where the red-black run of a list stops: the black variables, the values held and the newest ones there, how many steps run, and how many
+// run for real.
 #[derive(Clone, Copy)]
 pub struct Trace {
+    pub paint: u64,
     pub state: State,
     pub steps: usize,
     pub runs: usize,
@@ -36,6 +38,7 @@ pub fn follow(task: &[u16], list: &[u16]) -> Trace
         };
         if runs <= k && !applying::applies(&shown, task, i) {
             return Trace {
+                paint,
                 state: s,
                 steps: k,
                 runs,
@@ -50,6 +53,7 @@ pub fn follow(task: &[u16], list: &[u16]) -> Trace
         s = s.step(task, i);
     }
     Trace {
+        paint,
         state: s,
         steps: list.len(),
         runs,

@@ -52,11 +52,11 @@ returns c =
     let h : c.loop-k.k ≡ length c.args.list.now = omega arith in
     let I = rw h at c.loop-k.invariant.following in
     let e = tracing_end _ _ _ _ _ _ I.traced (omega arith) in
-    record { painted = follows_painted _ _ _ _ _ _ I e.0; run_real = follows_real _ _ _ _ _ _ I e.0 _ e.1; relaxed' = follows_relaxed _ _ _ _ _ _ I e.0 }
+    record { black_ones = c.painted-paint.ensures; painted = follows_painted _ _ _ _ _ _ I e.0; run_real = follows_real _ _ _ _ _ _ I e.0 _ e.1; relaxed' = follows_relaxed _ _ _ _ _ _ I e.0 }
 
 pub returns-then-not-applies : goal.returns-then-not-applies
 returns-then-not-applies c =
     let I = c.loop-k.invariant.following in
     let fails = painted_by _ _ _ c.painted-paint.ensures c.applies.ensures c.if-not-applies.true in
     let e = tracing_stop _ _ c.requires.loaded.formed _ _ _ _ I.traced c.loop-k-test.true _ c.from-i.ensures _ c.further-runs.ensures c.if-runs-k.true fails in
-    record { painted = follows_painted _ _ _ _ _ _ I e.0; run_real = follows_real _ _ _ _ _ _ I e.0 _ e.1; relaxed' = follows_relaxed _ _ _ _ _ _ I e.0 }
+    record { black_ones = c.painted-paint.ensures; painted = follows_painted _ _ _ _ _ _ I e.0; run_real = follows_real _ _ _ _ _ _ I e.0 _ e.1; relaxed' = follows_relaxed _ _ _ _ _ _ I e.0 }
