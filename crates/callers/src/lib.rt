@@ -35,9 +35,10 @@ pub fn judge_at<S: Holding>(task: &[u16], list: &[u16], state: &S, steps: usize)
         };
     }
     let goals = Goals::load(task);
+    let held = applying::all_hold(state, goals.listed());
     Verdict {
         steps: steps as u32,
-        plan: applying::all_hold(state, goals.listed()),
+        plan: held,
     }
 }
 

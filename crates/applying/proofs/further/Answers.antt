@@ -1,11 +1,12 @@
 -- The step counts if it is the next one and applies; else the count stays.
 use mathlib.Core.Path.{sym, ◌∙◌}
+use native.Mathlib.Omega.{arith}
 use Rattle.applying.proofs.Running.{further_on, further_fails, further_stopped}
 use Rattle.applying.proofs.further.Goals as goal
 use Rattle.applying.proofs.further.Goals.{else-runs-steps-via-then-runs-steps+else-applies, else-runs-steps-via-else-runs-steps}
 
 pub returns-then-applies : goal.returns-then-applies
-returns-then-applies c = further_on _ _ _ c.if-runs-steps.true (sym c.applies.ensures ∙ c.if-applies.true)
+returns-then-applies c = further_on _ _ _ (omega arith) (sym c.applies.ensures ∙ c.if-applies.true)
 
 pub returns : goal.returns
 returns c =

@@ -1,5 +1,5 @@
 -- A list that stops before its end is no plan; of one that went to its end the goals tell.
-use mathlib.Core.Path.{refl, ap, ◌∙◌}
+use mathlib.Core.Path.{◌≡◌, refl, ap, ◌∙◌}
 use native.Mathlib.Omega.{arith}
 use borrow.Author.Tests.{eq-eqb, ne_eqb}
 use lib.ListN.{length}
@@ -12,12 +12,13 @@ pub returns-then-steps-list : goal.returns-then-steps-list
 unfolding judged_at
 returns-then-steps-list g c = rw (ne_eqb c.args.steps (length c.args.list.now) (λ e. omega arith)) refl
 
-pub all_hold-requires : goal.all_hold-requires
-all_hold-requires g c = rw c.listed.ensures (goals_states _ _ c.load-goals.ensures).small
+pub all_hold-held-requires : goal.all_hold-held-requires
+all_hold-held-requires g c = rw c.listed.ensures (goals_states _ _ c.load-goals.ensures).small
 
 pub returns : goal.returns
 unfolding judged_at
 returns g c =
     let s = g.S.Holding.state c.args.state.now in
-    let e = c.all_hold.ensures ∙ ap (holds s) (rw c.listed.ensures (goals_states _ _ c.load-goals.ensures).stated) in
-    rw (eq-eqb c.args.steps (length c.args.list.now) (omega arith), e) refl
+    let whole : c.args.steps ≡ length c.args.list.now = omega arith in
+    let e = c.all_hold-held.ensures ∙ ap (holds s) (rw c.listed.ensures (goals_states _ _ c.load-goals.ensures).stated) in
+    rw (eq-eqb c.args.steps (length c.args.list.now) whole, e) refl
