@@ -2,7 +2,7 @@
 use mathlib.Core.Path.{◌≡◌}
 use mathlib.Core.Logic.{◌⊎◌, inl, inr, ◌≢◌}
 use mathlib.Core.Bool.{true, false, not, ◌&&◌}
-use Prim.Native.Nat.{ℕ, ◌+◌, ◌-◌, ◌<◌}
+use Prim.Native.Nat.{ℕ, ◌+◌, ◌<◌}
 use native.Mathlib.Omega.{arith}
 use native.Mathlib.Decide.{ℕ_discrete}
 use lib.Dec.{T, T_not, not_T, eqb, eqb→eq, eqb_refl}
@@ -49,14 +49,14 @@ module _ (t : Task) (F : Formed t) where
       some_intro (actions t) (returns_by t m' v d) j r.1 (and_i (has (reduced_effects (act t j)) v d) (holds m' (act t j).pre) c q)
 
   -- an action whose marks allow a return to every value is complete
-  pub complete_of : (m : State) (v e j n : ℕ) → j < actions t → ((u x : ℕ) → u < variables t → x < 64 → T (m u x) → T (has (act t j).pre u x))
-      → returned t m v e ≡ true → n ≡ count t v → unreturned_from t m v e 0 (n - 0) ≡ false → Complete t v j
-  complete_of m v e j n b less own q rest = record { below = b; each = λ d h. returned_more m (has (act t j).pre) less v d (go d h (ℕ_discrete d e) (T_cases (returned t m v d))) }
+  pub complete_of : (m : State) (v e j : ℕ) → j < actions t → ((u x : ℕ) → u < variables t → x < 64 → T (m u x) → T (has (act t j).pre u x))
+      → returned t m v e ≡ true → unreturned_from t m v e 0 (count t v) ≡ false → Complete t v j
+  complete_of m v e j b less own rest = record { below = b; each = λ d h. returned_more m (has (act t j).pre) less v d (go d h (ℕ_discrete d e) (T_cases (returned t m v d))) }
     where
       go : (d : ℕ) → d < count t v → Dec (d ≡ e) → T (returned t m v d) ⊎ T (not (returned t m v d)) → T (returned t m v d)
       go d h y (inl r) = r
       go d h (yes y) (inr r) = rw y (true→T (returned t m v e) own)
-      go d h (no y) (inr r) = let z : 0 + d ≡ d = omega arith in absurd (false→F (unreturned_from t m v e 0 (n - 0)) rest (from_in t m v e 0 (n - 0) d (omega arith) (rw z y) (rw z r)))
+      go d h (no y) (inr r) = let z : 0 + d ≡ d = omega arith in absurd (false→F (unreturned_from t m v e 0 (count t v)) rest (from_in t m v e 0 (count t v) d h (rw z y) (rw z r)))
 
   -- with its preconditions marked, no value lacks its return
   pub complete_covers : (m : State) (v e j : ℕ) → Complete t v j → holds m (act t j).pre ≡ true → unreturned_from t m v e 0 (count t v) ≡ false

@@ -2,64 +2,58 @@
 use mathlib.Core.Path.{◌≡◌, refl, ◌∙◌}
 use mathlib.Core.Bool.{true, false}
 use mathlib.Core.List.{List}
-use Prim.Native.Nat.{ℕ, ◌+◌, ◌-◌, ◌*◌, ◌/◌, ◌%◌, ◌<◌, ◌≤◌}
+use Prim.Native.Nat.{ℕ, ◌+◌, ◌<◌, ◌≤◌}
 use native.Mathlib.Omega.{arith}
 use native.Mathlib.Decide.{ℕ_discrete}
-use lib.ListN.{get_or, set, replicate, length-set, length-replicate, get_or-replicate}
+use lib.ListN.{length, get_or, set, replicate, length-set, length-replicate, get_or-replicate}
 use lib.Seq.{get_or-set_same, get_or-set_other}
+use Rattle.std.specs.Prelude.{Option, None, Some, IfSome}
 use Rattle.planning.specs.Record.{Task}
 use Rattle.planning.specs.Runs.{actions, act, count}
-use Rattle.laws.proofs.Formed.{Formed}
-use Rattle.task.specs.Task.{facts_in, pre_at, eff_at, task_in, Loaded}
-use Rattle.sets.proofs.Facts.{pre_facts}
+use Rattle.task.specs.Task.{facts_of, task_in, Loaded}
 use Rattle.returns.specs.Returns.{mark_all, marked, returned}
 use Rattle.lacking.specs.Lacking.{Unmarked, unreturned_from, Complete, Kept, Ready}
+use Rattle.lacking.specs.declared.Allowing.{Allowing}
 use Rattle.lacking.proofs.Marked.{needs_small, unmarked_all, marks_others, unmarked_more}
 use Rattle.lacking.proofs.Complete.{complete_of}
 
-pub ready_start : (t : Task) (marks : List ℕ) → Unmarked t 0 marks → Ready t 0 marks (replicate 32 65536)
+pub ready_start : (t : Task) (marks : List ℕ) → Unmarked t 0 marks → Ready t 0 marks (replicate 32 None)
 ready_start t marks U = record {
   unmarked = U;
   complete = record {
-    long = length-replicate {A = ℕ} 32 65536;
-    each = λ s h l. absurd (omega (arith, get_or-replicate {A = ℕ} 32 s 65536 0 h));
+    long = length-replicate {A = Option Allowing} 32 None;
+    each = λ s h. rw (get_or-replicate {A = Option Allowing} 32 s None None h) tt;
   };
 }
 
-pub ready_more : (t : Task) (own k : ℕ) (marks kept : List ℕ) → Ready t own marks kept → own ≤ k → Ready t k marks kept
+pub ready_more : (t : Task) (own k : ℕ) (marks : List ℕ) (kept : List (Option Allowing)) → Ready t own marks kept → own ≤ k → Ready t k marks kept
 ready_more t own k marks kept R l = record { unmarked = unmarked_more t own k marks R.unmarked l; complete = R.complete }
 
 -- one more is kept
-pub kept_more : (t : Task) → Formed t → (kept : List ℕ) → Kept t kept → (s v j : ℕ) → s < 32 → Complete t v j → Kept t (set kept s (v * 1024 + j))
-kept_more t F kept K s v j h C = record { long = length-set kept s (v * 1024 + j) ∙ K.long; each = λ k b l. go k b l (ℕ_discrete k s) }
+pub kept_more : (t : Task) (kept : List (Option Allowing)) → Kept t kept → (s : ℕ) (a : Allowing) → s < 32 → Complete t a.variable a.action → Kept t (set kept s (Some a))
+kept_more t kept K s a h C = record { long = length-set kept s (Some a) ∙ K.long; each = λ k b. go k b (ℕ_discrete k s) }
   where
-    go : (k : ℕ) → k < 32 → get_or (set kept s (v * 1024 + j)) k 0 / 1024 < 64 → Dec (k ≡ s) → Complete t (get_or (set kept s (v * 1024 + j)) k 0 / 1024) (get_or (set kept s (v * 1024 + j)) k 0 % 1024)
-    go k b l (yes e) =
-        let p : j < 1024 = omega (arith, C.below, F.actions_max) in
-        let x : (v * 1024 + j) / 1024 ≡ v = omega arith in
-        let y : (v * 1024 + j) % 1024 ≡ j = omega arith in
-        rw (e, get_or-set_same kept s (v * 1024 + j) 0 (omega (arith, K.long)), x, y) C
-    go k b l (no e) = let x = get_or-set_other kept s k (v * 1024 + j) 0 e in rw x (K.each k b (rw x at l))
+    go : (k : ℕ) → k < 32 → Dec (k ≡ s) → IfSome (get_or (set kept s (Some a)) k None) (λ a. Complete t a.variable a.action)
+    go k b (yes e) = rw (e, get_or-set_same kept s (Some a) None (omega (arith, K.long))) C
+    go k b (no e) = rw (get_or-set_other kept s k (Some a) None e) (K.each k b)
 
--- what stands at s for the variable of f
-pub kept_at : (t : Task) (kept : List ℕ) → Kept t kept → (s c f : ℕ) → s < 32 → c ≡ get_or kept s 0 → f < 4096 → c / 1024 ≡ f / 64 → Complete t (f / 64) (c % 1024)
-kept_at t kept K s c f h e b q =
-    let C = K.each s h (omega arith) in
-    let x : get_or kept s 0 / 1024 ≡ f / 64 = omega arith in
-    rw (← x, e) C
+-- what stands at s
+pub kept_at : (t : Task) (kept : List (Option Allowing)) → Kept t kept → (s : ℕ) (a : Allowing) → s < length kept → get_or kept s None ≡ Some a
+    → (w v j : ℕ) → w ≡ a.variable → w ≡ v → j ≡ a.action → Complete t v j
+kept_at t kept K s a h e w v j ew ev ej = rw (← ev, ew, ej) (rw e at (K.each s (omega (arith, K.long))))
 
 -- action j is tried: its preconditions are marked, and nothing else
 module _ (task : List ℕ) (L : Loaded task) (j : ℕ) (h : j < actions (task_in task)) (own : ℕ) (b : own < 65535) (marks : List ℕ) (U : Unmarked (task_in task) own marks) where
-  module _ (x y : ℕ) (ex : x ≡ pre_at task j) (ey : y ≡ eff_at task j) (marks' : List ℕ) (same : marks' ≡ mark_all own 4096 (facts_in task x y) marks) where
-    own_marks : marks' ≡ mark_all own 4096 (act (task_in task) j).pre marks
-    own_marks = same ∙ rw (ex, ey, pre_facts task L j h) refl
+  module _ (facts : List ℕ) (e : facts_of facts ≡ (act (task_in task) j).pre) (marks' : List ℕ) (same : marks' ≡ mark_all own None (facts_of facts) marks) where
+    own_marks : marks' ≡ mark_all own None (act (task_in task) j).pre marks
+    own_marks = same ∙ rw e refl
 
     pub tried_unmarked : Unmarked (task_in task) (own + 1) marks'
-    tried_unmarked = rw own_marks (unmarked_all (task_in task) own 4096 (act (task_in task) j).pre marks (needs_small (task_in task) L.formed j)
+    tried_unmarked = rw own_marks (unmarked_all (task_in task) own None (act (task_in task) j).pre marks (needs_small (task_in task) L.formed j)
         (unmarked_more (task_in task) own (own + 1) marks U (omega arith)))
 
-    pub tried_complete : (v e n : ℕ) → returned (task_in task) (marked own marks') v e ≡ true → n ≡ count (task_in task) v
-        → unreturned_from (task_in task) (marked own marks') v e 0 (n - 0) ≡ false → Complete (task_in task) v j
-    tried_complete v e n r q z = complete_of (task_in task) L.formed (marked own marks') v e j n h (λ u w c d g.
-        marks_others (task_in task) own 4096 (act (task_in task) j).pre marks (needs_small (task_in task) L.formed j) b U u w c d
-        (λ k. omega (arith, c, L.formed.variables_max)) (rw own_marks at g)) r q z
+    pub tried_complete : (v e : ℕ) → returned (task_in task) (marked own marks') v e ≡ true
+        → unreturned_from (task_in task) (marked own marks') v e 0 (count (task_in task) v) ≡ false → Complete (task_in task) v j
+    tried_complete v e r z = complete_of (task_in task) L.formed (marked own marks') v e j h (λ u w c d g.
+        marks_others (task_in task) own (act (task_in task) j).pre marks (needs_small (task_in task) L.formed j) b U None u w c d
+        (λ f k. let y : ◌≡◌ {A = ℕ} 0 1 = cc in absurd (omega arith)) (rw own_marks at g)) r z

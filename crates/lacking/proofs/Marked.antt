@@ -11,6 +11,7 @@ use borrow.Author.Tests.{eq-eqb, ne_eqb}
 use lib.Dec.{T, eqb, eqb→eq, eqb_refl}
 use lib.ListN.{length, get_or, set, replicate, length-set, length-replicate, get_or-replicate}
 use lib.Seq.{get_or-set_same, get_or-set_other}
+use Rattle.std.specs.Prelude.{Option, None, Some}
 use Rattle.planning.specs.Record.{Fact, Task}
 use Rattle.planning.specs.Runs.{State, has, variables, act, count}
 use Rattle.laws.proofs.Tests.{or_l, or_r, or_cases}
@@ -18,7 +19,7 @@ use Rattle.laws.proofs.Facts.{has_here, has_there, has_nil, has_cases}
 use Rattle.laws.proofs.Formed.{Formed, Sorted}
 use Rattle.returns.specs.Returns.{place, mark_all, marked, Spans}
 use Rattle.lacking.specs.Lacking.{Unmarked}
-use Rattle.returns.proofs.Marks.{place_own, place_other, place_inside}
+use Rattle.returns.proofs.Marks.{place_none, place_own, place_other, place_inside}
 
 -- variables below n, values below 64
 abbrev pub Small : ℕ → List Fact → Type 0
@@ -34,11 +35,11 @@ pub needs_small : (t : Task) → Formed t → (i : ℕ) → Small (variables t) 
 needs_small t F i = sorted_small (variables t) (count t) F.count_max 0 (act t i).pre (F.pre_sorted i)
 
 -- some fact of the list is marked at p
-placed : ℕ → List Fact → ℕ → Bool
+placed : Option ℕ → List Fact → ℕ → Bool
 placed f [] p = false
 placed f (g ∷ gs) p = eqb p (place f (64 * g.var + g.val)) || placed f gs p
 
-module _ (t : Task) (i f : ℕ) where
+module _ (t : Task) (i : ℕ) (f : Option ℕ) where
   unmarked_set : (marks : List ℕ) (p : ℕ) → p < 64 * variables t → Unmarked t (i + 1) marks → Unmarked t (i + 1) (set marks p i)
   unmarked_set marks p b U = record {
     long = rw (length-set marks p i) U.long;
@@ -78,7 +79,7 @@ module _ (t : Task) (i f : ℕ) where
       go (no e) = rw (ne_eqb p q e, get_or-set_other marks q p i 0 e) refl
 
 -- what is marked
-module _ (f : ℕ) where
+module _ (f : Option ℕ) where
   placed_elim : (fs : List Fact) (p : ℕ) → T (placed f fs p) → (u : ℕ) × (x : ℕ) × T (has fs u x) × (p ≡ place f (64 * u + x))
   unfolding placed
   placed_elim [] p h = absurd h
@@ -112,55 +113,63 @@ pub record Allows (n v e : ℕ) (fs : List Fact) (m : State) : Type 0 where
   pub other : (u x : ℕ) → u ≢ v → T (has fs u x) → T (m u x)
   pub others : (u x : ℕ) → u < n → x < 64 → u ≢ v → T (m u x) → T (has fs u x)
 
-module _ (t : Task) (i f : ℕ) (fs : List Fact) (marks : List ℕ) (S : Small (variables t) fs) (b : i < 65535) (U : Unmarked t i marks) where
+-- the variable u is not that of the move
+abbrev Apart : Option ℕ → ℕ → Type 0
+Apart o u = (f : ℕ) → o ≡ Some f → u ≢ f / 64
+
+-- the facts of such a variable are marked where they stand
+place_back : (o : Option ℕ) (u x g : ℕ) → x < 64 → Apart o u → 64 * u + x ≡ place o g → g ≡ 64 * u + x
+place_back None u x g b a e = sym (e ∙ place_none g)
+place_back (Some f) u x g b a e = go (ℕ_discrete (g / 64) (f / 64))
+  where
+    go : Dec (g / 64 ≡ f / 64) → g ≡ 64 * u + x
+    go (yes y) = absurd (a f refl (omega (arith, place_own f g y)))
+    go (no n) = omega (arith, place_other f g n)
+
+module _ (t : Task) (i : ℕ) (fs : List Fact) (marks : List ℕ) (S : Small (variables t) fs) (b : i < 65535) (U : Unmarked t i marks) where
   -- nothing was marked i before
   fresh : (p : ℕ) → p < 64 * variables t → T (eqb (get_or marks p 0) i) → ⊥
   fresh p c t = let q = eqb→eq (get_or marks p 0) i t in elim (U.before p c) [ inl k ↦ omega arith | inr k ↦ omega arith ]
 
-  find : (u x : ℕ) → u < variables t → x < 64 → T (marked i (mark_all i f fs marks) u x) → T (placed f fs (64 * u + x))
+  find : (o : Option ℕ) (u x : ℕ) → u < variables t → x < 64 → T (marked i (mark_all i o fs marks) u x) → T (placed o fs (64 * u + x))
   unfolding marked
-  find u x ub xb m = elim (or_cases (placed f fs (64 * u + x)) (eqb (get_or marks (64 * u + x) 0) i) (subst T (marks_at_lem t i f fs marks S U.long (64 * u + x)) m)) [
+  find o u x ub xb m = elim (or_cases (placed o fs (64 * u + x)) (eqb (get_or marks (64 * u + x) 0) i) (subst T (marks_at_lem t i o fs marks S U.long (64 * u + x)) m)) [
     | inl k ↦ k
     | inr k ↦ absurd (fresh (64 * u + x) (omega arith) k)
   ]
 
-  -- on variables other than that of f the facts themselves are marked
-  pub marks_others : (u x : ℕ) → u < variables t → x < 64 → u ≢ f / 64 → T (marked i (mark_all i f fs marks) u x) → T (has fs u x)
-  marks_others u x ub c n m = found (placed_elim f fs (64 * u + x) (find u x ub c m))
-    where
-      found : (w : ℕ) × (y : ℕ) × T (has fs w y) × (64 * u + x ≡ place f (64 * w + y)) → T (has fs u x)
-      found r = pick (ℕ_discrete ((64 * r.0 + r.1) / 64) (f / 64))
-        where
-          pick : Dec ((64 * r.0 + r.1) / 64 ≡ f / 64) → T (has fs u x)
-          pick (yes e) = absurd (n (omega (arith, r.3, place_own f (64 * r.0 + r.1) e)))
-          pick (no e) =
-              let b = small_has (variables t) fs S r.0 r.1 r.2 in
-              let p : r.0 ≡ u = omega (arith, b.1, r.3, place_other f (64 * r.0 + r.1) e) in
-              let q : r.1 ≡ x = omega (arith, b.1, r.3, place_other f (64 * r.0 + r.1) e) in
-              subst (λ (z : ℕ). T (has fs u z)) q (subst (λ (z : ℕ). T (has fs z r.1)) p r.2)
+  -- on variables other than that of the move the facts themselves are marked
+  pub marks_others : (o : Option ℕ) (u x : ℕ) → u < variables t → x < 64 → Apart o u → T (marked i (mark_all i o fs marks) u x) → T (has fs u x)
+  marks_others o u x ub c a m =
+      let r = placed_elim o fs (64 * u + x) (find o u x ub c m) in
+      let b = small_has (variables t) fs S r.0 r.1 r.2 in
+      let e = place_back o u x (64 * r.0 + r.1) c a r.3 in
+      let p : r.0 ≡ u = omega (arith, b.1) in
+      let q : r.1 ≡ x = omega (arith, b.1) in
+      subst (λ (z : ℕ). T (has fs u z)) q (subst (λ (z : ℕ). T (has fs z r.1)) p r.2)
 
-  pub marks_allow : T (has fs (f / 64) (f % 64)) → Allows (variables t) (f / 64) (f % 64) fs (marked i (mark_all i f fs marks))
+  pub marks_allow : (f : ℕ) → T (has fs (f / 64) (f % 64)) → Allows (variables t) (f / 64) (f % 64) fs (marked i (mark_all i (Some f) fs marks))
   unfolding marked
-  marks_allow h = record {
-    own = mark_of (f / 64) (f % 64) (subst (λ (p : ℕ). T (placed f fs p)) own_place (placed_intro f fs (f / 64) (f % 64) h));
-    only = λ x c m. only_own x c (find (f / 64) x (small_has (variables t) fs S (f / 64) (f % 64) h).0 c m);
-    other = λ u x n g. mark_of u x (subst (λ (p : ℕ). T (placed f fs p)) (place_other f (64 * u + x) (λ e. n (away u x (small_has (variables t) fs S u x g).1 e))) (placed_intro f fs u x g));
-    others = marks_others;
+  marks_allow f h = record {
+    own = mark_of (f / 64) (f % 64) (subst (λ (p : ℕ). T (placed (Some f) fs p)) own_place (placed_intro (Some f) fs (f / 64) (f % 64) h));
+    only = λ x c m. only_own x c (find (Some f) (f / 64) x (small_has (variables t) fs S (f / 64) (f % 64) h).0 c m);
+    other = λ u x n g. mark_of u x (subst (λ (p : ℕ). T (placed (Some f) fs p)) (place_other f (64 * u + x) (λ e. n (away u x (small_has (variables t) fs S u x g).1 e))) (placed_intro (Some f) fs u x g));
+    others = λ u x ub c n m. marks_others (Some f) u x ub c (λ g e. let z : f ≡ g = cc in rw (← z) n) m;
   }
     where
-      own_place : place f (64 * (f / 64) + f % 64) ≡ 64 * (f / 64) + f % 64
+      own_place : place (Some f) (64 * (f / 64) + f % 64) ≡ 64 * (f / 64) + f % 64
       own_place = let q : 64 * (f / 64) + f % 64 ≡ f = omega arith in rw q (place_own f f refl)
 
       away : (u x : ℕ) → x < 64 → (64 * u + x) / 64 ≡ f / 64 → u ≡ f / 64
       away u x c e = omega arith
 
-      mark_of : (u x : ℕ) → T (placed f fs (64 * u + x)) → T (eqb (get_or (mark_all i f fs marks) (64 * u + x) 0) i)
-      mark_of u x m = subst T (sym (marks_at_lem t i f fs marks S U.long (64 * u + x))) (or_l (placed f fs (64 * u + x)) (eqb (get_or marks (64 * u + x) 0) i) m)
+      mark_of : (u x : ℕ) → T (placed (Some f) fs (64 * u + x)) → T (eqb (get_or (mark_all i (Some f) fs marks) (64 * u + x) 0) i)
+      mark_of u x m = subst T (sym (marks_at_lem t i (Some f) fs marks S U.long (64 * u + x))) (or_l (placed (Some f) fs (64 * u + x)) (eqb (get_or marks (64 * u + x) 0) i) m)
 
-      only_own : (x : ℕ) → x < 64 → T (placed f fs (64 * (f / 64) + x)) → x ≡ f % 64
-      only_own x c m = go (placed_elim f fs (64 * (f / 64) + x) m)
+      only_own : (x : ℕ) → x < 64 → T (placed (Some f) fs (64 * (f / 64) + x)) → x ≡ f % 64
+      only_own x c m = go (placed_elim (Some f) fs (64 * (f / 64) + x) m)
         where
-          go : (u : ℕ) × (y : ℕ) × T (has fs u y) × (64 * (f / 64) + x ≡ place f (64 * u + y)) → x ≡ f % 64
+          go : (u : ℕ) × (y : ℕ) × T (has fs u y) × (64 * (f / 64) + x ≡ place (Some f) (64 * u + y)) → x ≡ f % 64
           go r = pick (ℕ_discrete ((64 * r.0 + r.1) / 64) (f / 64))
             where
               pick : Dec ((64 * r.0 + r.1) / 64 ≡ f / 64) → x ≡ f % 64

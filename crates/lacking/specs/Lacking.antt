@@ -1,10 +1,11 @@
 -- Arcs that lack their return. Action i marks with 2 × i; an action that it tries for keeping marks with 2 × i + 1.
-use Rattle.std.specs.Prelude.{◌≡◌, ◌⊎◌, Bool, not, ◌&&◌, List, ℕ, ◌+◌, ◌*◌, ◌/◌, ◌%◌, ◌<◌, T, eqb, length, get_or}
-use Rattle.std.proofs.Math.Option.{Option, none, some}
+use Rattle.std.specs.Prelude.{◌≡◌, ◌⊎◌, Bool, not, ◌&&◌, List, Option, None, IfSome, ℕ, ◌+◌, ◌*◌, ◌/◌, ◌%◌, ◌<◌, T, eqb, length, get_or}
+use Rattle.std.proofs.Math.Option as math
 use Rattle.planning.specs.Basics.{some_below}
 use Rattle.planning.specs.Record.{Task}
 use Rattle.planning.specs.Runs.{State, has, look, variables, actions, act, count}
 use Rattle.returns.specs.Returns.{Spans, returned}
+use Rattle.lacking.specs.declared.Allowing.{Allowing}
 
 -- no fact has a mark from i on; 65,535 is none
 pub record Unmarked (t : Task) (i : ℕ) (marks : List ℕ) : Type 0 where
@@ -16,9 +17,9 @@ unfoldable pub unreturned_from : Task → State → ℕ → ℕ → ℕ → ℕ 
 unreturned_from t m v e a n = some_below n (λ k. not (eqb (a + k) e) && not (returned t m v (a + k)))
 
 -- of action i, which changes v to e, the arc from the value needed, or the arcs from every value
-abbrev pub arcs_by : Option ℕ → Task → State → ℕ → ℕ → Bool
-arcs_by none t m v e = unreturned_from t m v e 0 (count t v)
-arcs_by (some d) t m v e = unreturned_from t m v e d 1
+abbrev pub arcs_by : math.Option ℕ → Task → State → ℕ → ℕ → Bool
+arcs_by math.none t m v e = unreturned_from t m v e 0 (count t v)
+arcs_by (math.some d) t m v e = unreturned_from t m v e d 1
 
 unfoldable pub lacks_by : Task → State → ℕ → ℕ → ℕ → Bool
 lacks_by t m i v e = arcs_by (look (act t i).pre v) t m v e
@@ -32,12 +33,12 @@ pub record Complete (t : Task) (v j : ℕ) : Type 0 where
   pub below : j < actions t
   pub each : (d : ℕ) → d < count t v → T (returned t (has (act t j).pre) v d)
 
--- what is kept as 1,024 × variable + action is complete
-pub record Kept (t : Task) (kept : List ℕ) : Type 0 where
+-- what is kept is complete
+pub record Kept (t : Task) (kept : List (Option Allowing)) : Type 0 where
   pub long : length kept ≡ 32
-  pub each : (s : ℕ) → s < 32 → get_or kept s 0 / 1024 < 64 → Complete t (get_or kept s 0 / 1024) (get_or kept s 0 % 1024)
+  pub each : (s : ℕ) → s < 32 → IfSome (get_or kept s None) (λ a. Complete t a.variable a.action)
 
 -- what one action leaves for the next: no fact is marked from `own` on, and what is kept is complete
-pub record Ready (t : Task) (own : ℕ) (marks kept : List ℕ) : Type 0 where
+pub record Ready (t : Task) (own : ℕ) (marks : List ℕ) (kept : List (Option Allowing)) : Type 0 where
   pub unmarked : Unmarked t own marks
   pub complete : Kept t kept
