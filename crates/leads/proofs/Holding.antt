@@ -4,49 +4,48 @@ use mathlib.Core.Logic.{◌⊎◌, inl, inr}
 use mathlib.Core.Bool.{Bool, true, false, not, ◌&&◌, ◌||◌}
 use mathlib.Core.List.{List, [], ◌∷◌}
 use Prim.Native.Nat.{ℕ, ◌+◌, ◌/◌, ◌%◌, ◌<◌, ◌≤◌}
-use native.Mathlib.Omega.{arith}
 use lib.Dec.{T}
-use lib.ListN.{length, get_or}
+use lib.ListN.{length, get_or, drop}
 use Rattle.planning.specs.Record.{Fact, Task}
 use Rattle.planning.specs.Runs.{State, Mode, has, relaxed, step, actions, act}
 use Rattle.planning.specs.Repair.{black_met}
 use Rattle.laws.proofs.Facts.{has_nil, has_cases}
 use Rattle.laws.proofs.Steps.{step_keep, step_cases}
 use Rattle.laws.proofs.Tests.{true→T, and_l, and_r}
-use Rattle.task.specs.Task.{fact_of, facts_in}
+use Rattle.task.specs.Task.{fact_of, facts_of}
 use Rattle.sets.specs.Sets.{mode_of}
-use Rattle.sets.proofs.Effects.{facts_in_cons, facts_in_none}
+use Rattle.sets.proofs.Slices.{facts_of_drop, facts_of_end}
 use Rattle.paths.specs.Paths.{Memo, Covers}
 use Rattle.paths.proofs.Needing.{memo_same}
 
 -- one turn of a loop over facts, and its end
-module _ (l : List ℕ) (k to : ℕ) (h : k < to) (b : to ≤ length l) (m : Mode) (s : State) (f : ℕ) (ef : f ≡ get_or l k 0) where
+module _ (l : List ℕ) (k : ℕ) (h : k < length l) (m : Mode) (s : State) (f : ℕ) (ef : f ≡ get_or l k 0) where
   abbrev rest : Bool
-  rest = black_met m s (facts_in l (k + 1) to)
+  rest = black_met m s (facts_of (drop (k + 1) l))
 
-  met_cons : black_met m s (facts_in l k to) ≡ ((not (m (f / 64)) || s (f / 64) (f % 64)) && rest)
+  met_cons : black_met m s (facts_of (drop k l)) ≡ ((not (m (f / 64)) || s (f / 64) (f % 64)) && rest)
   unfolding black_met fact_of
-  met_cons = rw (facts_in_cons l k to h b, ← ef) refl
+  met_cons = rw (facts_of_drop l k h, ← ef) refl
 
-  pub met_fails : (m (f / 64) && not (s (f / 64) (f % 64))) ≡ true → black_met m s (facts_in l k to) ≡ false
+  pub met_fails : (m (f / 64) && not (s (f / 64) (f % 64))) ≡ true → black_met m s (facts_of (drop k l)) ≡ false
   met_fails a = met_cons ∙ go (m (f / 64)) (s (f / 64) (f % 64)) rest a
     where
       go : (x y z : Bool) → (x && not y) ≡ true → ((not x || y) && z) ≡ false
-      go true true z e = let q : ◌≡◌ {A = ℕ} 0 1 = cc in absurd (omega arith)
+      go true true z e = absurd (cc)
       go true false z e = refl
-      go false y z e = let q : ◌≡◌ {A = ℕ} 0 1 = cc in absurd (omega arith)
+      go false y z e = absurd (cc)
 
-  pub met_passes : (m (f / 64) && not (s (f / 64) (f % 64))) ≡ false → black_met m s (facts_in l k to) ≡ rest
+  pub met_passes : (m (f / 64) && not (s (f / 64) (f % 64))) ≡ false → black_met m s (facts_of (drop k l)) ≡ rest
   met_passes a = met_cons ∙ go (m (f / 64)) (s (f / 64) (f % 64)) rest a
     where
       go : (x y z : Bool) → (x && not y) ≡ false → ((not x || y) && z) ≡ z
       go true true z e = refl
-      go true false z e = let q : ◌≡◌ {A = ℕ} 0 1 = cc in absurd (omega arith)
+      go true false z e = absurd (cc)
       go false y z e = refl
 
-pub met_end : (l : List ℕ) (k to : ℕ) (m : Mode) (s : State) → k ≡ to → black_met m s (facts_in l k to) ≡ true
+pub met_end : (l : List ℕ) (k : ℕ) (m : Mode) (s : State) → length l ≤ k → black_met m s (facts_of (drop k l)) ≡ true
 unfolding black_met
-met_end l k to m s e = rw (facts_in_none l k to e) refl
+met_end l k m s h = rw (facts_of_end l k h) refl
 
 -- a black fact that is not held
 pub unmet_black : (b h x : Bool) → h ≡ x → b ≡ true → not h ≡ (b && not x)

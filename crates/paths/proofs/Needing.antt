@@ -10,7 +10,7 @@ use native.Mathlib.Omega.{arith}
 use native.Mathlib.Decide.{dec_lt}
 use lib.Bits.{bit_or}
 use lib.Dec.{T, eqb, eqb→eq}
-use lib.ListN.{length, get_or}
+use lib.ListN.{length, get_or, drop}
 use Rattle.planning.specs.Record.{Fact, Action, Task}
 use Rattle.planning.specs.Runs.{State, has, touches, look, holds, actions, count, act, black}
 use Rattle.planning.specs.Painting.{reduced_effects, target, fits, leaves, arc_from}
@@ -19,41 +19,42 @@ use Rattle.laws.proofs.Facts.{◌⊆◌, has_nil, has→touches, look_some, hold
 use Rattle.laws.proofs.Arcs.{reduced_elim}
 use Rattle.laws.proofs.Fields.{act_past}
 use Rattle.laws.proofs.Tests.{bool_same, or_l, or_r, or_cases, and_l, and_r, and_i}
-use Rattle.task.specs.Task.{fact_of, facts_in}
+use Rattle.task.specs.Task.{fact_of, facts_of}
 use Rattle.sets.specs.Sets.{in_set}
-use Rattle.sets.proofs.Effects.{facts_in_cons, facts_in_none}
+use Rattle.sets.proofs.Slices.{facts_of_drop, facts_of_end}
 use Rattle.sets.proofs.Members.{in_set_or, in_set_single}
 use Rattle.paths.specs.Paths.{lead_of, lead_to, unknown, slot, lead_in, Memo, any_black, Covers}
 
 -- one turn of a loop over facts, and its end
-module _ (l : List ℕ) (k to : ℕ) (h : k < to) (b : to ≤ length l) (f : ℕ) (ef : f ≡ get_or l k 0) where
-  any_cons : (t : Task) → any_black t (facts_in l k to) ≡ (black t (f / 64) || any_black t (facts_in l (k + 1) to))
+module _ (l : List ℕ) (k : ℕ) (h : k < length l) (f : ℕ) (ef : f ≡ get_or l k 0) where
+  any_cons : (t : Task) → any_black t (facts_of (drop k l)) ≡ (black t (f / 64) || any_black t (facts_of (drop (k + 1) l)))
   unfolding any_black fact_of
-  any_cons t = rw (facts_in_cons l k to h b, ← ef) refl
+  any_cons t = rw (facts_of_drop l k h, ← ef) refl
 
-  pub any_here : (t : Task) → black t (f / 64) ≡ true → any_black t (facts_in l k to) ≡ true
+  pub any_here : (t : Task) → black t (f / 64) ≡ true → any_black t (facts_of (drop k l)) ≡ true
   any_here t e = any_cons t ∙ rw e refl
 
-  pub any_later : (t : Task) → black t (f / 64) ≡ false → any_black t (facts_in l k to) ≡ any_black t (facts_in l (k + 1) to)
+  pub any_later : (t : Task) → black t (f / 64) ≡ false → any_black t (facts_of (drop k l)) ≡ any_black t (facts_of (drop (k + 1) l))
   any_later t e = any_cons t ∙ rw e refl
 
-  touches_cons : (v : ℕ) → touches (facts_in l k to) v ≡ (eqb v (f / 64) || touches (facts_in l (k + 1) to) v)
+  touches_cons : (v : ℕ) → touches (facts_of (drop k l)) v ≡ (eqb v (f / 64) || touches (facts_of (drop (k + 1) l)) v)
   unfolding touches fact_of
-  touches_cons v = rw (facts_in_cons l k to h b, ← ef) refl
+  touches_cons v = rw (facts_of_drop l k h, ← ef) refl
 
   -- the fact's variable joins the set
-  pub joined : (m x v : ℕ) → x ≡ 2 ^ (f / 64) → (in_set m v || touches (facts_in l k to) v) ≡ (in_set (bit_or m x) v || touches (facts_in l (k + 1) to) v)
+  pub joined : (m x v : ℕ) → x ≡ 2 ^ (f / 64) → (in_set m v || touches (facts_of (drop k l)) v) ≡ (in_set (bit_or m x) v || touches (facts_of (drop (k + 1) l)) v)
   joined m x v e =
       rw (touches_cons v, in_set_or m x v, e, in_set_single (f / 64) v)
-      (sym (or_assoc (in_set m v) (eqb v (f / 64)) (touches (facts_in l (k + 1) to) v)))
+      (sym (or_assoc (in_set m v) (eqb v (f / 64)) (touches (facts_of (drop (k + 1) l)) v)))
 
-pub any_end : (t : Task) (l : List ℕ) (k to : ℕ) → k ≡ to → any_black t (facts_in l k to) ≡ false
-unfolding any_black
-any_end t l k to e = rw (facts_in_none l k to e) refl
+module _ (l : List ℕ) (k : ℕ) (h : length l ≤ k) where
+  pub any_end : (t : Task) → any_black t (facts_of (drop k l)) ≡ false
+  unfolding any_black
+  any_end t = rw (facts_of_end l k h) refl
 
-pub joined_end : (l : List ℕ) (k to m v : ℕ) → k ≡ to → (in_set m v || touches (facts_in l k to) v) ≡ in_set m v
-unfolding touches
-joined_end l k to m v e = rw (facts_in_none l k to e) (or-false (in_set m v))
+  pub joined_end : (m v : ℕ) → (in_set m v || touches (facts_of (drop k l)) v) ≡ in_set m v
+  unfolding touches
+  joined_end m v = rw (facts_of_end l k h) (or-false (in_set m v))
 
 -- one action more is covered
 module _ (t : Task) (i m r : ℕ) (C : Covers t i m) where

@@ -17,10 +17,10 @@ use Rattle.planning.specs.Painting.{target}
 use Rattle.planning.specs.Repair.{usable_arc, best_in, best_path}
 use Rattle.laws.proofs.Formed.{Formed}
 use Rattle.laws.proofs.Best.{best_onward, arcs_inside}
-use Rattle.search.proofs.Arcs.{arc_leaves}
+use Rattle.search.proofs.UsableArcs.{arc_leaves}
 use Rattle.paths.specs.Paths.{paths_of, lead_of, lead_to, unknown}
 use Rattle.asking.specs.Asking.{Put}
-use Rattle.asking.specs.declared.Written.TheVariants.{Upto}
+use Rattle.std.specs.Prelude.{Some}
 
 -- the path to where the variable is has no moves, and nothing is written
 pub path_none : (t : Task) (K : State) (v c d : ℕ) → c ≡ d → paths_of t K v c d ≡ []
@@ -92,7 +92,7 @@ module _ (t : Task) (F : Formed t) (K : State) (v d : ℕ) where
   walking_start c at d₀ l w b e = record { within = w; long = refl; inside = b; is_lead = e; so_far = refl; counts = refl }
 
   module _ (c at : ℕ) (d₀ dd : List ℕ) (x e l : ℕ) (W : Walking t K v d c at d₀ dd x e l) where
-    pub walking_end : l % 64 ≡ x → Put d₀ dd at (Path' c) (Upto e)
+    pub walking_end : l % 64 ≡ x → Put d₀ dd at (Path' c) (Some e)
     walking_end q =
         let z : Path' x ≡ [] = walk_stop x W.inside (ap (λ y. y % 64) (sym W.is_lead) ∙ q) in
         let zl : length (Path' x) ≡ 0 = ap length z in

@@ -11,7 +11,7 @@ ghost use Rattle.sets.specs.Sets.{in_set, sets_of};
 ghost use Rattle.asking.specs.Asking.{Put};
 ghost use Rattle.paths.specs.Paths.{paths_of, lead_by, few_values, slot, Memo, Leading, any_black, Covers};
 
-use asking::Written;
+use search::Arcs;
 
 // The memo has a mark for each of 64 slots, and behind them 64 leads for each value, one a slot: for 15 values where no variable has more, else
 // for 64. The leads of a variable to one value are in one slot.
@@ -24,13 +24,10 @@ pub fn has_few_values(task: &[u16]) -> bool
     requires { Loaded task.now }
     ensures { result ≡ few_values (task_in task.now) }
 {
-    let n = task::variables(task);
-    let mut v: usize = 0;
-    while v < n {
+    for v in 0..task::variables(task) {
         if 15 < task::count(task, v) {
             return false;
         }
-        v += 1;
     }
     true
 }
@@ -62,76 +59,64 @@ fn slot(v: usize, d: usize) -> usize
 }
 
 // The leads of v to d go to slot k. That of c is known then; where the whole is asked for, the search goes to its end.
-fn towards(
-    task: &[u16],
-    ever: &[u64; 64],
-    memo: &mut [u16],
-    v: usize,
-    c: usize,
-    d: usize,
-    k: usize,
-    whole: bool,
-)
-    requires prepared { Prepared task.now × T (black (task_in task.now) v) × (c < count (task_in task.now) v) × (d < count (task_in task.now) v) }
-    requires k_value { (k ≡ slot v d) × Memo (task_in task.now) (sets_of ever.now) memo.old }
-    ensures { Memo (task_in task.now) (sets_of ever.now) memo.new × Leading memo.new v c d }
+fn towards(arcs: &Arcs, memo: &mut [u16], v: usize, c: usize, d: usize, k: usize, whole: bool)
+    requires prepared { Prepared arcs.now.task.now × T (black (task_in arcs.now.task.now) v) × (c < count (task_in arcs.now.task.now) v) × (d < count (task_in arcs.now.task.now) v) }
+    requires k_value { (k ≡ slot v d) × Memo (task_in arcs.now.task.now) (sets_of arcs.now.ever.now) memo.old }
+    ensures { Memo (task_in arcs.now.task.now) (sets_of arcs.now.ever.now) memo.new × Leading memo.new v c d }
 {
     let mut labels = [UNREACHED; 64];
-    let rest = search::settle(task, ever, &mut labels, v, c, d, whole);
-    let n = task::count(task, v);
-    let mut x: usize = 0;
-    while x < n {
+    let rest = search::settle(arcs, &mut labels, v, c, d, whole);
+    for x in 0..task::count(arcs.task, v) {
         memo[64 * (x + 1) + k] = lead(labels[x], x, rest);
-        x += 1;
     }
     memo[k] = (v + 1) as u16;
 }
 
 // The lead of v from c to d stands in slot k of the memo: it is searched for if it does not yet, to the end of the search where the slot has
 // leads to d already.
-fn prepare(task: &[u16], ever: &[u64; 64], memo: &mut [u16], v: usize, c: usize, d: usize, k: usize)
-    requires prepared { Prepared task.now × T (black (task_in task.now) v) × (c < count (task_in task.now) v) × (d < count (task_in task.now) v) }
-    requires k_value { (k ≡ slot v d) × Memo (task_in task.now) (sets_of ever.now) memo.old }
-    ensures { Memo (task_in task.now) (sets_of ever.now) memo.new × Leading memo.new v c d }
+fn prepare(arcs: &Arcs, memo: &mut [u16], v: usize, c: usize, d: usize, k: usize)
+    requires prepared { Prepared arcs.now.task.now × T (black (task_in arcs.now.task.now) v) × (c < count (task_in arcs.now.task.now) v) × (d < count (task_in arcs.now.task.now) v) }
+    requires k_value { (k ≡ slot v d) × Memo (task_in arcs.now.task.now) (sets_of arcs.now.ever.now) memo.old }
+    ensures { Memo (task_in arcs.now.task.now) (sets_of arcs.now.ever.now) memo.new × Leading memo.new v c d }
 {
-    let begun = lists::wide(memo[k]) == v + 1;
-    if begun && lists::wide(memo[64 * (c + 1) + k]) != 64 + c {
+    let begun = usize::from(memo[k]) == v + 1;
+    if begun && usize::from(memo[64 * (c + 1) + k]) != 64 + c {
         return;
     }
-    towards(task, ever, memo, v, c, d, k, begun);
+    towards(arcs, memo, v, c, d, k, begun);
 }
 
 // The path of v from c to d (6.7), written into the list from place `at` on.
 pub fn path(
-    task: &[u16],
-    ever: &[u64; 64],
+    arcs: &Arcs,
     memo: &mut [u16],
     v: usize,
     c: usize,
     d: usize,
     list: &mut [u16],
     at: usize,
-) -> Written
-    requires prepared { Prepared task.now × T (black (task_in task.now) v) × Memo (task_in task.now) (sets_of ever.now) memo.old }
-    requires c_bound { (c < count (task_in task.now) v) × (d < count (task_in task.now) v) × (at ≤ length list.old) }
-    ensures put { Put list.old list.new at (paths_of (task_in task.now) (sets_of ever.now) v c d) result }
-    ensures memo { Memo (task_in task.now) (sets_of ever.now) memo.new }
+) -> Option<usize>
+    requires prepared { Prepared arcs.now.task.now × T (black (task_in arcs.now.task.now) v) × Memo (task_in arcs.now.task.now) (sets_of arcs.now.ever.now) memo.old }
+    requires c_bound { (c < count (task_in arcs.now.task.now) v) × (d < count (task_in arcs.now.task.now) v) × (at ≤ length list.old) }
+    ensures put { Put list.old list.new at (paths_of (task_in arcs.now.task.now) (sets_of arcs.now.ever.now) v c d) result }
+    ensures memo { Memo (task_in arcs.now.task.now) (sets_of arcs.now.ever.now) memo.new }
 {
     let k = slot(v, d);
-    prepare(task, ever, memo, v, c, d, k);
+    prepare(arcs, memo, v, c, d, k);
     let mut x = c;
     let mut e = at;
-    let mut l = lists::wide(memo[64 * (x + 1) + k]);
+    let mut l = usize::from(memo[64 * (x + 1) + k]);
+    // A walk from value to value: no range tells its turns, and the lead that ends it is of the place where it is.
     while l % 64 != x {
         if e >= list.len() {
-            return Written::Long;
+            return None;
         }
         list[e] = (l / 64) as u16;
         e += 1;
         x = l % 64;
-        l = lists::wide(memo[64 * (x + 1) + k]);
+        l = usize::from(memo[64 * (x + 1) + k]);
     }
-    Written::Upto(e)
+    Some(e)
 }
 
 // Action i sets a black variable.
@@ -139,13 +124,10 @@ fn sets_black(task: &[u16], i: usize) -> bool
     requires { Loaded task.now × (i < actions (task_in task.now)) }
     ensures { result ≡ any_black (task_in task.now) (act (task_in task.now) i).eff }
 {
-    let end = task::eff_end(task, i);
-    let mut k = task::eff_start(task, i);
-    while k < end {
-        if task::is_black(task, lists::wide(task[k]) / 64) {
+    for f in task::effects(task, i) {
+        if task::is_black(task, usize::from(*f) / 64) {
             return true;
         }
-        k += 1;
     }
     false
 }
@@ -155,12 +137,9 @@ fn with_needs(task: &[u16], i: usize, set: u64) -> u64
     requires { Loaded task.now × (i < actions (task_in task.now)) }
     ensures { (v : ℕ) → in_set result v ≡ (in_set set v || touches (act (task_in task.now) i).pre v) }
 {
-    let end = task::eff_start(task, i);
     let mut m = set;
-    let mut k = task::pre_start(task, i);
-    while k < end {
-        m = m | sets::single(lists::wide(task[k]) / 64);
-        k += 1;
+    for f in task::preconditions(task, i) {
+        m = m | sets::single(usize::from(*f) / 64);
     }
     m
 }
@@ -181,12 +160,9 @@ pub fn needs(task: &[u16]) -> u64
     requires { Loaded task.now }
     ensures { Covers (task_in task.now) (actions (task_in task.now)) result }
 {
-    let n = task::actions(task);
     let mut set: u64 = 0;
-    let mut i: usize = 0;
-    while i < n {
+    for i in 0..task::actions(task) {
         set = with_moves(task, i, set);
-        i += 1;
     }
     set
 }

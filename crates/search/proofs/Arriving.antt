@@ -24,7 +24,7 @@ use Rattle.sets.specs.Sets.{in_set}
 use Rattle.sets.proofs.Members.{in_set_or}
 use Rattle.labels.specs.Labels.{lower}
 use Rattle.search.specs.Search.{source_of, through, Into, Lowered}
-use Rattle.search.proofs.Arcs.{arc_changes, arc_target, arc_is, arc_fits}
+use Rattle.search.proofs.UsableArcs.{arc_changes, arc_target, arc_is, arc_fits}
 
 -- one label more is noted
 module _ (rest : ℕ) (D D' : ℕ → ℕ → Type 0) (old new new' : List ℕ) (front grow set l : ℕ) (M : Lowered D rest old new front grow) (long : length new' ≡ 64)

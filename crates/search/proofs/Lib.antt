@@ -1,5 +1,5 @@
 pub mod Sources
-pub mod Arcs
+pub mod UsableArcs
 pub mod Arriving
 pub mod Whole
 pub mod Settling

@@ -3,7 +3,7 @@ use Rattle.search.proofs.Arriving.{Chain, chain_place, chain_inside, arriving_st
 use Rattle.search.proofs.arrive.Goals as goal
 use Rattle.search.proofs.arrive.Goals.{Start}
 
-chain : (s : Start) → Chain s.args.task.now s.args.v s.args.x s.args.rest
+chain : (s : Start) → Chain s.args.arcs.now.task.now s.args.v s.args.x s.args.rest
 chain s = let p = s.requires.prepared in record { prepared = p.0; painted = p.1; near = s.requires.x_bound.0; outside = s.requires.x_bound.2 }
 
 pub overflow_mul-v : goal.overflow_mul-v

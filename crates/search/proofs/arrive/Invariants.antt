@@ -7,7 +7,7 @@ use Rattle.search.proofs.Arriving.{Arriving}
 use Rattle.search.proofs.arrive.Given as goal
 
 abbrev pub invariant-loop-i : goal.invariant-loop-i
-invariant-loop-i l = Arriving (task_in l.task) (sets_of l.ever) l.v l.x l.key l.rest l.front l.initial.labels l.labels l.g l.i
+invariant-loop-i l = Arriving (task_in l.arcs.task.now) (sets_of l.arcs.ever.now) l.v l.x l.key l.rest l.front l.initial.labels l.labels l.g l.i
 
 abbrev pub decreases-loop-i : goal.decreases-loop-i
 decreases-loop-i l = 65536 - l.i

@@ -6,7 +6,7 @@ use Rattle.search.proofs.Settling.{started, near_in, near_key, none_in, taken_fe
 use Rattle.search.proofs.settle.Goals as goal
 use Rattle.search.proofs.settle.Goals.{Start, In-Some, After-single-one}
 
-formed : (s : Start) → Formed (task_in s.args.task.now)
+formed : (s : Start) → Formed (task_in s.args.arcs.now.task.now)
 formed s = s.requires.0.loaded.formed
 
 pub count-requires : goal.count-requires

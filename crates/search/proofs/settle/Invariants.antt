@@ -8,7 +8,7 @@ use Rattle.search.proofs.Settling.{Settling}
 use Rattle.search.proofs.settle.Given as goal
 
 abbrev pub invariant-loop-near : goal.invariant-loop-near
-invariant-loop-near l = Settling (task_in l.task) (sets_of l.ever) l.v l.d l.labels l.rest l.front × Nearest l.labels l.front l.near
+invariant-loop-near l = Settling (task_in l.arcs.task.now) (sets_of l.arcs.ever.now) l.v l.d l.labels l.rest l.front × Nearest l.labels l.front l.near
 
 abbrev pub decreases-loop-near : goal.decreases-loop-near
 decreases-loop-near l = tally 64 (in_set l.rest)

@@ -8,5 +8,5 @@ use Rattle.search.proofs.usable_sources.Given as goal
 
 abbrev pub invariant-loop-k : goal.invariant-loop-k
 invariant-loop-k l =
-    (holds (sets_of l.ever) (facts_of l.pre) ≡ holds (sets_of l.ever) (facts_of (drop l.k l.pre)))
+    (holds (sets_of l.arcs.ever.now) (facts_of l.pre) ≡ holds (sets_of l.arcs.ever.now) (facts_of (drop l.k l.pre)))
     × (look (facts_of l.pre) l.v ≡ look (facts_of (drop l.k l.pre)) l.v)
