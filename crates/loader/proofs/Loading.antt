@@ -2,7 +2,7 @@
 -- written at one action leaves the rows and the facts of earlier ones alone.
 use mathlib.Core.Path.{◌≡◌, refl, sym, ap, ◌∙◌, subst}
 use mathlib.Core.Logic.{inl, inr}
-use mathlib.Core.Bool.{false}
+use mathlib.Core.Bool.{true, false}
 use mathlib.Core.List.{List}
 use mathlib.Core.Option.{none}
 use Prim.Native.Nat.{ℕ, zero, suc, ◌+◌, ◌-◌, ◌*◌, ◌/◌, ◌%◌, ◌^◌, ◌<◌, ◌≤◌}
@@ -12,9 +12,12 @@ use native.Mathlib.Omega.{arith}
 use native.Mathlib.Decide.{ℕ_discrete, dec_lt}
 use lib.ListN.{length, get_or, set, length-set}
 use lib.Seq.{slice-cons, slice_empty, get_or-set_same, get_or-set_other, ext_get_or}
-use Rattle.planning.specs.Basics.{in_order, bits_at}
+use Rattle.std.specs.Prelude.{Result, Ok, Err, is_ok}
+use Rattle.answers.specs.declared.Refusal.{Refusal}
+use Rattle.answers.specs.Answers.{number_of, check_of}
+use Rattle.planning.specs.Basics.{Check, refuse, in_order, bits_at}
 use Rattle.planning.specs.Record.{variable_bit, Task, variables_in, actions_in, preconditions_in, effects_in, effects_from, variable_at, facts_at, action_at, action_end, actions_end, count_in, task_of}
-use Rattle.planning.specs.Record.{action_checks, actions_checks, record_check}
+use Rattle.planning.specs.Record.{actions_checks, record_check}
 use Rattle.planning.specs.Runs.{no_variable, no_action, variables, actions, variable, act}
 use Rattle.laws.proofs.Fields.{bits_at_below, task_of_variables, task_of_actions, task_of_variable, task_of_act, action_start}
 use Rattle.laws.proofs.Formed.{formed_of}
@@ -24,7 +27,7 @@ use Rattle.record.proofs.Laws.{false_not, leading_fact, Run, run_start}
 use Rattle.task.specs.Task.{cell, heads_at, facts_in, variable_in, action_in, task_in, Row, Loaded, links_end, action_rows, end_at}
 use Rattle.task_size.specs.Size.{facts_of, facts_from, task_size}
 use Rattle.task.specs.Rows.{RowWritten}
-use Rattle.loader.specs.Loading.{FactsLoaded, Placed, ActionLoaded, ActionRead, VariablePlaced, VariableLoaded, Headed, RecordRead}
+use Rattle.loader.specs.Loading.{FactsLoaded, Placed, ActionLoaded, VariablePlaced, VariableLoaded, Headed}
 use Rattle.loader.proofs.Cut.{fact_of_bits, variable_cut}
 use Rattle.task_size.proofs.Size.{facts_of_le, action_end_is, actions_end_more, actions_end_is, facts_from_more, facts_from_mono, facts_from_le}
 use Rattle.task.proofs.Reading.{task_in_variables, task_in_actions, task_in_variable, task_in_act}
@@ -117,9 +120,13 @@ module _ (s : List ℕ) (from count first : ℕ) (before task : List ℕ) (at lo
       let M' = rw (p, F.place) at M in
       facts_more s from (count - left) m (count - (left - m)) first before task after F.loaded M' (omega arith)
 
-  pub filling_turn : (after : List ℕ) (r : ℕ) → 4 < left → Run s from count (at + 48) r (left - 4) → FactsLoaded s at 4 to task after
-      → Filling s from count first before after (at + 48) r (left - 4) (to + 4)
-  filling_turn after r h R M = record { run = R; place = omega (arith, F.place, F.run.within); loaded = filling_more 4 after (omega arith) M }
+  pub filling_turn : (after : List ℕ) (r q m p : ℕ) → 4 < left → m ≡ left - 4 → p ≡ to + 4 → Run s from count q r m → FactsLoaded s at 4 to task after → Filling s from count first before after q r m p
+  filling_turn after r q m p h em ep R M =
+      record { run = R; place = omega (arith, F.place, F.run.within); loaded = rw em (filling_more 4 after (omega arith) M) }
+
+  -- the same places as other terms
+  pub filling_at : (q m p : ℕ) → q ≡ at → m ≡ left → p ≡ to → Filling s from count first before task q low m p
+  filling_at q m p eq em ep = rw (eq, em, ep) F
 
   pub filling_last : (after : List ℕ) → FactsLoaded s at left to task after → FactsLoaded s from count first before after
   filling_last after M = let e : count - (left - left) ≡ count = omega arith in rw e at (filling_more left after (omega arith) M)
@@ -129,12 +136,12 @@ module _ (s : List ℕ) (from count first : ℕ) (before task : List ℕ) (at lo
 
 -- a row, then facts behind it: the action is placed, the rest is kept
 pub action_loaded : (s : List ℕ) (at r to : ℕ) (before row after : List ℕ) (c p n : ℕ) → 4 * r + 4 ≤ to → RowWritten r c to (to + p) (to + n) before row → FactsLoaded s (at + 24) n to row after
-    → c ≡ bits_at s at 16 → p ≡ preconditions_in s at → n ≡ facts_of s at → ActionLoaded s at r to before after (n + 1 - 1)
+    → c ≡ bits_at s at 16 → p ≡ preconditions_in s at → n ≡ facts_of s at → ActionLoaded s at r to before after n
 action_loaded s at r to before row after c p n R W L ec ep en =
     let kept : (d : ℕ) → d < 4 → cell after r d ≡ cell row r d = λ d l. L.kept (4 * r + d) (omega arith) in
     record {
       long = L.long ∙ W.long;
-      count = omega arith;
+      count = en;
       placed = record {
         cost = kept 0 (omega arith) ∙ W.first ∙ ec;
         pre = kept 1 (omega arith) ∙ W.second;
@@ -145,10 +152,6 @@ action_loaded s at r to before row after c p n R W L ec ep en =
       kept_rows = λ k h. L.kept k (omega arith) ∙ W.kept k (inl h);
       kept_facts = λ k h l. L.kept k l ∙ W.kept k (inr h);
     }
-
--- an action that does not pass, or has no room
-pub action_stops : (s : List ℕ) (at r to : ℕ) (before after : List ℕ) → (in_order (action_checks s at) ≡ none → to + facts_of s at + 4 ≤ length before → ⊥) → ActionRead s at r to before after 0
-action_stops s at r to before after h = record { passed = λ p. absurd (omega arith); loaded = λ p. absurd (omega arith); refused = λ _. h }
 
 -- a variable's row
 pub variable_loaded : (s : List ℕ) (v : ℕ) (before after : List ℕ) (b : ℕ) → b ≡ bits_at s (variable_bit v) 20
@@ -200,8 +203,14 @@ heading_turn s before task v H h after A = record {
 pub heading_done : (s before task : List ℕ) (v : ℕ) → Heading s before task v → variables_in s ≤ v → Headed s task
 heading_done s before task v H h = record { variables = H.count; actions = H.actions'; each = λ w b. H.so_far w (omega arith) }
 
-pub record_stops : (s after : List ℕ) → (record_check s ≡ none → ⊥) → RecordRead s after false
-record_stops s after h = record { accepted = λ e. absurd (false_not e); loaded = λ e. absurd (false_not e); refused = λ _. h }
+-- what the check of the end says where it is only asked whether it passed
+pub end_passes : (r : Result Unit Refusal) (k : Check) → check_of r ≡ k → true ≡ is_ok r → k ≡ none
+end_passes (Ok u) k h e = sym h
+end_passes (Err f) k h e = absurd (false_not (sym e))
+
+pub end_stops : (r : Result Unit Refusal) (k : Check) → check_of r ≡ k → false ≡ is_ok r → k ≡ none → ⊥
+end_stops (Ok u) k h e q = absurd (false_not e)
+end_stops (Err f) k h e q = let z : refuse (number_of f.reason) f.place ≡ none = h ∙ q in cc
 
 pub actions_as : (s : List ℕ) (n a : ℕ) → n ≡ variables_in s → a ≡ actions_in s → in_order (actions_checks s (variable_bit n) a) ≡ in_order (actions_checks s (variable_bit (variables_in s)) (actions_in s))
 actions_as s n a en ea = rw (en, ea) refl
@@ -282,10 +291,9 @@ module _ (s : List ℕ) where
           facts = λ k b. A.kept_facts (place_of s j + k) (omega (arith, place_of_rows j)) (omega (arith, L.place, place_of_next j i l)) ∙ P.facts k b;
         }
 
-    pub loading_turn : variables_in s ≤ 64 → (after : List ℕ) (n : ℕ) → 0 < n → ActionLoaded s at (action_rows + i) to task after (n - 1)
-        → Loading s before after (at + (12 + 12 * n)) (i + 1) (to + (n - 1))
-    loading_turn few after n pos A =
-        let c : n - 1 ≡ facts_of s (action_start s i) = A.count ∙ ap (facts_of s) L.bit in
+    pub loading_turn : variables_in s ≤ 64 → (after : List ℕ) (n : ℕ) → ActionLoaded s at (action_rows + i) to task after n → Loading s before after (at + (24 + 12 * n)) (i + 1) (to + n)
+    loading_turn few after n A =
+        let c : n ≡ facts_of s (action_start s i) = A.count ∙ ap (facts_of s) L.bit in
         record {
           within = omega arith;
           bit = omega (arith, action_start_more i, L.bit);
@@ -304,12 +312,12 @@ module _ (s : List ℕ) where
 
         go : (j : ℕ) → j < i + 1 → Dec (j ≡ i) → Placed s (action_start s j) (action_rows + j) (place_of s j) after
         go j b (yes q) = rw q here
-        go j b (no q) = stays after (n - 1) A j (omega arith)
+        go j b (no q) = stays after n A j (omega arith)
 
-    pub action_ends : (after : List ℕ) (n : ℕ) → 0 < n → ActionLoaded s at (action_rows + i) to task after (n - 1) → action_end s at ≡ at + (12 + 12 * n)
-    action_ends after n pos A = omega (arith, A.count, action_end_is s at)
+    pub action_ends : (after : List ℕ) (n : ℕ) → ActionLoaded s at (action_rows + i) to task after n → action_end s at ≡ at + (24 + 12 * n)
+    action_ends after n A = omega (arith, A.count, action_end_is s at)
 
-    pub few_facts : (after : List ℕ) (n : ℕ) → ActionLoaded s at (action_rows + i) to task after (n - 1) → n ≤ 31
+    pub few_facts : (after : List ℕ) (n : ℕ) → ActionLoaded s at (action_rows + i) to task after n → n ≤ 30
     few_facts after n A = omega (arith, A.count, facts_of_le s at)
 
 -- facts read back from their numbers
