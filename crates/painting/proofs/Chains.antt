@@ -7,9 +7,9 @@ use mathlib.Core.List.{List, [], ◌∷◌}
 use Prim.Native.Nat.{ℕ, ◌+◌, ◌-◌, ◌*◌, ◌/◌, ◌%◌, ◌<◌, ◌≤◌}
 use native.Mathlib.Omega.{arith}
 use native.Mathlib.Decide.{ℕ_discrete, dec_lt}
-use borrow.Author.Tests.{eq-eqb, ne_eqb}
 use lib.Dec.{T}
 use lib.ListN.{length}
+use Rattle.std.specs.Prelude.{Option, None, Some, MatchOption}
 use Rattle.planning.specs.Record.{Fact, Task}
 use Rattle.planning.specs.Runs.{Mode, has, variables, actions, act, black, count}
 use Rattle.planning.specs.Painting.{reduced_effects}
@@ -38,28 +38,28 @@ NoMove m fs = (v e : ℕ) → T (m v) → T (has fs v e) → ⊥
 abbrev pub InRange : List Fact → Type 0
 InRange fs = (v e : ℕ) → T (has fs v e) → (v < 64) × (e < 64)
 
-pub move_is : (m : Mode) (fs : List Fact) → InRange fs → ((move_of m fs ≡ 65535) × NoMove m fs) ⊎ Move m fs (move_of m fs)
+pub move_is : (m : Mode) (fs : List Fact) → InRange fs → MatchOption (move_of m fs) (NoMove m fs) (Move m fs)
 unfolding move_of has
-move_is m [] R = inl (refl, λ v e o h. h)
+move_is m [] R = λ v e o h. h
 move_is m (f ∷ fs) R = go (m f.var) refl (move_is m fs (λ v e h. R v e (has_there f fs v e h)))
   where
-    pick : Bool → ℕ
-    pick x = elim x [ true ↦ 64 * f.var + f.val | false ↦ move_of m fs ]
+    pick : Bool → Option ℕ
+    pick x = elim x [ true ↦ Some (64 * f.var + f.val) | false ↦ move_of m fs ]
 
-    go : (x : Bool) → m f.var ≡ x → ((move_of m fs ≡ 65535) × NoMove m fs) ⊎ Move m fs (move_of m fs) → ((pick x ≡ 65535) × NoMove m (f ∷ fs)) ⊎ Move m (f ∷ fs) (pick x)
+    go : (x : Bool) → m f.var ≡ x → MatchOption (move_of m fs) (NoMove m fs) (Move m fs) → MatchOption (pick x) (NoMove m (f ∷ fs)) (Move m (f ∷ fs))
     go true e r =
         let l = R f.var f.val (has_here f fs) in
         let q : (64 * f.var + f.val) / 64 ≡ f.var = omega (arith, l.1) in
         let z : (64 * f.var + f.val) % 64 ≡ f.val = omega (arith, l.1) in
-        inr (record { small = omega (arith, l.0, l.1); on = rw (q, e) tt; states = rw (q, z) (has_here f fs) })
-    go false e (inl r) = inl (
-      r.0,
-      λ v x o h. elim (has_cases f fs v x h) [
-        | inl k ↦ false→F (m f.var) e (subst (λ (y : ℕ). T (m y)) k.0 o)
-        | inr k ↦ r.1 v x o k
-      ],
-    )
-    go false e (inr r) = inr (record { small = r.small; on = r.on; states = has_there f fs (move_of m fs / 64) (move_of m fs % 64) r.states })
+        record { small = omega (arith, l.0, l.1); on = rw (q, e) tt; states = rw (q, z) (has_here f fs) }
+    go false e r = behind (move_of m fs) r
+      where
+        behind : (o : Option ℕ) → MatchOption o (NoMove m fs) (Move m fs) → MatchOption o (NoMove m (f ∷ fs)) (Move m (f ∷ fs))
+        behind None r = λ v x o h. elim (has_cases f fs v x h) [
+          | inl k ↦ false→F (m f.var) e (subst (λ (y : ℕ). T (m y)) k.0 o)
+          | inr k ↦ r v x o k
+        ]
+        behind (Some g) r = record { small = r.small; on = r.on; states = has_there f fs (g / 64) (g % 64) r.states }
 
 -- the least number from a place on
 module _ (n : ℕ) (P : ℕ → Type 0) where
@@ -87,32 +87,24 @@ acyclic_relinked before after paint A R =
 
 -- the move of an action
 module _ (m : Mode) (t : Task) (F : Formed t) (i : ℕ) where
-  pub formed_move : ((move_of m (reduced_effects (act t i)) ≡ 65535) × NoMove m (reduced_effects (act t i))) ⊎ Move m (reduced_effects (act t i)) (move_of m (reduced_effects (act t i)))
+  formed_move : MatchOption (move_of m (reduced_effects (act t i))) (NoMove m (reduced_effects (act t i))) (Move m (reduced_effects (act t i)))
   formed_move = move_is m (reduced_effects (act t i)) (λ v e h.
       let k = sorted_has (variables t) (count t) 0 (act t i).eff (F.eff_sorted i) v e (reduced_elim (act t i) v e h).0 in
       (omega (arith, k.var_below, F.variables_max), omega (arith, k.val_below, F.count_max v)))
 
-  pub the_move : (f : ℕ) → f ≡ move_of m (reduced_effects (act t i)) → (f ≡ 65535 → ⊥) → Move m (reduced_effects (act t i)) f
-  the_move f e n = elim formed_move [ inl q ↦ absurd (n (e ∙ q.0)) | inr q ↦ rw e q ]
+  pub the_move : (f : ℕ) → Some f ≡ move_of m (reduced_effects (act t i)) → Move m (reduced_effects (act t i)) f
+  the_move f e = rw (← e) at formed_move
+
+  pub no_move : None ≡ move_of m (reduced_effects (act t i)) → NoMove m (reduced_effects (act t i))
+  no_move e = rw (← e) at formed_move
 
   pub move_heads : (f : ℕ) → Move m (reduced_effects (act t i)) f → (task : List ℕ) → Heads (64 * variables t) task → Heads (f + 1) task
   move_heads f M task =
       let k = sorted_has (variables t) (count t) 0 (act t i).eff (F.eff_sorted i) (f / 64) (f % 64) (reduced_elim (act t i) (f / 64) (f % 64) M.states).0 in
       heads_fewer (f + 1) (64 * variables t) task (omega (arith, k.var_below))
 
-  pub no_move : (f : ℕ) → f ≡ move_of m (reduced_effects (act t i)) → f ≡ 65535 → NoMove m (reduced_effects (act t i))
-  no_move f e n = elim formed_move [ inl q ↦ q.1 | inr q ↦ absurd (omega (arith, q.small)) ]
-
-pub colour_move : (task : List ℕ) (paint : ℕ) → Acyclic task paint → (f : ℕ) (fs : List Fact) → f ≡ move_of (mode_of paint) fs → f ≡ move_of (black (task_in task)) fs
-colour_move task paint A f fs e = e ∙ ap (λ (m : Mode). move_of m fs) A.colours
-
-pub link_none : (f g i : ℕ) (task : List ℕ) → f ≡ g → f ≡ 65535 → task ≡ linked_move g i task
-unfolding linked_move
-link_none f g i task q e = rw (← q, eq-eqb f 65535 e) refl
-
-pub link_one : (f g i : ℕ) (task task' : List ℕ) → f ≡ g → (f ≡ 65535 → ⊥) → task' ≡ linked f i task → task' ≡ linked_move g i task
-unfolding linked_move
-link_one f g i task task' q n e = rw (← q, ne_eqb f 65535 n) e
+pub colour_move : (task : List ℕ) (paint : ℕ) → Acyclic task paint → (o : Option ℕ) (fs : List Fact) → o ≡ move_of (mode_of paint) fs → o ≡ move_of (black (task_in task)) fs
+colour_move task paint A o fs e = e ∙ ap (λ (m : Mode). move_of m fs) A.colours
 
 -- the chains of the actions from i on
 pub record Linking (task₀ task : List ℕ) (i : ℕ) : Type 0 where
@@ -189,12 +181,13 @@ module _ (task₀ : List ℕ) (paint : ℕ) (A : Acyclic task₀ paint) where
         behind v e j (no q) o l k h = rw (next_old task f i near (room f M) j (omega (arith, F.actions_max)) q) (L.links v e j o (omega arith) k h)
 
     linking_turn : (task' : List ℕ) → task' ≡ linked_move (move_of (black (task_in task₀)) (reduced_effects (act (task_in task₀) i))) i task → Linking task₀ task' i
+    unfolding linked_move
     linking_turn task' K = go (move_of (black (task_in task₀)) (reduced_effects (act (task_in task₀) i))) K (formed_move (black (task_in task₀)) (task_in task₀) F i)
       where
-        go : (f : ℕ) → task' ≡ linked_move f i task
-            → ((f ≡ 65535) × NoMove (black (task_in task₀)) (reduced_effects (act (task_in task₀) i))) ⊎ Move (black (task_in task₀)) (reduced_effects (act (task_in task₀) i)) f → Linking task₀ task' i
-        go f K (inl r) = rw (K ∙ sym (link_none f f i task refl r.0)) (linked_none r.1)
-        go f K (inr M) = rw (K ∙ sym (link_one f f i task (linked f i task) refl (λ q. omega (arith, M.small)) refl)) (linked_move_lem f M)
+        go : (o : Option ℕ) → task' ≡ linked_move o i task
+            → MatchOption o (NoMove (black (task_in task₀)) (reduced_effects (act (task_in task₀) i))) (Move (black (task_in task₀)) (reduced_effects (act (task_in task₀) i))) → Linking task₀ task' i
+        go None K r = rw K (linked_none r)
+        go (Some f) K M = rw K (linked_move_lem f M)
 
 -- from the heads that are cleared to the chains
 module _ (entry task₀ : List ℕ) (paint : ℕ) (A : Acyclic entry paint) (n : ℕ) (U : Unlinked (64 * n) entry task₀) where

@@ -1,12 +1,15 @@
 -- Check 8 of one action and of all in turn, and what both checks answer and leave.
 use mathlib.Core.Path.{◌≡◌, refl, sym, ap, ◌∙◌}
 use mathlib.Core.Bool.{Bool, true, false}
-use mathlib.Core.List.{List, ◌++◌}
-use mathlib.Core.Option.{Option, none, some}
+use mathlib.Core.List.{List, [], ◌∷◌, ◌++◌}
+use mathlib.Core.Option as math
 use Prim.Native.Nat.{ℕ, ◌+◌, ◌*◌, ◌/◌, ◌%◌, ◌<◌, ◌≤◌}
 use native.Mathlib.Omega.{arith}
 use lib.Dec.{T}
-use Rattle.planning.specs.Basics.{Refusal, Check, some_below, first, refuse_at, and_then}
+use lib.ListN.{set}
+use Rattle.std.specs.Prelude.{Option, None, Some, IfSome, Result}
+use Rattle.planning.specs.Basics as basics
+use Rattle.planning.specs.Basics.{Check, some_below, first, refuse_at, and_then}
 use Rattle.planning.specs.Record.{Fact, Task}
 use Rattle.planning.specs.Runs.{has, variables, actions, act, black, count}
 use Rattle.planning.specs.Painting.{reduced_effects, black_arc, on_cycle, cyclic, lacks_return, unreturned, acyclic_check, return_check}
@@ -16,14 +19,16 @@ use Rattle.laws.proofs.Checks.{refuse_at_none}
 use Rattle.laws.proofs.Searches.{Searched, searched_start, searched_turn, searched_hit, searched_end}
 use Rattle.laws.proofs.Arcs.{reduced_elim}
 use Rattle.laws.proofs.Formed.{Formed}
-use Rattle.answers.specs.declared.Checked.{Checked}
+use Rattle.answers.specs.declared.Refusal.{Refusal}
 use Rattle.answers.specs.Answers.{check_of}
-use Rattle.task.specs.Task.{task_in}
+use Rattle.task.specs.Task.{facts_of, task_in}
+use Rattle.task.specs.Goals.{option_of}
 use Rattle.task.specs.Links.{Chained, Relinked}
 use Rattle.task.proofs.Relinking.{relinked_task, relinked_none, relinked_trans}
 use Rattle.sets.specs.Sets.{sets_of}
 use Rattle.clients_first.specs.Order.{Ordered}
-use Rattle.returns.specs.Returns.{mark_all, marked}
+use Rattle.returns.specs.Returns.{place, mark_all, marked}
+use Rattle.lacking.specs.declared.Allowing.{Allowing}
 use Rattle.lacking.specs.Lacking.{Unmarked, lacks_by, Ready}
 use Rattle.painting.specs.Chains.{Acyclic, Linked}
 use Rattle.painting.specs.Answers.{lacks, Readied}
@@ -32,79 +37,90 @@ use Rattle.lacking.proofs.Keeping.{ready_more}
 use Rattle.painting.proofs.Chains.{Move, acyclic_relinked, ordered_chained, ordered_relinked}
 use Rattle.painting.proofs.Lacks.{has_right, facts_small, lacks_is}
 
+-- one list of facts marked behind the other
+mark_all-++ : (i : ℕ) (o : Option ℕ) (fs gs : List Fact) (marks : List ℕ) → mark_all i o (fs ++ gs) marks ≡ mark_all i o gs (mark_all i o fs marks)
+unfolding mark_all
+mark_all-++ i o [] gs marks = refl
+mark_all-++ i o (f ∷ fs) gs marks = mark_all-++ i o fs gs (set marks (place o (64 * f.var + f.val)) i)
+
 -- one action, which marks its facts with 2 × i
 module _ (t : Task) (F : Formed t) (i : ℕ) (h : i < actions t) (marks : List ℕ) (U : Unmarked t (2 * i) marks) (f : ℕ) (K : Move (black t) (reduced_effects (act t i)) f) where
   small : 2 * i < 65535
   small = omega (arith, F.actions_max)
 
-  module _ (marks' : List ℕ) (fs : List Fact) (same : marks' ≡ mark_all (2 * i) f fs marks) (all : fs ≡ (act t i).pre ++ (act t i).eff) where
-    pub lacking_unmarked : Unmarked t (2 * i + 1) marks'
-    lacking_unmarked = rw (same, all) (unmarked_all t (2 * i) f ((act t i).pre ++ (act t i).eff) marks (facts_small t F i) (unmarked_more t (2 * i) (2 * i + 1) marks U (omega arith)))
+  module _ (pre eff marks₁ marks' : List ℕ) (ep : facts_of pre ≡ (act t i).pre) (ee : facts_of eff ≡ (act t i).eff)
+      (e₁ : marks₁ ≡ mark_all (2 * i) (Some f) (facts_of pre) marks) (e' : marks' ≡ mark_all (2 * i) (Some f) (facts_of eff) marks₁) where
+    both : marks' ≡ mark_all (2 * i) (Some f) ((act t i).pre ++ (act t i).eff) marks
+    both = e' ∙ rw (e₁, ep, ee) (sym (mark_all-++ (2 * i) (Some f) (act t i).pre (act t i).eff marks))
 
-    pub lacking_move : cyclic t ≡ none → lacks_by t (marked (2 * i) marks') i (f / 64) (f % 64) ≡ lacks t i
+    pub lacking_unmarked : Unmarked t (2 * i + 1) marks'
+    lacking_unmarked = rw both (unmarked_all t (2 * i) (Some f) ((act t i).pre ++ (act t i).eff) marks (facts_small t F i) (unmarked_more t (2 * i) (2 * i + 1) marks U (omega arith)))
+
+    pub lacking_move : cyclic t ≡ math.none → lacks_by t (marked (2 * i) marks') i (f / 64) (f % 64) ≡ lacks t i
     lacking_move Y = lacks_is t F i (f / 64) (f % 64) (marked (2 * i) marks') K.states allows h Y K.on
       where
         states : T (has ((act t i).pre ++ (act t i).eff) (f / 64) (f % 64))
         states = has_right (act t i).pre (act t i).eff (f / 64) (f % 64) (reduced_elim (act t i) (f / 64) (f % 64) K.states).0
 
         allows : Allows (variables t) (f / 64) (f % 64) ((act t i).pre ++ (act t i).eff) (marked (2 * i) marks')
-        allows = rw (same, all) (marks_allow t (2 * i) f ((act t i).pre ++ (act t i).eff) marks (facts_small t F i) small U states)
+        allows = rw both (marks_allow t (2 * i) ((act t i).pre ++ (act t i).eff) marks (facts_small t F i) small U f states)
 
 -- all actions in turn
-pub record Scanning (t : Task) (n : ℕ) (marks kept : List ℕ) (i : ℕ) : Type 0 where
+pub record Scanning (t : Task) (n : ℕ) (marks : List ℕ) (kept : List (Option Allowing)) (i : ℕ) : Type 0 where
   pub ready : Ready t (2 * i) marks kept
   pub searched : Searched n (lacks t) i
 
 module _ (t : Task) (n : ℕ) (e : n ≡ actions t) where
-  pub scanning_start : (marks kept : List ℕ) → Ready t 0 marks kept → Scanning t n marks kept 0
+  pub scanning_start : (marks : List ℕ) (kept : List (Option Allowing)) → Ready t 0 marks kept → Scanning t n marks kept 0
   scanning_start marks kept R = record { ready = R; searched = searched_start n (lacks t) }
 
   all_actions : first n (lacks t) ≡ unreturned t
   unfolding unreturned lacks
   all_actions = rw e refl
 
-  module _ (marks kept : List ℕ) (i : ℕ) (S : Scanning t n marks kept i) (r : Bool) (answer : r ≡ lacks t i) (h : i < n) where
-    pub scanning_turn : r ≡ false → (marks' kept' : List ℕ) → Ready t (2 * i + 2) marks' kept' → Scanning t n marks' kept' (i + 1)
+  module _ (marks : List ℕ) (kept : List (Option Allowing)) (i : ℕ) (S : Scanning t n marks kept i) (r : Bool) (answer : r ≡ lacks t i) (h : i < n) where
+    pub scanning_turn : r ≡ false → (marks' : List ℕ) (kept' : List (Option Allowing)) → Ready t (2 * i + 2) marks' kept' → Scanning t n marks' kept' (i + 1)
     scanning_turn z marks' kept' R = record { ready = ready_more t (2 * i + 2) (2 * (i + 1)) marks' kept' R (omega arith); searched = searched_turn n (lacks t) i S.searched h (sym answer ∙ z) }
 
-    pub scanning_hit : r ≡ true → some i ≡ unreturned t
+    pub scanning_hit : r ≡ true → math.some i ≡ unreturned t
     scanning_hit z = searched_hit n (lacks t) i S.searched h (sym answer ∙ z) ∙ all_actions
 
-  pub scanning_end : (marks kept : List ℕ) (i : ℕ) → Scanning t n marks kept i → n ≤ i → none ≡ unreturned t
+  pub scanning_end : (marks : List ℕ) (kept : List (Option Allowing)) (i : ℕ) → Scanning t n marks kept i → n ≤ i → math.none ≡ unreturned t
   scanning_end marks kept i S h = searched_end n (lacks t) i S.searched h ∙ all_actions
 
 -- what was found is below the count
-pub first_below : (n : ℕ) (p : ℕ → Bool) (i : ℕ) → first n p ≡ some i → i < n
-first_below n p i e = go (first n p) (first_is n p) e
+first_below : (n : ℕ) (p : ℕ → Bool) → n ≤ 65536 → (r : Option ℕ) → option_of r ≡ first n p → IfSome r (λ i. i < 65536)
+first_below n p b None e = tt
+first_below n p b (Some i) e = go (first n p) (first_is n p) e
   where
-    go : (o : Option ℕ) → First? n p o → o ≡ some i → i < n
-    go none f q = let z : ◌≡◌ {A = ℕ} 0 1 = cc in absurd (omega arith)
-    go (some j) f q = let z : j ≡ i = cc in omega (arith, f.below)
+    go : (o : math.Option ℕ) → First? n p o → math.some i ≡ o → i < 65536
+    go math.none f q = let z : ◌≡◌ {A = ℕ} 0 1 = cc in absurd (omega arith)
+    go (math.some j) f q = let z : j ≡ i = cc in omega (arith, f.below)
 
-pub cyclic_below : (t : Task) → Formed t → (o : Option ℕ) → o ≡ cyclic t → (p : ℕ) → o ≡ some p → p < 65536
+pub cyclic_below : (t : Task) → Formed t → (r : Option ℕ) → option_of r ≡ cyclic t → IfSome r (λ p. p < 65536)
 unfolding cyclic
-cyclic_below t F o e p q = omega (arith, F.variables_max, first_below (variables t) (on_cycle (variables t) (black_arc t)) p (sym e ∙ q))
+cyclic_below t F = first_below (variables t) (on_cycle (variables t) (black_arc t)) (omega (arith, F.variables_max))
 
-pub unreturned_below : (t : Task) → Formed t → (o : Option ℕ) → o ≡ unreturned t → (p : ℕ) → o ≡ some p → p < 65536
+pub unreturned_below : (t : Task) → Formed t → (r : Option ℕ) → option_of r ≡ unreturned t → IfSome r (λ p. p < 65536)
 unfolding unreturned
-unreturned_below t F o e p q = omega (arith, F.actions_max, first_below (actions t) (λ i. some_below (variables t) (λ v. some_below (count t v) (lacks_return t i v))) p (sym e ∙ q))
+unreturned_below t F = first_below (actions t) (λ i. some_below (variables t) (λ v. some_below (count t v) (lacks_return t i v))) (omega (arith, F.actions_max))
 
 -- the two checks
-pub seven_passes : (t : Task) (c : Check) (o : Option ℕ) → c ≡ refuse_at 7 o → o ≡ cyclic t → c ≡ none → cyclic t ≡ none
+pub seven_passes : (t : Task) (c : Check) (o : math.Option ℕ) → c ≡ refuse_at 7 o → o ≡ cyclic t → c ≡ math.none → cyclic t ≡ math.none
 seven_passes t c o e q z = sym q ∙ refuse_at_none 7 o (sym e ∙ z)
 
-seven_refuses : (t : Task) (c : Check) (o : Option ℕ) (f : Refusal) → c ≡ refuse_at 7 o → o ≡ cyclic t → c ≡ some f → c ≡ and_then (acyclic_check t) (return_check t)
+seven_refuses : (t : Task) (c : Check) (o : math.Option ℕ) (f : basics.Refusal) → c ≡ refuse_at 7 o → o ≡ cyclic t → c ≡ math.some f → c ≡ and_then (acyclic_check t) (return_check t)
 unfolding acyclic_check and_then refuse_at
 seven_refuses t c o f e q z =
-    let a : refuse_at 7 (cyclic t) ≡ some f = ap (refuse_at 7) (sym q) ∙ sym e ∙ z in
+    let a : refuse_at 7 (cyclic t) ≡ math.some f = ap (refuse_at 7) (sym q) ∙ sym e ∙ z in
     z ∙ rw a refl
 
-eight_follows : (t : Task) (c : Check) (o : Option ℕ) → cyclic t ≡ none → c ≡ refuse_at 8 o → o ≡ unreturned t → c ≡ and_then (acyclic_check t) (return_check t)
+eight_follows : (t : Task) (c : Check) (o : math.Option ℕ) → cyclic t ≡ math.none → c ≡ refuse_at 8 o → o ≡ unreturned t → c ≡ and_then (acyclic_check t) (return_check t)
 unfolding acyclic_check return_check and_then refuse_at
 eight_follows t c o y e q = e ∙ rw (q, y) refl
 
 -- where 7 refuses, nothing is written
-pub readied_seven : (task : List ℕ) (r : Checked) (f : Refusal) (o : Option ℕ) → check_of r ≡ refuse_at 7 o → o ≡ cyclic (task_in task) → check_of r ≡ some f → Readied task r task
+pub readied_seven : (task : List ℕ) (r : Result Unit Refusal) (f : basics.Refusal) (o : math.Option ℕ) → check_of r ≡ refuse_at 7 o → o ≡ cyclic (task_in task) → check_of r ≡ math.some f → Readied task r task
 readied_seven task r f o e q z = record {
   answer = seven_refuses (task_in task) (check_of r) o f e q z;
   same = refl;
@@ -133,7 +149,7 @@ module _ (before linked after : List ℕ) (paint : ℕ) (A : Acyclic before pain
   pub readied_acyclic : Acyclic after paint
   readied_acyclic = acyclic_relinked before after paint A all
 
-  pub readied_eight : (r : Checked) (o : Option ℕ) → check_of r ≡ refuse_at 8 o → o ≡ unreturned (task_in after) → Readied before r after
+  pub readied_eight : (r : Result Unit Refusal) (o : math.Option ℕ) → check_of r ≡ refuse_at 8 o → o ≡ unreturned (task_in after) → Readied before r after
   readied_eight r o e q = record {
     answer = eight_follows (task_in before) (check_of r) o A.acyclic e (q ∙ ap unreturned same);
     same = same;

@@ -3,38 +3,36 @@
 // which it does. The return of an arc is looked for in the chain of the move that it has to be, with what the first action allows marked.
 #![tactic(auto)]
 
-ghost use Rattle.std.specs.Prelude.{◌≡◌, ℕ, ◌+◌, ◌*◌, ◌<◌};
-ghost use Rattle.std.proofs.Math.Option.{some};
+ghost use Rattle.std.specs.Prelude.{◌≡◌, IfSome, ◌+◌, ◌*◌, ◌<◌, ◌≤◌};
 ghost use Rattle.planning.specs.Basics.{refuse_at};
-ghost use Rattle.planning.specs.Runs.{actions, act};
+ghost use Rattle.planning.specs.Runs.{variables, actions, act};
 ghost use Rattle.planning.specs.Painting.{reduced_effects, black_arc, unreturned};
-ghost use Rattle.answers.specs.Answers.{check_of};
+ghost use Rattle.answers.specs.Answers.{number_of, check_of};
 ghost use Rattle.task.specs.Task.{task_in, Loaded};
 ghost use Rattle.task.specs.Links.{Chained};
+ghost use Rattle.task.specs.Goals.{option_of};
 ghost use Rattle.sets.specs.Sets.{mode_of, sets_of};
-ghost use Rattle.graph.specs.Graph.{found_of};
-ghost use Rattle.lacking.specs.Lacking.{Unmarked, Ready};
+ghost use Rattle.lacking.specs.Lacking.{Ready};
 ghost use Rattle.painting.specs.Chains.{move_of, linked_move, Acyclic, Linked};
 ghost use Rattle.painting.specs.Answers.{lacks, Readied};
 
-use answers::{Checked, Refusal};
-use graph::Found;
+use answers::{Reason, Refusal};
+use lacking::{Allowing, KEPT};
+use returns::Last;
 
-// The move of action i, the first black fact that it sets and does not need; 65,535 if there is none.
-fn move_of(task: &[u16], i: usize, paint: u64) -> usize
+// The move of action i, the first black fact that it sets and does not need.
+fn move_of(task: &[u16], i: usize, paint: u64) -> Option<usize>
     requires { Loaded task.now × (i < actions (task_in task.now)) }
     ensures { result ≡ move_of (mode_of paint) (reduced_effects (act (task_in task.now) i)) }
 {
-    let end = task::eff_end(task, i);
-    let mut k = task::eff_start(task, i);
-    while k < end {
-        let f = lists::wide(task[k]);
+    let effects = task::effects(task, i);
+    for f in effects {
+        let f = usize::from(*f);
         if graph::changes(task, i, f, paint) {
-            return f;
+            return Some(f);
         }
-        k += 1;
     }
-    65535
+    None
 }
 
 // Action i in front of the chain of its move, if it has one.
@@ -42,11 +40,9 @@ fn link(task: &mut [u16], i: usize, paint: u64)
     requires { Loaded task.old × (i < actions (task_in task.old)) }
     ensures { task.new ≡ linked_move (move_of (mode_of paint) (reduced_effects (act (task_in task.old) i))) i task.old }
 {
-    let f = move_of(task, i, paint);
-    if f == 65535 {
-        return;
+    if let Some(f) = move_of(task, i, paint) {
+        task::link(task, f, i);
     }
-    task::link(task, f, i);
 }
 
 // The chains, from the last action to the first, so that each rises.
@@ -54,11 +50,10 @@ fn link_all(task: &mut [u16], paint: u64)
     requires { Acyclic task.old paint }
     ensures { Linked task.old task.new }
 {
-    let mut i = task::actions(task);
+    let m = task::actions(task);
     let n = task::variables(task);
     task::unlink(task, 64 * n);
-    while 0 < i {
-        i -= 1;
+    for i in (0..m).rev() {
         link(task, i, paint);
     }
 }
@@ -69,94 +64,86 @@ fn is_lacking(
     paint: u64,
     i: usize,
     marks: &mut [u16],
-    kept: &mut [usize; lacking::KEPT],
-    last: &mut [u16; returns::LAST],
+    kept: &mut [Option<Allowing>; KEPT],
+    last: &mut Last,
 ) -> bool
     requires { Acyclic task.now paint × Chained (task_in task.now) task.now × (i < actions (task_in task.now)) × Ready (task_in task.now) (2 * i) marks.old kept.old }
     ensures answer { result ≡ lacks (task_in task.now) i }
     ensures ready { Ready (task_in task.now) (2 * i + 2) marks.new kept.new }
 {
-    let f = move_of(task, i, paint);
-    if f == 65535 {
+    let Some(f) = move_of(task, i, paint) else {
         return false;
-    }
-    returns::mark(
-        task,
-        task::pre_start(task, i),
-        task::eff_end(task, i),
-        f,
-        (2 * i) as u16,
-        marks,
-    );
+    };
+    let own = (2 * i) as u16;
+    returns::mark(task::preconditions(task, i), Some(f), own, marks);
+    returns::mark(task::effects(task, i), Some(f), own, marks);
     lacking::lacks_marked(task, marks, i, f, kept, last)
 }
 
-// The lowest action with an arc that lacks its return; no fact is marked yet.
-fn lowest_by(task: &[u16], paint: u64, marks: &mut [u16]) -> Found
-    requires { Acyclic task.now paint × Chained (task_in task.now) task.now × Unmarked (task_in task.now) 0 marks.old }
-    ensures { found_of result ≡ unreturned (task_in task.now) }
+// The lowest action with an arc that lacks its return, with room for N marks.
+fn lowest_by<const N: usize>(task: &[u16], paint: u64) -> Option<usize>
+    requires { Acyclic task.now paint × Chained (task_in task.now) task.now × (64 * variables (task_in task.now) ≤ N) × (N ≤ 4096) }
+    ensures { option_of result ≡ unreturned (task_in task.now) }
 {
     let n = task::actions(task);
-    let mut kept = [65536usize; lacking::KEPT];
-    let mut last = [65535u16; returns::LAST];
-    last[returns::TRIES] = 32;
-    let mut i: usize = 0;
-    while i < n {
-        if is_lacking(task, paint, i, marks, &mut kept, &mut last) {
-            return Found::At(i);
+    // 65,535: no mark. An Option for each would double what is cleared
+    let mut marks = [65535u16; N];
+    let mut kept = [None; KEPT];
+    let mut last = Last {
+        served: [65535; 1024],
+        place: 0,
+        tries: 32,
+    };
+    for i in 0..n {
+        if is_lacking(task, paint, i, &mut marks, &mut kept, &mut last) {
+            return Some(i);
         }
-        i += 1;
     }
-    Found::Nothing
+    None
 }
 
 // Check 8. A task of few variables needs few marks, so that little has to be cleared.
-fn lowest_lacking(task: &[u16], paint: u64) -> Found
+fn lowest_lacking(task: &[u16], paint: u64) -> Option<usize>
     requires { Acyclic task.now paint × Chained (task_in task.now) task.now }
-    ensures { found_of result ≡ unreturned (task_in task.now) }
+    ensures { option_of result ≡ unreturned (task_in task.now) }
 {
     if task::variables(task) <= 16 {
-        let mut few = [65535u16; 1024];
-        return lowest_by(task, paint, &mut few);
+        return lowest_by::<1024>(task, paint);
     }
-    let mut many = [65535u16; 4096];
-    lowest_by(task, paint, &mut many)
+    lowest_by::<4096>(task, paint)
 }
 
 // What was found is refused with its place.
-fn refused_at(number: u8, found: Found) -> Checked
-    requires { (p : ℕ) → found_of found ≡ some p → p < 65536 }
-    ensures { check_of result ≡ refuse_at number (found_of found) }
+fn refused_at(reason: Reason, found: Option<usize>) -> Result<(), Refusal>
+    requires { IfSome found (λ p. p < 65536) }
+    ensures { check_of result ≡ refuse_at (number_of reason) (option_of found) }
 {
-    let Found::At(place) = found else {
-        return Checked::Accepted;
+    let Some(place) = found else {
+        return Ok(());
     };
-    Checked::Refused(Refusal {
-        number,
+    Err(Refusal {
+        reason,
         place: place as u32,
     })
 }
 
 // Check 8 of a task of which 7 passes, with its chains and its order.
-fn prepare_acyclic(task: &mut [u16], rows: &[u64; 64], paint: u64) -> Checked
+fn prepare_acyclic(task: &mut [u16], rows: &[u64; 64], paint: u64) -> Result<(), Refusal>
     requires { Acyclic task.old paint × (sets_of rows.now ≡ black_arc (task_in task.old)) }
     ensures { Readied task.old result task.new }
 {
     link_all(task, paint);
     clients_first::write_order(task, rows, paint);
-    refused_at(8, lowest_lacking(task, paint))
+    refused_at(Reason::NoReturn, lowest_lacking(task, paint))
 }
 
 // The check of a painting: 7, then 8. Where both pass, the task has its chains and its order.
-pub fn prepare(task: &mut [u16]) -> Checked
+pub fn prepare(task: &mut [u16]) -> Result<(), Refusal>
     requires { Loaded task.old }
     ensures { Readied task.old result task.new }
 {
     let paint = sets::painted(task);
     let rows = graph::graph(task, paint);
-    let seven = refused_at(7, cycles::cycle(task, rows));
-    let Checked::Accepted = seven else {
-        return seven;
-    };
+    refused_at(Reason::Cycle, cycles::cycle(task, rows))?;
     prepare_acyclic(task, &rows, paint)
 }
