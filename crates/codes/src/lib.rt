@@ -4,41 +4,31 @@
 
 ghost use Rattle.std.specs.Prelude.{◌≡◌, ℕ};
 ghost use Rattle.planning.specs.Basics.{code, refused};
-ghost use Rattle.answers.specs.Answers.{value_of};
+ghost use Rattle.answers.specs.Answers.{number_of, answer_by};
 ghost use Rattle.answers.specs.Plans.{answer_of};
 ghost use Rattle.codes.specs.Plans.{plan_result_of};
 
-use answers::{Number, Planned, Refusal};
+use answers::{Plan, Refusal};
 
 // The code of a refusal.
 pub fn code_of(f: Refusal) -> u64
-    ensures { result ≡ code {A = ℕ} (refused f.number f.place) }
+    ensures { result ≡ code {A = ℕ} (refused (number_of f.reason) f.place) }
 {
-    32 * (f.place as u64) + (f.number as u64)
+    32 * u64::from(f.place) + u64::from(u8::from(f.reason))
 }
 
-// The code of a number, or of its refusal.
-pub fn number_code(a: Number) -> u64
-    ensures { result ≡ code (value_of a) }
+// The code of an answer: 0, or that of its refusal.
+pub fn code<T: Copy>(answer: Result<T, Refusal>) -> u64
+    ensures { result ≡ code (answer_by (λ x. x) answer) }
 {
-    let Number::Refused(f) = a else {
-        return 0;
-    };
-    code_of(f)
-}
-
-// The code of an answer.
-fn planned_code(p: Planned) -> u64
-    ensures { result ≡ code (answer_of p) }
-{
-    let Planned::Refused(f) = p else {
+    let Err(f) = answer else {
         return 0;
     };
     code_of(f)
 }
 
 #[repr(C)]
-#[derive(Clone, Copy)]
+#[derive(Clone, Copy, Debug, Default, PartialEq, Eq)]
 pub struct PlanResult {
     pub code: u64,
     pub steps: u32,
@@ -49,32 +39,21 @@ pub struct PlanResult {
 }
 
 // What C reads of an answer.
-pub fn flat(p: Planned) -> PlanResult
-    ensures { result ≡ plan_result_of (answer_of p) }
+pub fn flat(answer: Result<Plan, Refusal>) -> PlanResult
+    ensures { result ≡ plan_result_of (answer_of answer) }
 {
-    let Planned::Plan {
-        steps,
-        cost,
-        runs,
-        searches,
-        real,
-    } = p
-    else {
+    let Ok(plan) = answer else {
         return PlanResult {
-            code: planned_code(p),
-            steps: 0,
-            cost: 0,
-            runs: 0,
-            searches: 0,
-            real: false,
+            code: code(answer),
+            ..PlanResult::default()
         };
     };
     PlanResult {
         code: 0,
-        steps,
-        cost,
-        runs,
-        searches,
-        real,
+        steps: plan.steps,
+        cost: plan.cost,
+        runs: plan.runs,
+        searches: plan.searches,
+        real: plan.real,
     }
 }
