@@ -1,5 +1,5 @@
 -- Lists written into a list, one behind the other; the value that is asked.
-use mathlib.Core.Path.{◌≡◌, refl, sym}
+use mathlib.Core.Path.{◌≡◌, refl, sym, subst}
 use mathlib.Core.List.{List, [], ◌∷◌, ◌++◌, append_assoc, append-nil}
 use mathlib.Core.Option as math
 use Prim.Native.Nat.{ℕ, ◌+◌, ◌<◌, ◌≤◌}
@@ -21,6 +21,9 @@ use Rattle.asking.specs.Asking.{Fitting, Fits, Put}
 pub asked_is : (o : math.Option ℕ) (d : Option ℕ) → Asked o d → option_of d ≡ o
 asked_is math.none d e = rw e refl
 asked_is (math.some x) d e = rw e.0 refl
+
+pub asked_as : (t : Task) (v k i : ℕ) (d : Option ℕ) → k ≡ i → Asked (look (act t k).pre v) d → Asked (look (act t i).pre v) d
+asked_as t v k i d e q = subst (λ (x : ℕ). Asked (look (act t x).pre v) d) e q
 
 -- the value behind it
 pub after_is : (c : ℕ) (d : Option ℕ) → unwrap_or d c ≡ after c (option_of d)

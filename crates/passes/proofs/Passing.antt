@@ -14,12 +14,12 @@ use Rattle.laws.proofs.Fill.{pass_grows, asked_for_one}
 use Rattle.laws.proofs.Formed.{Formed}
 use Rattle.sets.specs.Sets.{Asked}
 use Rattle.paths.specs.Paths.{paths_of, Memo}
-use Rattle.asking.specs.declared.Written.{Written}
-use Rattle.asking.specs.declared.Written.TheVariants.{Upto, Long}
+use Rattle.std.specs.Prelude.{Option, None, Some}
 use Rattle.entries.specs.Entries.{Entries}
-use Rattle.asking.specs.Asking.{asked_by, Put}
+use Rattle.asking.specs.Asking.{Put}
+use Rattle.task.specs.Goals.{option_of}
 use Rattle.passes.specs.Passes.{pass_of}
-use Rattle.asking.proofs.Putting.{asked_is, pre_fitting, after_fits, put_as}
+use Rattle.asking.proofs.Putting.{asked_is, pre_fitting, after_fits}
 
 pub record Passing (t : Task) (K : State) (v : ℕ) (w : List Fact) (whole plan₀ plan memo : List ℕ) (c e j : ℕ) : Type 0 where
   pub within : e ≤ j
@@ -58,33 +58,32 @@ module _ {t : Task} {K : State} {v : ℕ} {w : List Fact} {whole plan₀ plan me
   passing_entry h = entries_here h 0 (omega arith)
 
   -- the end of the list, and the value that is wanted
-  module _ (h : length plan ≤ j) (d : ℕ) (q : Asked (look w v) d) where
-    rest_last : rest ≡ toward (paths_of t K v) c (asked_by d)
+  module _ (h : length plan ≤ j) (d : Option ℕ) (q : Asked (look w v) d) where
+    rest_last : rest ≡ toward (paths_of t K v) c (option_of d)
     unfolding pass
     rest_last =
         let z : j ≡ length plan = omega (arith, P.at, P.long) in
         rw (z, drop-length plan, asked_is (look w v) d q) refl
 
-    pub tally_end : (total k : ℕ) → Tally t v w total plan k j → (n : ℕ) → n ≡ asked_for (asked_by d) → k + n ≡ total
+    pub tally_end : (total k : ℕ) → Tally t v w total plan k j → (n : ℕ) → n ≡ asked_for (option_of d) → k + n ≡ total
     unfolding pass_searches
     tally_end total k S n en =
         let z : j ≡ length plan = omega (arith, P.at, P.long) in
         sym (S.sum ∙ rw (z, drop-length plan, en, asked_is (look w v) d q) refl)
 
-    pub passing_end : (plan' : List ℕ) (r : Written) → Put plan plan' e (toward (paths_of t K v) c (asked_by d)) r → Put plan₀ plan' 0 whole r
-    passing_end plan' (Upto y) p = (omega (arith, whole_length, ap length rest_last, p.0), omega (arith, p.1, P.long), p.2 ∙ sym (P.so_far ∙ rw rest_last refl))
-    passing_end plan' Long p = omega (arith, whole_length, ap length rest_last, p, P.long)
+    pub passing_end : (plan' : List ℕ) (r : Option ℕ) → Put plan plan' e (toward (paths_of t K v) c (option_of d)) r → Put plan₀ plan' 0 whole r
+    passing_end plan' (Some y) p = (omega (arith, whole_length, ap length rest_last, p.0), omega (arith, p.1, P.long), p.2 ∙ sym (P.so_far ∙ rw rest_last refl))
+    passing_end plan' None p = omega (arith, whole_length, ap length rest_last, p, P.long)
 
--- the path to the value that the entry at j needs was written into the part before j
-pub record Led (t : Task) (K : State) (v : ℕ) (w : List Fact) (whole plan₀ plan memo : List ℕ) (c e j d : ℕ) (ys : List ℕ) (r : Written) : Type 0 where
+-- a path to the value that the entry at j needs is asked for in the part before j
+pub record Led (t : Task) (K : State) (v : ℕ) (w : List Fact) (whole plan₀ plan memo : List ℕ) (c e j : ℕ) (d : Option ℕ) (ys : List ℕ) : Type 0 where
   pub start : Passing t K v w whole plan₀ plan memo c e j
   pub here : j < length plan
   pub asks : Asked (look (act t (get_or plan j 0)).pre v) d
   pub long : length ys ≡ length (take j plan)
-  pub put : Put (take j plan) ys e (toward (paths_of t K v) c (asked_by d)) r
 
-module _ {t : Task} {K : State} {v : ℕ} {w : List Fact} {whole plan₀ plan memo : List ℕ} {c e j d : ℕ} {ys : List ℕ} {r : Written}
-    (L : Led t K v w whole plan₀ plan memo c e j d ys r) where
+module _ {t : Task} {K : State} {v : ℕ} {w : List Fact} {whole plan₀ plan memo : List ℕ} {c e j : ℕ} {d : Option ℕ} {ys : List ℕ}
+    (L : Led t K v w whole plan₀ plan memo c e j d ys) where
   abbrev P : Passing t K v w whole plan₀ plan memo c e j
   P = L.start
 
@@ -92,10 +91,10 @@ module _ {t : Task} {K : State} {v : ℕ} {w : List Fact} {whole plan₀ plan me
   i = get_or plan j 0
 
   abbrev path : List ℕ
-  path = toward (paths_of t K v) c (asked_by d)
+  path = toward (paths_of t K v) c (option_of d)
 
   abbrev next : List ℕ
-  next = pass_of t K v (after c (asked_by d)) (drop (j + 1) plan) w
+  next = pass_of t K v (after c (option_of d)) (drop (j + 1) plan) w
 
   rest_next : pass_of t K v c (drop j plan) w ≡ path ++ (i ∷ next)
   unfolding pass
@@ -107,16 +106,12 @@ module _ {t : Task} {K : State} {v : ℕ} {w : List Fact} {whole plan₀ plan me
   pub led_length : length (ys ++ drop j plan) ≡ length plan₀
   led_length = length_front plan ys j L.long ∙ P.long
 
-  pub led_long : r ≡ Long → length plan₀ < 0 + length whole
-  led_long y =
-      let z = put_as (take j plan) ys e path r Long y L.put in
-      let grows = pass_grows (act t) (paths_of t K v) v (after c (asked_by d)) (drop (j + 1) plan) w in
+  pub led_long : Put (take j plan) ys e path None → length plan₀ < 0 + length whole
+  led_long z =
+      let grows = pass_grows (act t) (paths_of t K v) v (after c (option_of d)) (drop (j + 1) plan) w in
       omega (arith, z, front_length, whole_length P, ap length rest_next, length-append path (i ∷ next), grows, length-drop (j + 1) plan, P.long)
 
-  module _ (x : ℕ) (y : r ≡ Upto x) where
-    told : Put (take j plan) ys e path (Upto x)
-    told = put_as (take j plan) ys e path r (Upto x) y L.put
-
+  module _ (x : ℕ) (told : Put (take j plan) ys e path (Some x)) where
     pub led_fits : x ≤ j
     led_fits = omega (arith, told.1, front_length)
 
@@ -135,17 +130,17 @@ module _ {t : Task} {K : State} {v : ℕ} {w : List Fact} {whole plan₀ plan me
         let n : j + 1 ≡ length ys + 1 = omega (arith, L.long, front_length) in
         s ∙ ap (λ (k : ℕ). drop k (ys ++ drop j plan)) n ∙ drop-append-add ys (drop j plan) 1 ∙ drop-drop 1 j plan
 
-    pub led_tally : (total k : ℕ) → Tally t v w total plan k j → (n : ℕ) → n ≡ asked_for (asked_by d) → Tally t v w total plan' (k + n) (j + 1)
+    pub led_tally : (total k : ℕ) → Tally t v w total plan k j → (n : ℕ) → n ≡ asked_for (option_of d) → Tally t v w total plan' (k + n) (j + 1)
     unfolding pass_searches
     led_tally total k S n en =
         let asks = asked_is (look (act t i).pre v) d L.asks in
         let rest : pass_searches (act t) v (drop j plan) w ≡ n + pass_searches (act t) v (drop (j + 1) plan) w = rw (drop-cons plan j 0 L.here, add-one j, en, asks) refl in
         record {
           sum = rw back (omega (arith, S.sum, rest));
-          few = omega (arith, S.few, en, asked_for_one (asked_by d));
+          few = omega (arith, S.few, en, asked_for_one (option_of d));
         }
 
-    pub led_turn : Formed t → (memo' : List ℕ) (c' : ℕ) → Memo t K memo' → c' ≡ after c (asked_by d) → Passing t K v w whole plan₀ plan' memo' c' (x + 1) (j + 1)
+    pub led_turn : Formed t → (memo' : List ℕ) (c' : ℕ) → Memo t K memo' → c' ≡ after c (option_of d) → Passing t K v w whole plan₀ plan' memo' c' (x + 1) (j + 1)
     led_turn F memo' c' M ec = record {
       within = omega (arith, led_fits);
       at = omega (arith, L.here, P.long);

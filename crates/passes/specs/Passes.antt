@@ -1,10 +1,10 @@
 -- What a pass is handed, and the paths that it inserts.
-use Rattle.std.specs.Prelude.{Bool, true, false, List, [], ◌∷◌, ℕ, ◌/◌, ◌%◌, length}
+use Rattle.std.specs.Prelude.{Bool, true, false, List, [], ◌∷◌, ℕ, ◌/◌, ◌%◌}
 use Rattle.std.proofs.Math.Option.{none, some}
 use Rattle.planning.specs.Record.{Fact, Task}
 use Rattle.planning.specs.Runs.{State, look, act}
 use Rattle.planning.specs.Repair.{pass, pass_searches}
-use Rattle.task.specs.Task.{facts_in, task_in}
+use Rattle.task.specs.Task.{facts_of, task_in}
 use Rattle.sets.specs.Sets.{sets_of}
 use Rattle.paths.specs.Paths.{paths_of}
 
@@ -20,10 +20,6 @@ served t K f l w = pass_of t K (f / 64) (f % 64) l w
 unfoldable pub unasked : Task → ℕ → List ℕ → Bool
 unasked t v [] = true
 unasked t v (i ∷ l) = elim (look (act t i).pre v) [ none ↦ unasked t v l | some d ↦ false ]
-
--- the facts of a whole list of numbers
-abbrev pub facts_of : List ℕ → List Fact
-facts_of l = facts_in l 0 (length l)
 
 -- that pass, and its searches, by the lists that the code has
 abbrev pub served_in : List ℕ → List ℕ → ℕ → List ℕ → List ℕ → List ℕ
