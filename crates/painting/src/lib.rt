@@ -12,7 +12,7 @@ ghost use Rattle.task.specs.Task.{task_in, Loaded};
 ghost use Rattle.task.specs.Links.{Chained};
 ghost use Rattle.task.specs.Goals.{option_of};
 ghost use Rattle.sets.specs.Sets.{mode_of, sets_of};
-ghost use Rattle.lacking.specs.Lacking.{Ready};
+ghost use Rattle.lacking.specs.Lacking.{Unmarked, Ready};
 ghost use Rattle.painting.specs.Chains.{move_of, linked_move, Acyclic, Linked};
 ghost use Rattle.painting.specs.Answers.{lacks, Readied};
 
@@ -80,14 +80,12 @@ fn is_lacking(
     lacking::lacks_marked(task, marks, i, f, kept, last)
 }
 
-// The lowest action with an arc that lacks its return, with room for N marks.
-fn lowest_by<const N: usize>(task: &[u16], paint: u64) -> Option<usize>
-    requires { Acyclic task.now paint × Chained (task_in task.now) task.now × (64 * variables (task_in task.now) ≤ N) × (N ≤ 4096) }
+// The lowest action with an arc that lacks its return; no fact is marked yet.
+fn lowest_by(task: &[u16], paint: u64, marks: &mut [u16]) -> Option<usize>
+    requires { Acyclic task.now paint × Chained (task_in task.now) task.now × Unmarked (task_in task.now) 0 marks.old }
     ensures { option_of result ≡ unreturned (task_in task.now) }
 {
     let n = task::actions(task);
-    // 65,535: no mark. An Option for each would double what is cleared
-    let mut marks = [65535u16; N];
     let mut kept = [None; KEPT];
     let mut last = Last {
         served: [65535; 1024],
@@ -95,11 +93,21 @@ fn lowest_by<const N: usize>(task: &[u16], paint: u64) -> Option<usize>
         tries: 32,
     };
     for i in 0..n {
-        if is_lacking(task, paint, i, &mut marks, &mut kept, &mut last) {
+        if is_lacking(task, paint, i, marks, &mut kept, &mut last) {
             return Some(i);
         }
     }
     None
+}
+
+// The same with room for N marks.
+fn lowest_in<const N: usize>(task: &[u16], paint: u64) -> Option<usize>
+    requires { Acyclic task.now paint × Chained (task_in task.now) task.now × (64 * variables (task_in task.now) ≤ N) × (N ≤ 4096) }
+    ensures { option_of result ≡ unreturned (task_in task.now) }
+{
+    // 65,535: no mark. An Option for each would double what is cleared
+    let mut marks = [65535u16; N];
+    lowest_by(task, paint, &mut marks)
 }
 
 // Check 8. A task of few variables needs few marks, so that little has to be cleared.
@@ -108,9 +116,9 @@ fn lowest_lacking(task: &[u16], paint: u64) -> Option<usize>
     ensures { option_of result ≡ unreturned (task_in task.now) }
 {
     if task::variables(task) <= 16 {
-        return lowest_by::<1024>(task, paint);
+        return lowest_in::<1024>(task, paint);
     }
-    lowest_by::<4096>(task, paint)
+    lowest_in::<4096>(task, paint)
 }
 
 // What was found is refused with its place.
