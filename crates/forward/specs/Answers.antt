@@ -1,15 +1,18 @@
 -- The forward run's answer, and what the call comes to for a task.
-use Rattle.std.specs.Prelude.{List, [], ◌∷◌, ℕ, length}
-use Rattle.planning.specs.Basics.{in_order, Answer, refused, done, answer}
+use Rattle.std.specs.Prelude.{List, [], ◌∷◌, ℕ, length, Result}
+use Rattle.planning.specs.Basics.{in_order, Answer, answer}
 use Rattle.planning.specs.Record.{Task}
 use Rattle.planning.specs.Relaxed.{forward_run, facts_reached}
 use Rattle.planning.specs.Calls.{Forward, capacity, room_check, goals_check, lent}
-use Rattle.forward.specs.declared.Found.{Found}
-use Rattle.forward.specs.declared.Found.TheVariants as found
+use Rattle.answers.specs.Answers.{answer_by}
+use Rattle.answers.specs.declared.Refusal.{Refusal}
+use Rattle.forward.specs.declared.Run.{Run}
 
-abbrev pub found_of : Found → Answer Forward
-found_of (found.Run steps reached) = done (record { steps = steps; reached = reached })
-found_of (found.Refused f) = refused f.number f.place
+abbrev pub told_of : Run → Forward
+told_of r = record { steps = r.steps; reached = r.reached }
+
+abbrev pub found_of : Result Run Refusal → Answer Forward
+found_of = answer_by told_of
 
 -- what is left to check once the record is accepted: that there is a plan, and that the list l has room in one of n entries
 unfoldable pub called : {A : Type 0} → Task → List ℕ → ℕ → A → Answer A

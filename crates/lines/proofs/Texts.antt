@@ -1,5 +1,5 @@
 -- From the answers of the forward run and of the relaxed plan to the first two lines.
-use Prim.Native.Nat.{ℕ, ◌≤◌}
+use Prim.Native.Nat.{ℕ}
 use mathlib.Core.Path.{◌≡◌, refl}
 use mathlib.Core.List.{List, [], ◌∷◌}
 use lib.ListN.{length, take}
@@ -8,9 +8,6 @@ use Rattle.planning.specs.Listing.{line, reached_word, relaxed_word}
 use Rattle.text.specs.Put.{Put}
 use Rattle.text.proofs.Texts.{put_then}
 use Rattle.lines.specs.Answers.{facts_in, steps_in, kept_in, runs_text}
-
-pub kept_le : (s : List ℕ) (n m k : ℕ) → m ≡ n → k ≡ steps_in (relax_call s m) → steps_in (relax_call s n) ≤ 4032 → k ≤ 4032
-kept_le s n m k em ek h = rw (ek, em) h
 
 -- the first two lines; the list keeps its length
 pub put_runs : {o o' o'' : List ℕ} {e e' : ℕ} (s : List ℕ) (n m f k : ℕ) (l t : List ℕ) → m ≡ n → f ≡ facts_in (forward_call s n) → k ≡ steps_in (relax_call s m)

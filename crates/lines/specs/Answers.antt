@@ -3,14 +3,6 @@ use Rattle.std.specs.Prelude.{ℕ, List, [], ◌∷◌, ◌++◌, length, take}
 use Rattle.planning.specs.Basics.{Answer, refused, done}
 use Rattle.planning.specs.Calls.{Forward, forward_call, relax_call, relax_list}
 use Rattle.planning.specs.Listing.{line, reached_word, relaxed_word}
-use Rattle.answers.specs.declared.Refusal.{Refusal}
-use Rattle.answers.specs.declared.Planned.{Planned}
-use Rattle.answers.specs.declared.Planned.TheVariants.{Plan, Refused}
-
--- the refusal, zeros where there is none
-abbrev pub refusal_of : Planned → Refusal
-refusal_of (Plan s c n k v) = record { number = 0; place = 0 }
-refusal_of (Refused f) = f
 
 -- the facts reached, and the steps; 0 after a refusal
 abbrev pub facts_in : Answer Forward → ℕ

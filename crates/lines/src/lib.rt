@@ -1,59 +1,34 @@
 // What a listing takes from the answers of the calls: its first two lines, by the forward run and the relaxed plan; and, for the line that the
-// planner's answer gives, the first entries of a list and the refusal.
+// planner's answer gives, the first entries of a list.
 #![tactic(auto)]
 
 ghost use Rattle.std.specs.Prelude.{◌≤◌, ◌≡◌, length, take};
 ghost use Rattle.planning.specs.Calls.{forward_call, relax_call, relax_list};
 ghost use Rattle.text.specs.Put.{Put};
-ghost use Rattle.lines.specs.Answers.{facts_in, steps_in, runs_text, refusal_of};
-
-use answers::{Number, Planned, Refusal};
-use forward::Found;
+ghost use Rattle.lines.specs.Answers.{facts_in, steps_in, runs_text};
 
 // The first n entries.
 pub fn front<'a>(list: &'a [u16], n: u32) -> &'a [u16]
     ensures { (result.now ≡ take n list.now) × (length result.now ≤ n) × (length result.now ≤ length list.now) }
 {
-    let m = n as usize;
-    if m < list.len() {
-        return &list[..m];
-    }
-    list
-}
-
-// The refusal of an answer that has one.
-pub fn refusal_of(answer: Planned) -> Refusal
-    ensures { result ≡ refusal_of answer }
-{
-    let Planned::Refused(f) = answer else {
-        return Refusal {
-            number: 0,
-            place: 0,
-        };
-    };
-    f
+    &list[..list.len().min(n as usize)]
 }
 
 // The facts that the forward run reaches; its actions are left in the list.
 fn reached(bytes: &[u8], list: &mut [u16]) -> u32
     ensures { result ≡ facts_in (forward_call bytes.now (length list.old)) }
 {
-    let answer = forward::forward(bytes, list);
-    let Found::Run { steps: _, reached } = answer else {
+    let Ok(run) = forward::forward(bytes, list) else {
         return 0;
     };
-    reached
+    run.reached
 }
 
 // The relaxed plan in the front of the list; its steps.
 fn relaxed(bytes: &[u8], list: &mut [u16]) -> u32
     ensures { (result ≡ steps_in (relax_call bytes.now (length list.old))) × (list.new ≡ relax_list bytes.now (length list.old)) }
 {
-    let answer = relax::relax(bytes, list);
-    let Number::Value(n) = answer else {
-        return 0;
-    };
-    n
+    relax::relax(bytes, list).unwrap_or(0)
 }
 
 // The first two lines: the facts reached, and the relaxed plan. The list serves both.

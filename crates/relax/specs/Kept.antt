@@ -1,10 +1,9 @@
 -- What the relaxed plan of a loaded task comes to.
-use Rattle.std.specs.Prelude.{◌≡◌, true, false, List, ℕ, ◌≤◌, length, take}
+use Rattle.std.specs.Prelude.{◌≡◌, true, false, List, ℕ, ◌≤◌, length, take, Result, Ok, Err}
 use Rattle.planning.specs.Record.{Task}
 use Rattle.planning.specs.Relaxed.{reaches_goals, facts_reached, relaxed_plan}
 use Rattle.answers.specs.declared.Refusal.{Refusal}
-use Rattle.answers.specs.declared.Number.{Number}
-use Rattle.answers.specs.declared.Number.TheVariants.{Value, Refused}
+use Rattle.answers.specs.declared.Reason.TheVariants.{NoPlan}
 
 -- the relaxed plan in the front of a list of 1,024
 pub record Front (t : Task) (plan : List ℕ) (n : ℕ) : Type 0 where
@@ -20,9 +19,9 @@ pub record Found (t : Task) (plan : List ℕ) (n : ℕ) : Type 0 where
 -- 4.4: no plan
 pub record Unfound (t : Task) (f : Refusal) : Type 0 where
   pub unsolved : reaches_goals t ≡ false
-  pub number' : f.number ≡ 10
+  pub reason : f.reason ≡ NoPlan
   pub place' : f.place ≡ facts_reached t
 
-abbrev pub KeptOf : Task → List ℕ → Number → Type 0
-KeptOf t plan (Value n) = Found t plan n
-KeptOf t plan (Refused f) = Unfound t f
+abbrev pub KeptOf : Task → List ℕ → Result ℕ Refusal → Type 0
+KeptOf t plan (Ok n) = Found t plan n
+KeptOf t plan (Err f) = Unfound t f
