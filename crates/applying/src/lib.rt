@@ -94,7 +94,7 @@ pub fn knows_effects(sets: &[u64; 64], task: &[u16], i: usize, known: &mut [u64;
     if sets::is_listed(known, i) {
         return true;
     }
-    known[i / 64] = known[i / 64] | sets::single(i % 64);
+    known[i / 64] |= sets::single(i % 64);
     has_effects(sets, task, i)
 }
 

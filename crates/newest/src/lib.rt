@@ -17,7 +17,8 @@ pub struct Progress {
     pub runs: u32,
 }
 
-// The answer, and the newest values where the run stops, of which those of `count` variables are shown.
+// The answer, and the newest values where the run stops, of which those of `count` variables are shown: with no heap they keep their place
+// beside their count.
 #[derive(Clone, Copy)]
 pub struct Board {
     pub progress: Progress,

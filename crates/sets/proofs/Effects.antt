@@ -2,7 +2,7 @@
 use mathlib.Core.Path.{◌≡◌, refl, sym, ap, ◌∙◌, fun_ext}
 use mathlib.Core.Bool.{Bool, true, false, ◌&&◌, ◌||◌, and-true}
 use mathlib.Core.List.{List, [], ◌∷◌}
-use Prim.Native.Nat.{ℕ, ◌+◌, ◌/◌, ◌%◌, ◌^◌, ◌<◌, ◌≤◌}
+use Prim.Native.Nat.{ℕ, ◌+◌, ◌^◌, ◌<◌, ◌≤◌}
 use native.Mathlib.Numerals.{add-one}
 use native.Mathlib.Omega.{arith}
 use native.Mathlib.Decide.{ℕ_discrete}
@@ -11,11 +11,10 @@ use lib.Bits.{bit_or}
 use lib.Dec.{eqb}
 use lib.ListN.{length, get_or, set, length-set}
 use lib.Seq.{slice-cons, slice_empty, get_or-set_same, get_or-set_other}
-use Rattle.std.specs.Prelude.{Some, None}
 use Rattle.planning.specs.Record.{Fact, Action}
-use Rattle.planning.specs.Runs.{State, has, look, holds, step, relaxed}
+use Rattle.planning.specs.Runs.{has, step, relaxed}
 use Rattle.task.specs.Task.{fact_of, facts_in}
-use Rattle.sets.specs.Sets.{in_set, sets_of, Asked}
+use Rattle.sets.specs.Sets.{in_set, sets_of}
 use Rattle.sets.proofs.Listed.{Rising}
 use Rattle.sets.proofs.Members.{in_set_added}
 
@@ -63,30 +62,6 @@ module _ (l : List ℕ) (k t : ℕ) (h : k < t) (b : t ≤ length l) where
   unfolding facts_in
   facts_in_cons = rw (slice-cons k t l 0 h b, add-one) refl
 
-  pub holds_fails : (s : State) (f : ℕ) → f ≡ get_or l k 0 → s (f / 64) (f % 64) ≡ false → holds s (facts_in l k t) ≡ false
-  unfolding holds fact_of
-  holds_fails s f ef e = rw (facts_in_cons, ← ef, e) refl
-
-  pub holds_passes : (s : State) (f : ℕ) → f ≡ get_or l k 0 → s (f / 64) (f % 64) ≡ true → holds s (facts_in l k t) ≡ holds s (facts_in l (k + 1) t)
-  unfolding holds fact_of
-  holds_passes s f ef e = rw (facts_in_cons, ← ef, e) refl
-
-  pub look_here : (v f : ℕ) → f ≡ get_or l k 0 → f / 64 ≡ v → Asked (look (facts_in l k t) v) (Some (f % 64))
-  unfolding look fact_of
-  look_here v f ef e = rw (facts_in_cons, ← ef, eq-eqb v (f / 64) (sym e), look) (ap (λ (w : ℕ). Some (w % 64)) ef, omega arith)
-
-  pub look_later : (v f : ℕ) → f ≡ get_or l k 0 → (f / 64 ≡ v → ⊥) → look (facts_in l k t) v ≡ look (facts_in l (k + 1) t) v
-  unfolding look fact_of
-  look_later v f ef e = rw (facts_in_cons, ← ef, ne_eqb v (f / 64) (λ q. e (sym q)), look) refl
-
 pub facts_in_none : (l : List ℕ) (k t : ℕ) → k ≡ t → facts_in l k t ≡ []
 unfolding facts_in
 facts_in_none l k t e = rw (e, slice_empty t l) refl
-
-pub holds_end : (s : State) (l : List ℕ) (k t : ℕ) → k ≡ t → holds s (facts_in l k t) ≡ true
-unfolding holds
-holds_end s l k t e = rw (facts_in_none l k t e) refl
-
-pub look_end : (l : List ℕ) (k t v : ℕ) → k ≡ t → Asked (look (facts_in l k t) v) None
-unfolding look
-look_end l k t v e = rw (facts_in_none l k t e) refl

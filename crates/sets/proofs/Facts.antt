@@ -1,6 +1,6 @@
 -- The facts of an action in the loaded task, by where they stand.
-use mathlib.Core.Path.{◌≡◌, refl, sym, ap, ◌∙◌, subst}
-use mathlib.Core.List.{List, ◌∷◌, ◌++◌}
+use mathlib.Core.Path.{◌≡◌, sym, ap, subst}
+use mathlib.Core.List.{List, ◌∷◌}
 use Prim.Native.Nat.{ℕ, zero, suc, ◌+◌, ◌-◌, ◌/◌, ◌<◌, ◌≤◌}
 use native.Mathlib.Nat.{add-zero}
 use native.Mathlib.Omega.{arith}
@@ -11,18 +11,7 @@ use Rattle.planning.specs.Runs.{variables, actions, count, act}
 use Rattle.laws.proofs.Formed.{Sorted}
 use Rattle.task.specs.Task.{fact_of, facts_in, pre_at, eff_at, end_at, action_in, task_in, Loaded}
 use Rattle.task.proofs.Reading.{task_in_act}
-use Rattle.sets.specs.Sets.{Facts}
-use Rattle.sets.proofs.Effects.{facts_in_cons, facts_in_none}
-
--- facts of the places from a up to b and from b up to c
-facts_in_split : (l : List ℕ) (n a b c : ℕ) → a + n ≡ b → b ≤ c → c ≤ length l → facts_in l a c ≡ facts_in l a b ++ facts_in l b c
-facts_in_split l zero a b c e h k =
-    let q : a ≡ b = omega arith in
-    rw (q, facts_in_none l b b refl) refl
-facts_in_split l (suc n) a b c e h k =
-    let i = facts_in_cons l a c (omega arith) k in
-    let j = facts_in_cons l a b (omega arith) (omega arith) in
-    i ∙ rw (j, facts_in_split l n (a + 1) b c (omega arith) h k) refl
+use Rattle.sets.proofs.Effects.{facts_in_cons}
 
 -- each of the facts from place a up to b, if they are sorted
 module _ (n : ℕ) (count : ℕ → ℕ) (table : List ℕ) (b : ℕ) (e : b ≤ length table) where
@@ -47,11 +36,6 @@ module _ (task : List ℕ) (L : Loaded task) (i : ℕ) (b : i < actions (task_in
   unfolding action_in
   eff_facts = sym (ap (λ (a : Action). a.eff) (task_in_act task i b))
 
-  pub all_facts : facts_in task (pre_at task i) (end_at task i) ≡ (act (task_in task) i).pre ++ (act (task_in task) i).eff
-  all_facts =
-      let R = L.rows i b in
-      facts_in_split task (eff_at task i - pre_at task i) (pre_at task i) (eff_at task i) (end_at task i) (omega (arith, R.pre_below)) R.eff_below R.end_below ∙ rw (pre_facts, eff_facts) refl
-
   -- each is a fact of one of the task's variables
   pub pre_inside : (k : ℕ) → pre_at task i ≤ k → k < eff_at task i → get_or task k 0 / 64 < variables (task_in task)
   pre_inside k l h =
@@ -63,20 +47,3 @@ module _ (task : List ℕ) (L : Loaded task) (i : ℕ) (b : i < actions (task_in
 
   pub all_inside : (k : ℕ) → pre_at task i ≤ k → k < end_at task i → get_or task k 0 / 64 < variables (task_in task)
   all_inside k l h = elim (dec_lt k (eff_at task i)) [ yes d ↦ pre_inside k l d | no d ↦ eff_inside k (omega arith) h ]
-
-  -- some of an action's facts; its preconditions, its effects, both
-  facts_within : (x y : ℕ) → pre_at task i ≤ x → x ≤ y → y ≤ end_at task i → Facts task x y
-  facts_within x y l m h = record {
-    rises = m;
-    within = omega (arith, (L.rows i b).end_below);
-    small = λ k p q. omega (arith, all_inside k (omega arith) (omega arith), L.formed.variables_max);
-  }
-
-  pub pre_within : (x y : ℕ) → x ≡ pre_at task i → y ≡ eff_at task i → Facts task x y
-  pre_within x y ex ey = let R = L.rows i b in facts_within x y (omega arith) (omega (arith, R.pre_below)) (omega (arith, R.eff_below))
-
-  pub eff_within : (x y : ℕ) → x ≡ eff_at task i → y ≡ end_at task i → Facts task x y
-  eff_within x y ex ey = let R = L.rows i b in facts_within x y (omega (arith, R.pre_below)) (omega (arith, R.eff_below)) (omega arith)
-
-  pub all_within : (x y : ℕ) → x ≡ pre_at task i → y ≡ end_at task i → Facts task x y
-  all_within x y ex ey = let R = L.rows i b in facts_within x y (omega arith) (omega (arith, R.pre_below, R.eff_below)) (omega arith)

@@ -1,5 +1,5 @@
 -- Sets of values as numbers, and the states that 64 of them, with 64 newest values, stand for.
-use Rattle.std.specs.Prelude.{◌≡◌, ◌⊎◌, Bool, true, false, ◌&&◌, List, ℕ, suc, ◌/◌, ◌%◌, ◌^◌, ◌<◌, ◌≤◌, T, eqb, length, get_or, Option, None, Some}
+use Rattle.std.specs.Prelude.{◌≡◌, ◌⊎◌, Bool, true, false, ◌&&◌, List, ℕ, suc, ◌/◌, ◌%◌, ◌^◌, ◌<◌, T, eqb, length, get_or, Option, None, Some}
 use Rattle.std.proofs.Math.Option as math
 use Rattle.planning.specs.Record.{Task}
 use Rattle.planning.specs.Runs.{State, Mode, holds, act, variables, count}
@@ -36,12 +36,6 @@ mode_of m v = in_set m v
 -- the red-black state, where the variables of m are black: of these the newest value alone, of the others each value that they have had
 unfoldable pub red_black_of : Mode → State → Values → State
 red_black_of m s f v d = elim (m v) [ true ↦ alone f v d | false ↦ s v d ]
-
--- the places from a up to b state facts
-pub record Facts (facts : List ℕ) (a b : ℕ) : Type 0 where
-  pub rises : a ≤ b
-  pub within : b ≤ length facts
-  pub small : (k : ℕ) → a ≤ k → k < b → get_or facts k 0 < 4096
 
 -- action i is in a set of actions, 16 sets of 64
 unfoldable pub listed : List ℕ → ℕ → Bool

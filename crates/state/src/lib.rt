@@ -54,7 +54,7 @@ fn choose(b: bool, x: u8, y: u8) -> u8
 }
 
 // The values with fact f set. Every entry is chosen anew, by n, which is 64 at the variable of f: after a store of one byte the processor
-// waits with a read of many bytes at once. n is a byte beside k: to compare k itself takes three times the instructions.
+// waits with a read of many bytes at once. n is a byte that goes with k: to compare k itself takes three times the instructions.
 fn placed(values: [u8; 64], f: usize) -> [u8; 64]
     requires { f < 4096 }
     ensures { result ≡ set values (f / 64) (f % 64) }
@@ -69,7 +69,7 @@ fn placed(values: [u8; 64], f: usize) -> [u8; 64]
     r
 }
 
-// New values laid over old ones, where 64 is none: an option would be two bytes of each of the 64.
+// New values laid over old ones, where 64 is none: with options, of two bytes each, a step takes six times as long.
 fn laid(old: [u8; 64], new: [u8; 64]) -> [u8; 64]
     ensures { values_of result ≡ over (values_of old) (values_of new) }
 {
