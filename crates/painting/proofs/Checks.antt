@@ -1,16 +1,17 @@
 -- Check 8 of one action and of all in turn, and what both checks answer and leave.
 use mathlib.Core.Path.{◌≡◌, refl, sym, ap, ◌∙◌}
 use mathlib.Core.Bool.{Bool, true, false}
-use mathlib.Core.List.{List, [], ◌∷◌, ◌++◌}
+use mathlib.Core.List.{List, ◌++◌}
 use mathlib.Core.Option as math
-use Prim.Native.Nat.{ℕ, ◌+◌, ◌*◌, ◌/◌, ◌%◌, ◌<◌, ◌≤◌}
+use Prim.Native.Nat.{ℕ, ◌+◌, ◌-◌, ◌*◌, ◌/◌, ◌%◌, ◌<◌, ◌≤◌}
 use native.Mathlib.Omega.{arith}
 use lib.Dec.{T}
-use lib.ListN.{set}
+use lib.ListN.{get_or, take, drop, length-take}
+use Rattle.std.proofs.Common.{get_or-take, get_or-drop}
 use Rattle.std.specs.Prelude.{Option, None, Some, IfSome, Result}
 use Rattle.planning.specs.Basics as basics
 use Rattle.planning.specs.Basics.{Check, some_below, first, refuse_at, and_then}
-use Rattle.planning.specs.Record.{Fact, Task}
+use Rattle.planning.specs.Record.{Task}
 use Rattle.planning.specs.Runs.{has, variables, actions, act, black, count}
 use Rattle.planning.specs.Painting.{reduced_effects, black_arc, on_cycle, cyclic, lacks_return, unreturned, acyclic_check, return_check}
 use Rattle.planning.specs.Repair.{order}
@@ -21,13 +22,16 @@ use Rattle.laws.proofs.Arcs.{reduced_elim}
 use Rattle.laws.proofs.Formed.{Formed}
 use Rattle.answers.specs.declared.Refusal.{Refusal}
 use Rattle.answers.specs.Answers.{check_of}
-use Rattle.task.specs.Task.{facts_of, task_in}
+use Rattle.task.specs.Task.{facts_of, pre_at, end_at, task_in, Loaded}
 use Rattle.task.specs.Goals.{option_of}
 use Rattle.task.specs.Links.{Chained, Relinked}
+use Rattle.task.proofs.Slices.{part_facts}
+use Rattle.sets.proofs.Facts.{all_facts, all_inside}
 use Rattle.task.proofs.Relinking.{relinked_task, relinked_none, relinked_trans}
 use Rattle.sets.specs.Sets.{sets_of}
 use Rattle.clients_first.specs.Order.{Ordered}
-use Rattle.returns.specs.Returns.{place, mark_all, marked}
+use Rattle.returns.specs.Returns.{mark_all, marked, Spans, Markable}
+use Rattle.returns.proofs.Marks.{place_inside}
 use Rattle.lacking.specs.declared.Allowing.{Allowing}
 use Rattle.lacking.specs.Lacking.{Unmarked, lacks_by, Ready}
 use Rattle.painting.specs.Chains.{Acyclic, Linked}
@@ -37,21 +41,27 @@ use Rattle.lacking.proofs.Keeping.{ready_more}
 use Rattle.painting.proofs.Chains.{Move, acyclic_relinked, ordered_chained, ordered_relinked}
 use Rattle.painting.proofs.Lacks.{has_right, facts_small, lacks_is}
 
--- one list of facts marked behind the other
-mark_all-++ : (i : ℕ) (o : Option ℕ) (fs gs : List Fact) (marks : List ℕ) → mark_all i o (fs ++ gs) marks ≡ mark_all i o gs (mark_all i o fs marks)
-unfolding mark_all
-mark_all-++ i o [] gs marks = refl
-mark_all-++ i o (f ∷ fs) gs marks = mark_all-++ i o fs gs (set marks (place o (64 * f.var + f.val)) i)
+-- the facts of an action, which stand one behind the other
+module _ (task : List ℕ) (L : Loaded task) (i : ℕ) (h : i < actions (task_in task)) (a b : ℕ) (ea : a ≡ pre_at task i) (eb : b ≡ end_at task i) where
+  pub all_rise : a ≤ b
+  all_rise = let R = L.rows i h in omega (arith, R.pre_below, R.eff_below)
+
+  pub all_stated : facts_of (take (b - a) (drop a task)) ≡ (act (task_in task) i).pre ++ (act (task_in task) i).eff
+  all_stated = part_facts task a b all_rise ∙ rw (ea, eb) (all_facts task L i h)
+
+  pub all_markable : (marks : List ℕ) → Spans (task_in task) marks → (o : Option ℕ) → Markable (take (b - a) (drop a task)) o marks
+  all_markable marks S o k l =
+      let n : k < b - a = omega (arith, length-take {A = ℕ} (b - a) (drop a task)) in
+      omega (arith, S, place_inside (variables (task_in task)) o (get_or (take (b - a) (drop a task)) k 0) (rw (get_or-take, get_or-drop) (all_inside task L i h (a + k) (omega arith) (omega arith))))
 
 -- one action, which marks its facts with 2 × i
 module _ (t : Task) (F : Formed t) (i : ℕ) (h : i < actions t) (marks : List ℕ) (U : Unmarked t (2 * i) marks) (f : ℕ) (K : Move (black t) (reduced_effects (act t i)) f) where
   small : 2 * i < 65535
   small = omega (arith, F.actions_max)
 
-  module _ (pre eff marks₁ marks' : List ℕ) (ep : facts_of pre ≡ (act t i).pre) (ee : facts_of eff ≡ (act t i).eff)
-      (e₁ : marks₁ ≡ mark_all (2 * i) (Some f) (facts_of pre) marks) (e' : marks' ≡ mark_all (2 * i) (Some f) (facts_of eff) marks₁) where
+  module _ (facts marks' : List ℕ) (stated : facts_of facts ≡ (act t i).pre ++ (act t i).eff) (e : marks' ≡ mark_all (2 * i) (Some f) (facts_of facts) marks) where
     both : marks' ≡ mark_all (2 * i) (Some f) ((act t i).pre ++ (act t i).eff) marks
-    both = e' ∙ rw (e₁, ep, ee) (sym (mark_all-++ (2 * i) (Some f) (act t i).pre (act t i).eff marks))
+    both = e ∙ rw stated refl
 
     pub lacking_unmarked : Unmarked t (2 * i + 1) marks'
     lacking_unmarked = rw both (unmarked_all t (2 * i) (Some f) ((act t i).pre ++ (act t i).eff) marks (facts_small t F i) (unmarked_more t (2 * i) (2 * i + 1) marks U (omega arith)))

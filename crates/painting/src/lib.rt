@@ -74,9 +74,8 @@ fn is_lacking(
     let Some(f) = move_of(task, i, paint) else {
         return false;
     };
-    let own = (2 * i) as u16;
-    returns::mark(task::preconditions(task, i), Some(f), own, marks);
-    returns::mark(task::effects(task, i), Some(f), own, marks);
+    let facts = &task[task::pre_start(task, i)..task::eff_end(task, i)];
+    returns::mark(facts, Some(f), (2 * i) as u16, marks);
     lacking::lacks_marked(task, marks, i, f, kept, last)
 }
 
