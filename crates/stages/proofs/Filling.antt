@@ -13,13 +13,10 @@ use Rattle.planning.specs.Runs.{State, variables, count, act, black}
 use Rattle.planning.specs.Repair.{fill, value, order, pass_searches, fill_searches}
 use Rattle.laws.proofs.Fill.{fill_grows, pass_searches_lem}
 use Rattle.paths.specs.Paths.{paths_of, Memo}
-use Rattle.asking.specs.declared.Written.TheVariants as written
-use Rattle.asking.specs.declared.Inserted.{Inserted}
-use Rattle.asking.specs.declared.Inserted.TheVariants.{Upto, Long}
+use Rattle.std.specs.Prelude.{None, Some}
 use Rattle.entries.specs.Entries.{Entries}
-use Rattle.asking.specs.Asking.{written_in, Searched, Put}
+use Rattle.asking.specs.Asking.{Put}
 use Rattle.passes.specs.Passes.{served}
-use Rattle.asking.proofs.Putting.{told_as, counts_as}
 use Rattle.stages.specs.Stages.{Present, fill_from, filled, searches_over, filled_searches}
 use Rattle.stages.proofs.Below.{pass_entries, order_at}
 
@@ -47,7 +44,7 @@ filling_start t K s vs w plan memo m = record {
 
 module _ {t : Task} {K s : State} {vs : List ℕ} {w : List Fact} {plan₀ plan memo : List ℕ} {e k p : ℕ} (G : Filling t K s vs w plan₀ plan memo e k p) where
   -- one variable: the pass from its present fact f
-  module _ (h : p < length vs) (v f : ℕ) (ev : v ≡ get_or vs p 0) (F : Present t s v f) (plan' : List ℕ) (r : Inserted) (q : Put plan plan' 0 (served t K f (take e plan) w) (written_in r)) where
+  module _ (h : p < length vs) (v f : ℕ) (ev : v ≡ get_or vs p 0) (F : Present t s v f) (plan' : List ℕ) where
     abbrev passed : List ℕ
     passed = served t K f (take e plan) w
 
@@ -55,16 +52,12 @@ module _ {t : Task} {K s : State} {vs : List ℕ} {w : List Fact} {plan₀ plan 
     unfolding fill
     filled_next = rw (drop-cons vs p 0 h, add-one p, ← ev, F.of, F.is) refl
 
-    pub filling_long : r ≡ Long → vs ≡ order t → length plan₀ < 0 + length (filled t K s w)
+    pub filling_long : Put plan plan' 0 passed None → vs ≡ order t → length plan₀ < 0 + length (filled t K s w)
     unfolding filled
-    filling_long z o =
-        let y = told_as plan plan' 0 passed r Long z q in
+    filling_long y o =
         rw (← o) (omega (arith, y, G.long, ap length (G.so_far ∙ filled_next), fill_grows (act t) (paths_of t K) (value (count t) s) (drop (p + 1) vs) passed w))
 
-    module _ (x y : ℕ) (z : r ≡ Upto x y) (n : Searched (pass_searches (act t) (f / 64) (take e plan) w) r) where
-      searched : y ≡ pass_searches (act t) (f / 64) (take e plan) w
-      searched = counts_as (pass_searches (act t) (f / 64) (take e plan) w) r x y z n
-
+    module _ (x y : ℕ) (told : Put plan plan' 0 passed (Some x)) (searched : y ≡ pass_searches (act t) (f / 64) (take e plan) w) where
       pub filling_modest : length plan₀ ≤ 32768 → k + y ≤ 32769 * (p + 1)
       filling_modest b =
           omega (arith, G.modest, searched, pass_searches_lem (act t) (f / 64) (take e plan) w, length-take-le e plan (omega (arith, G.within, G.long)), G.within)
@@ -75,7 +68,6 @@ module _ {t : Task} {K s : State} {vs : List ℕ} {w : List Fact} {plan₀ plan 
 
       pub filling_turn : length plan₀ ≤ 32768 → (memo' : List ℕ) → length plan' ≡ length plan → Memo t K memo' → Filling t K s vs w plan₀ plan' memo' x (k + y) (p + 1)
       filling_turn b memo' l m =
-          let told = told_as plan plan' 0 passed r (Upto x y) z q in
           record {
             within = omega (arith, told.1, G.long);
             long = l ∙ G.long;
@@ -94,7 +86,7 @@ module _ {t : Task} {K s : State} {vs : List ℕ} {w : List Fact} {plan₀ plan 
       let q : searches_over t K s vs [] w ≡ k = G.sum ∙ rw (z, drop-length vs) (omega arith) in
       sym (rw (← o) q)
 
-  pub filling_end : length vs ≤ p → vs ≡ order t → Put plan₀ plan 0 (filled t K s w) (written.Upto e)
+  pub filling_end : length vs ≤ p → vs ≡ order t → Put plan₀ plan 0 (filled t K s w) (Some e)
   unfolding fill filled
   filling_end h o =
       let z : p ≡ length vs = omega (arith, G.place) in

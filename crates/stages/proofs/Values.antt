@@ -17,7 +17,7 @@ use Rattle.planning.specs.Repair.{value, black_met}
 use Rattle.laws.proofs.Below.{First?, first_is}
 use Rattle.laws.proofs.Tests.{T→true}
 use Rattle.sets.specs.Sets.{values_of, red_black_of}
-use Rattle.applying.proofs.RedBlack.{red_black_black}
+use Rattle.applying.proofs.RedBlackSteps.{red_black_black}
 use Rattle.stages.specs.Stages.{Present}
 
 -- the one value of a set

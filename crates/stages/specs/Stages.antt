@@ -3,11 +3,10 @@ use Rattle.std.specs.Prelude.{◌≡◌, true, false, List, [], ◌∷◌, ◌++
 use Rattle.planning.specs.Record.{Fact, Task}
 use Rattle.planning.specs.Runs.{State, variables, count, act, black, goals}
 use Rattle.planning.specs.Repair.{order, fill, value, black_met, fill_searches}
-use Rattle.task.specs.Task.{task_in}
+use Rattle.task.specs.Task.{facts_of, task_in}
 use Rattle.sets.specs.Sets.{sets_of, values_of, red_black_of}
 use Rattle.paths.specs.Paths.{paths_of}
 use Rattle.asking.specs.Asking.{Fitting}
-use Rattle.passes.specs.Passes.{facts_of}
 
 -- r is the fact, 64 × variable + value, that v has in the state s
 pub record Present (t : Task) (s : State) (v r : ℕ) : Type 0 where
