@@ -8,7 +8,7 @@ use native.Mathlib.Omega.{arith}
 use lib.Dec.{eqb}
 use lib.ListN.{length, length-append}
 use Rattle.planning.specs.Basics.{done}
-use Rattle.planning.specs.Record.{Task}
+use Rattle.planning.specs.Record.{Action, Task}
 use Rattle.planning.specs.Runs.{holds, step, real, actions, act, initial, goals, run_by, steps_by, run, steps_run, is_plan, cost_by, cost_of, all_below}
 use Rattle.planning.specs.Newest.{Values, initial_values, newer, alone}
 use Rattle.planning.specs.Repair.{repaired, searches}
@@ -20,6 +20,8 @@ use Rattle.laws.proofs.Formed.{Formed, sorted_has, goals_sorted}
 use Rattle.laws.proofs.Prefixes.{run_by_behind, steps_by_le}
 use Rattle.laws.proofs.Sizes.{cost_of_le}
 use Rattle.laws.proofs.Newest.{newest_after, real_holds}
+use Rattle.task.specs.Task.{task_in, action_in, cost_at}
+use Rattle.task.proofs.Reading.{task_in_act}
 use Rattle.applying.proofs.Running.{further_steps}
 use Rattle.counts.specs.declared.Counts.{Counts}
 use Rattle.counts.specs.Counting.{no_counts, Onward, Few, judged_by}
@@ -33,6 +35,11 @@ module _ (c : Counts) (met : Bool) (n : ℕ) where
   pub judged_some : eqb c.runs c.steps ≡ false
       → done (record { steps = c.steps; cost = c.cost; real' = eqb c.runs c.steps; runs = c.runs; searches' = n }) ≡ done (judged_by met c n)
   judged_some h = rw h refl
+
+-- the cost of an action, as the list of the task has it
+pub cost_is : (task : List ℕ) (i : ℕ) → i < actions (task_in task) → cost_at task i ≡ (act (task_in task) i).cost
+unfolding action_in
+cost_is task i h = ap (λ (a : Action). a.cost) (sym (task_in_act task i h))
 
 -- the counts and newest values of the list l
 pub record Counted (t : Task) (l : List ℕ) (f : Values) (c : Counts) : Type 0 where

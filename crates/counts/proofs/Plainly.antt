@@ -3,40 +3,41 @@ use mathlib.Core.Path.{◌≡◌, refl, sym, ap, ◌∙◌}
 use mathlib.Core.Logic.{◌⊎◌, inl, inr}
 use mathlib.Core.Bool.{Bool, true, false, ◌&&◌}
 use mathlib.Core.List.{List, [], ◌∷◌}
-use Prim.Native.Nat.{ℕ, zero, suc, ◌+◌, ◌/◌, ◌<◌, ◌≤◌}
-use native.Mathlib.Numerals.{add-one}
+use mir.Val.{bool_byte}
+use Prim.Native.Nat.{ℕ, zero, suc, ◌+◌, ◌-◌, ◌/◌, ◌<◌, ◌≤◌}
 use native.Mathlib.Omega.{arith}
 use lib.Dec.{T, eqb}
-use lib.ListN.{length, get_or, replicate}
+use lib.ListN.{length, get_or, take, drop, replicate}
+use lib.Seq.{get_or-take, get_or-drop}
 use Rattle.planning.specs.Record.{Fact, Action, Task}
 use Rattle.planning.specs.Runs.{State, Mode, holds, step, relaxed, act, black}
 use Rattle.planning.specs.Newest.{Values, newer, alone}
 use Rattle.laws.proofs.Tests.{T→true, and_l, and_r}
-use Rattle.task.specs.Task.{facts_in, fact_of}
+use Rattle.task.specs.Task.{fact_of, facts_of}
 use Rattle.sets.specs.Sets.{values_of, red_black_of, further, listed, Known, WithOnly}
-use Rattle.sets.proofs.Effects.{facts_in_cons, facts_in_none}
+use Rattle.sets.proofs.Slices.{facts_of_drop, facts_of_end}
 use Rattle.applying.proofs.Knowing.{known_none, known_step, known_held, listed_none}
-use Rattle.applying.proofs.RedBlack.{red_black_black}
+use Rattle.applying.proofs.RedBlackSteps.{red_black_black}
 use Rattle.counts.specs.declared.Counts.{Counts}
 use Rattle.counts.specs.declared.Glided.{Glided}
 use Rattle.counts.specs.Counting.{Onward, Few}
 use Rattle.counts.specs.Plain.{all_black, Plain, passed_by, Glide, Gliding, Glides}
 
--- one turn of a loop over facts, and its end
-module _ (l : List ℕ) (k to : ℕ) (h : k < to) (b : to ≤ length l) (m : Mode) (f : ℕ) (ef : f ≡ get_or l k 0) where
-  all_cons : all_black m (facts_in l k to) ≡ (m (f / 64) && all_black m (facts_in l (k + 1) to))
+-- at place k of a list of facts: what is left to look at are the facts from k on
+module _ (m : Mode) (l : List ℕ) (k : ℕ) where
+  all_cons : k < length l → (f : ℕ) → f ≡ get_or l k 0 → all_black m (facts_of (drop k l)) ≡ (m (f / 64) && all_black m (facts_of (drop (k + 1) l)))
   unfolding all_black fact_of
-  all_cons = rw (facts_in_cons l k to h b, ← ef) refl
+  all_cons h f ef = rw (facts_of_drop l k h, ← ef) refl
 
-  pub all_fails : m (f / 64) ≡ false → all_black m (facts_in l k to) ≡ false
-  all_fails e = all_cons ∙ rw e refl
+  pub all_fails : k < length l → (f : ℕ) → f ≡ get_or l k 0 → m (f / 64) ≡ false → all_black m (facts_of (drop k l)) ≡ false
+  all_fails h f ef e = all_cons h f ef ∙ rw e refl
 
-  pub all_passes : m (f / 64) ≡ true → all_black m (facts_in l k to) ≡ all_black m (facts_in l (k + 1) to)
-  all_passes e = all_cons ∙ rw e refl
+  pub all_passes : k < length l → (f : ℕ) → f ≡ get_or l k 0 → m (f / 64) ≡ true → all_black m (facts_of (drop k l)) ≡ all_black m (facts_of (drop (k + 1) l))
+  all_passes h f ef e = all_cons h f ef ∙ rw e refl
 
-pub all_end : (m : Mode) (l : List ℕ) (k to : ℕ) → k ≡ to → all_black m (facts_in l k to) ≡ true
-unfolding all_black
-all_end m l k to e = rw (facts_in_none l k to e) refl
+  pub all_end : length l ≤ k → all_black m (facts_of (drop k l)) ≡ true
+  unfolding all_black
+  all_end h = rw (facts_of_end l k h) refl
 
 -- what is held red-black is the newest value
 module _ (m : Mode) (s : State) (f : Values) where
@@ -64,17 +65,13 @@ glide_none t set plan f c = (refl, refl)
 
 -- the counts behind it
 module _ (a : Action) (c : Counts) where
-  pub passed_all : (r : ℕ) → eqb c.runs c.steps ≡ true → r ≡ c.runs + 1 → r ≡ further true c.runs c.steps
-  unfolding further
-  passed_all r h e = e ∙ rw (further, h, add-one c.runs) refl
+  further_one : (x : Bool) → c.runs + bool_byte x ≡ elim (x && true) [ true ↦ suc c.runs | false ↦ c.runs ]
+  further_one true = omega arith
+  further_one false = omega arith
 
-  pub passed_some : eqb c.runs c.steps ≡ false → c.runs ≡ further true c.runs c.steps
-  unfolding further
-  passed_some h = rw (further, h) refl
-
-  pub passed_is : (r k : ℕ) → r ≡ further true c.runs c.steps → k ≡ a.cost → ◌≡◌ {A = Counts} (record { steps = c.steps + 1; runs = r; cost = c.cost + k }) (passed_by a c)
-  unfolding passed_by
-  passed_is r k e q = rw (e, q) refl
+  pub passed_is : (r k : ℕ) → r ≡ bool_byte (eqb c.runs c.steps) → k ≡ a.cost → ◌≡◌ {A = Counts} (record { steps = c.steps + 1; runs = c.runs + r; cost = c.cost + k }) (passed_by a c)
+  unfolding passed_by further
+  passed_is r k e q = rw (e, q, further_one (eqb c.runs c.steps)) refl
 
   pub passed_steps : (passed_by a c).steps ≡ c.steps + 1
   unfolding passed_by
@@ -99,10 +96,34 @@ module _ (t : Task) (set plan : List ℕ) (to : ℕ) (f : Values) (c : Counts) w
         way = rw (eg, er, ei) (glide_more t set plan G.count f c g r G.way (rw (← ei) h));
       }
 
+-- an entry of the part of a list from place s on
+pub entry_behind : (l : List ℕ) (s k m i : ℕ) → m ≡ s + k → k < length l - s → i ≡ get_or (take (length l - s) (drop s l)) k 0 → i ≡ get_or l m 0
+entry_behind l s k m i e h q = q ∙ get_or-take (length l - s) (drop s l) k 0 h ∙ get_or-drop s l k 0 ∙ ap (λ (j : ℕ). get_or l j 0) (sym e)
+
 -- such steps behind the first one
 pub glides_from : (t : Task) (set plan : List ℕ) (to : ℕ) (f : Values) (c : Counts) (i : ℕ) (r : Glided) → i ≡ get_or plan c.steps 0
     → {first : Counts} → Onward (act t i) f c first → (g : Values) → g ≡ newer (act t i) f → Gliding t set plan to g first (values_of r.newest.values) r.counts → Glides t set plan to f c r
 glides_from t set plan to f c i r ei {first = first} O g eg G = record { first = first; onward = rw (← ei) O; more = rw (← ei, ← eg) G }
+
+-- what is told of the front part of a list is so of the list
+module _ (t : Task) (set plan : List ℕ) (a : ℕ) where
+  glide_front : (m : ℕ) (f : Values) (c : Counts) (g : Values) (r : Counts) → c.steps + m ≤ a → Glide t set (take a plan) m f c g r → Glide t set plan m f c g r
+  unfolding Glide
+  glide_front zero f c g r b G = G
+  glide_front (suc m) f c g r b G =
+      let e : get_or (take a plan) c.steps 0 ≡ get_or plan c.steps 0 = get_or-take a plan c.steps 0 (omega arith) in
+      rw (← e) (G.0, glide_front m _ _ g r (omega (arith, passed_steps (act t (get_or (take a plan) c.steps 0)) c)) G.1)
+
+  pub glides_front : (n : ℕ) → n ≡ a → (f : Values) (c : Counts) → c.steps < a → (r : Glided) → Glides t set (take a plan) n f c r → Glides t set plan a f c r
+  glides_front n en f c h r G =
+      let e : get_or (take a plan) c.steps 0 ≡ get_or plan c.steps 0 = get_or-take a plan c.steps 0 h in
+      let M = G.more in
+      rw en at (glides_from t set plan n f c _ r e G.onward _ refl (record {
+        count = M.count;
+        steps = M.steps;
+        within = M.within;
+        way = glide_front M.count _ _ _ _ (omega (arith, M.steps, M.within)) M.way;
+      }))
 
 -- counts stay within their bounds
 further_le : (b : Bool) (r s : ℕ) → r ≤ s → further b r s ≤ s + 1

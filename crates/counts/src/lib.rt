@@ -3,8 +3,8 @@
 // actions, where their effects are held too, are counted without a look at the values.
 #![tactic(auto)]
 
-ghost use Rattle.std.specs.Prelude.{◌≡◌, true, not, ◌++◌, ◌-◌, ◌*◌, ◌<◌, ◌≤◌, length, take};
-ghost use Rattle.planning.specs.Basics.{one_if, done, refused};
+ghost use Rattle.std.specs.Prelude.{◌≡◌, true, Ok, Err, ◌++◌, ◌-◌, ◌*◌, ◌<◌, ◌≤◌, length, take};
+ghost use Rattle.planning.specs.Basics.{done, refused};
 ghost use Rattle.planning.specs.Runs.{holds, step, relaxed, actions, act, black, goals};
 ghost use Rattle.planning.specs.Newest.{alone};
 ghost use Rattle.task.specs.Task.{task_in, Loaded};
@@ -12,51 +12,29 @@ ghost use Rattle.sets.specs.Sets.{sets_of, values_of};
 ghost use Rattle.entries.specs.Entries.{Entries};
 ghost use Rattle.answers.specs.Plans.{answer_of};
 ghost use Rattle.counts.specs.Marks.{marks_for};
-ghost use Rattle.counts.specs.Counting.{Small, Few, no_counts, Onward, judged_by};
+ghost use Rattle.counts.specs.Counting.{Small, Few, Onward, judged_by};
 ghost use Rattle.counts.specs.Plain.{all_black, Plain, passed_by, Glides};
 
-use answers::{Planned, Refusal};
+use answers::{Plan, Reason, Refusal};
 use state::{Goals, Newest};
-
-// The mark of a stage's last step: 0 for an action, 1 for a move.
-fn last_mark(action: bool) -> u8
-    ensures { result ≡ one_if (not action) }
-{
-    if action { 0 } else { 1 }
-}
 
 // The marks of a stage's steps, at the places from `from` up to `to`: 1 for a move, 0 for the action behind them if there is one.
 pub fn mark(marks: &mut [u8], from: usize, to: usize, action: bool)
     requires { (from ≤ to) × (to ≤ length marks.old) × (action ≡ true → from < to) }
     ensures { take to marks.new ≡ take from marks.old ++ marks_for action (to - from) }
 {
-    let mut k = from;
-    while k + 1 < to {
-        marks[k] = 1;
-        k += 1;
-    }
-    if k < to {
-        marks[k] = last_mark(action);
+    marks[from..to].fill(1);
+    if action {
+        marks[to - 1] = 0;
     }
 }
 
 // What is counted along a list: its steps, those that run for real, the cost.
-#[derive(Clone, Copy)]
+#[derive(Clone, Copy, Default)]
 pub struct Counts {
     pub steps: usize,
     pub runs: usize,
     pub cost: usize,
-}
-
-// Nothing is counted.
-pub fn uncounted() -> Counts
-    ensures { result ≡ no_counts }
-{
-    Counts {
-        steps: 0,
-        runs: 0,
-        cost: 0,
-    }
 }
 
 // The counts of a list with action i behind it.
@@ -76,13 +54,9 @@ fn passed(task: &[u16], i: usize, c: Counts) -> Counts
     requires { Loaded task.now × (i < actions (task_in task.now)) × Small c }
     ensures { result ≡ passed_by (act (task_in task.now) i) c }
 {
-    let mut runs = c.runs;
-    if runs == c.steps {
-        runs += 1;
-    }
     Counts {
         steps: c.steps + 1,
-        runs,
+        runs: c.runs + usize::from(c.runs == c.steps),
         cost: c.cost + task::cost(task, i),
     }
 }
@@ -94,26 +68,17 @@ pub struct Glided {
     pub counts: Counts,
 }
 
-// The next step, and those behind it, up to place `to`, as far as their actions are of the set `plain`. For these the values are not
-// looked at, so that they can stay in registers from step to step.
-pub fn glide(
-    task: &[u16],
-    newest: Newest,
-    plan: &[u16],
-    c: Counts,
-    to: usize,
-    plain: &[u64; 16],
-) -> Glided
-    requires { Loaded task.now × Few c × (c.steps < to) × (to ≤ 32768) × (to ≤ length plan.now) × Entries (task_in task.now) (take to plan.now) }
-    ensures { Glides (task_in task.now) plain.now plan.now to (values_of newest.values) c result }
+// The next step of the list, and those behind it as far as their actions are of the set `plain`. For these the values are not looked at,
+// so that they can stay in registers from step to step.
+pub fn glide(task: &[u16], newest: Newest, plan: &[u16], c: Counts, plain: &[u64; 16]) -> Glided
+    requires { Loaded task.now × Few c × (c.steps < length plan.now) × (length plan.now ≤ 32768) × Entries (task_in task.now) plan.now }
+    ensures { Glides (task_in task.now) plain.now plan.now (length plan.now) (values_of newest.values) c result }
 {
-    let k = c.steps;
-    let mut i = lists::wide(plan[k]);
+    let i = usize::from(plan[c.steps]);
     let mut r = counted(task, &newest.values, i, c);
     let mut now = newest.step(task, i);
-    while r.steps < to {
-        let k = r.steps;
-        i = lists::wide(plan[k]);
+    for x in &plan[r.steps..] {
+        let i = usize::from(*x);
         if !sets::is_listed(plain, i) {
             break;
         }
@@ -131,13 +96,11 @@ fn needs_black(task: &[u16], i: usize) -> bool
     requires { Loaded task.now × (i < actions (task_in task.now)) }
     ensures { result ≡ all_black (black (task_in task.now)) (act (task_in task.now) i).pre }
 {
-    let end = task::eff_start(task, i);
-    let mut k = task::pre_start(task, i);
-    while k < end {
-        if !task::is_black(task, lists::wide(task[k]) / 64) {
+    let facts = task::preconditions(task, i);
+    for f in facts {
+        if !task::is_black(task, usize::from(*f) / 64) {
             return false;
         }
-        k += 1;
     }
     true
 }
@@ -163,33 +126,31 @@ fn at_goals(task: &[u16], newest: &[u8; 64]) -> bool
     ensures { result ≡ holds (alone (values_of newest.now)) (goals (task_in task.now)) }
 {
     let goals = Goals::load(task);
-    let count = goals.count;
-    applying::all_newest(newest, &goals.facts, 0, count)
+    applying::all_hold(newest, goals.listed())
 }
 
-// The answer for a list with these counts, newest values and searches.
-pub fn verdict(task: &[u16], newest: &[u8; 64], c: Counts, searches: usize) -> Planned
+// The plan for a list with these counts, newest values and searches.
+pub fn verdict(task: &[u16], newest: &[u8; 64], c: Counts, searches: usize) -> Plan
     requires { Loaded task.now × Few c × (searches ≤ 64 * 32769) }
-    ensures { answer_of result ≡ done (judged_by (holds (alone (values_of newest.now)) (goals (task_in task.now))) c searches) }
+    ensures { answer_of (Ok result) ≡ done (judged_by (holds (alone (values_of newest.now)) (goals (task_in task.now))) c searches) }
 {
     let met = at_goals(task, newest);
-    let all = c.runs == c.steps;
-    Planned::Plan {
+    Plan {
         steps: c.steps as u32,
         cost: c.cost as u32,
         runs: c.runs as u32,
         searches: searches as u32,
-        real: all && met,
+        real: c.runs == c.steps && met,
     }
 }
 
 // The list does not fit.
-pub fn too_long(room: usize) -> Planned
+pub fn too_long(room: usize) -> Refusal
     requires { room ≤ 32768 }
-    ensures { answer_of result ≡ refused 11 room }
+    ensures { answer_of (Err result) ≡ refused 11 room }
 {
-    Planned::Refused(Refusal {
-        number: 11,
+    Refusal {
+        reason: Reason::Room,
         place: room as u32,
-    })
+    }
 }

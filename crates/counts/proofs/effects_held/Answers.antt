@@ -1,0 +1,8 @@
+use Rattle.counts.proofs.Plainly.{plain_step}
+use Rattle.counts.proofs.effects_held.Goals as goal
+
+pub returns-then-is_listed-clause-plain : goal.returns-then-is_listed-clause-plain
+returns-then-is_listed-clause-plain c = plain_step _ _ c.requires.2 c.args.i
+
+pub returns-clause-plain : goal.returns-clause-plain
+returns-clause-plain c = plain_step _ _ c.requires.2 c.args.i

@@ -1,0 +1,16 @@
+-- Every step behind the first is by an action of the set; values and counts are those behind it.
+use mathlib.Core.Path.{◌≡◌}
+use Prim.Native.Nat.{◌+◌}
+use lib.ListN.{length}
+use Rattle.task.specs.Task.{task_in}
+use Rattle.sets.specs.Sets.{values_of}
+use Rattle.counts.specs.Counting.{Few}
+use Rattle.counts.specs.Plain.{Gliding}
+use Rattle.counts.proofs.glide.Given as goal
+
+abbrev pub invariant-loop-x : goal.invariant-loop-x
+invariant-loop-x l = record {
+  gliding : Gliding (task_in l.task) l.plain l.plan (length l.plan) (values_of l.initial.now.values) l.initial.r (values_of l.now.values) l.r;
+  few : Few l.r;
+  place : l.r.steps ≡ l.initial.r.steps + l.x-index;
+}
