@@ -28,7 +28,7 @@ pub fn code<T: Copy>(answer: Result<T, Refusal>) -> u64
 }
 
 #[repr(C)]
-#[derive(Clone, Copy, Debug, Default, PartialEq, Eq)]
+#[derive(Clone, Copy, Default)]
 pub struct PlanResult {
     pub code: u64,
     pub steps: u32,
