@@ -7,7 +7,9 @@ use Prim.Native.Nat.{ℕ, ◌+◌, ◌-◌, ◌*◌, ◌/◌, ◌%◌, ◌<◌, 
 use native.Mathlib.Omega.{arith}
 use lib.Dec.{T}
 use lib.ListN.{get_or, take, drop, length-take}
+use lib.Seq.{take-add}
 use Rattle.std.proofs.Common.{get_or-take, get_or-drop}
+use Rattle.std.proofs.lemmas.List.{drop-drop, map-append}
 use Rattle.std.specs.Prelude.{Option, None, Some, IfSome, Result}
 use Rattle.planning.specs.Basics as basics
 use Rattle.planning.specs.Basics.{Check, some_below, first, refuse_at, and_then}
@@ -22,11 +24,11 @@ use Rattle.laws.proofs.Arcs.{reduced_elim}
 use Rattle.laws.proofs.Formed.{Formed}
 use Rattle.answers.specs.declared.Refusal.{Refusal}
 use Rattle.answers.specs.Answers.{check_of}
-use Rattle.task.specs.Task.{facts_of, pre_at, end_at, task_in, Loaded}
+use Rattle.task.specs.Task.{fact_of, facts_of, pre_at, eff_at, end_at, task_in, Loaded}
 use Rattle.task.specs.Goals.{option_of}
 use Rattle.task.specs.Links.{Chained, Relinked}
-use Rattle.task.proofs.Slices.{part_facts}
-use Rattle.sets.proofs.Facts.{all_facts, all_inside}
+use Rattle.task.proofs.Slices.{states_pre, states_eff}
+use Rattle.sets.proofs.Facts.{all_inside}
 use Rattle.task.proofs.Relinking.{relinked_task, relinked_none, relinked_trans}
 use Rattle.sets.specs.Sets.{sets_of}
 use Rattle.clients_first.specs.Order.{Ordered}
@@ -47,7 +49,18 @@ module _ (task : List ℕ) (L : Loaded task) (i : ℕ) (h : i < actions (task_in
   all_rise = let R = L.rows i h in omega (arith, R.pre_below, R.eff_below)
 
   pub all_stated : facts_of (take (b - a) (drop a task)) ≡ (act (task_in task) i).pre ++ (act (task_in task) i).eff
-  all_stated = part_facts task a b all_rise ∙ rw (ea, eb) (all_facts task L i h)
+  unfolding facts_of
+  all_stated =
+      let R = L.rows i h in
+      let q : b - a ≡ (m - a) + (b - m) = omega (arith, R.pre_below, R.eff_below) in
+      let z : a + (m - a) ≡ m = omega (arith, R.pre_below) in
+      ap (λ (n : ℕ). facts_of (take n (drop a task))) q
+      ∙ ap facts_of (take-add (m - a) (b - m) (drop a task) ∙ ap (λ (l : List ℕ). take (m - a) (drop a task) ++ take (b - m) l) (drop-drop (m - a) a task ∙ ap (λ (n : ℕ). drop n task) z))
+      ∙ map-append fact_of (take (m - a) (drop a task)) (take (b - m) (drop m task))
+      ∙ rw ((states_pre task L i h a m ea refl).stated, (states_eff task L i h m b refl eb).stated) refl
+    where
+      m : ℕ
+      m = eff_at task i
 
   pub all_markable : (marks : List ℕ) → Spans (task_in task) marks → (o : Option ℕ) → Markable (take (b - a) (drop a task)) o marks
   all_markable marks S o k l =

@@ -17,7 +17,7 @@ ghost use Rattle.painting.specs.Chains.{move_of, linked_move, Acyclic, Linked};
 ghost use Rattle.painting.specs.Answers.{lacks, Readied};
 
 use answers::{Reason, Refusal};
-use lacking::{Allowing, KEPT};
+use lacking::{KEPT, Memory};
 use returns::Last;
 
 // The move of action i, the first black fact that it sets and does not need.
@@ -59,24 +59,17 @@ fn link_all(task: &mut [u16], paint: u64)
 }
 
 // Action i has an arc that lacks its return.
-fn is_lacking(
-    task: &[u16],
-    paint: u64,
-    i: usize,
-    marks: &mut [u16],
-    kept: &mut [Option<Allowing>; KEPT],
-    last: &mut Last,
-) -> bool
-    requires { Acyclic task.now paint × Chained (task_in task.now) task.now × (i < actions (task_in task.now)) × Ready (task_in task.now) (2 * i) marks.old kept.old }
+fn is_lacking(task: &[u16], paint: u64, i: usize, marks: &mut [u16], memory: &mut Memory) -> bool
+    requires { Acyclic task.now paint × Chained (task_in task.now) task.now × (i < actions (task_in task.now)) × Ready (task_in task.now) (2 * i) marks.old memory.old.kept }
     ensures answer { result ≡ lacks (task_in task.now) i }
-    ensures ready { Ready (task_in task.now) (2 * i + 2) marks.new kept.new }
+    ensures ready { Ready (task_in task.now) (2 * i + 2) marks.new memory.new.kept }
 {
     let Some(f) = move_of(task, i, paint) else {
         return false;
     };
     let facts = &task[task::pre_start(task, i)..task::eff_end(task, i)];
     returns::mark(facts, Some(f), (2 * i) as u16, marks);
-    lacking::lacks_marked(task, marks, i, f, kept, last)
+    lacking::lacks_marked(task, marks, i, f, memory)
 }
 
 // The lowest action with an arc that lacks its return; no fact is marked yet.
@@ -85,14 +78,16 @@ fn lowest_by(task: &[u16], paint: u64, marks: &mut [u16]) -> Option<usize>
     ensures { option_of result ≡ unreturned (task_in task.now) }
 {
     let n = task::actions(task);
-    let mut kept = [None; KEPT];
-    let mut last = Last {
-        served: [65535; 1024],
-        place: 0,
-        tries: 32,
+    let mut memory = Memory {
+        kept: [None; KEPT],
+        last: Last {
+            served: [65535; 1024],
+            place: 0,
+            tries: 32,
+        },
     };
     for i in 0..n {
-        if is_lacking(task, paint, i, marks, &mut kept, &mut last) {
+        if is_lacking(task, paint, i, marks, &mut memory) {
             return Some(i);
         }
     }

@@ -19,6 +19,14 @@ pub struct Last {
     pub tries: u16,
 }
 
+// A loaded task with marks: those that are `own` say what is allowed.
+#[derive(Clone, Copy)]
+pub struct Marked<'a, 'b> {
+    pub task: &'a [u16],
+    pub marks: &'b [u16],
+    pub own: u16,
+}
+
 // Where an action with the move f, if it has one, marks its fact g.
 fn place_of(f: Option<usize>, g: usize) -> usize
     ensures { result ≡ place f g }
@@ -39,56 +47,48 @@ pub fn mark(facts: &[u16], f: Option<usize>, own: u16, marks: &mut [u16])
     }
 }
 
-// Where the first of the facts stands that is not marked i.
-fn first_unmarked(facts: &[u16], marks: &[u16], i: u16) -> Option<usize>
+// Where the first of the facts stands that is not marked `own`.
+fn first_unmarked(facts: &[u16], marks: &[u16], own: u16) -> Option<usize>
     requires { (k : ℕ) → k < length facts.now → get_or facts.now k 0 < length marks.now }
-    ensures { MatchOption result (holds (marked i marks.now) (facts_of facts.now) ≡ true) (λ k. holds (marked i marks.now) (facts_of facts.now) ≡ false) }
+    ensures { MatchOption result (holds (marked own marks.now) (facts_of facts.now) ≡ true) (λ k. holds (marked own marks.now) (facts_of facts.now) ≡ false) }
 {
     for (k, f) in facts.iter().enumerate() {
-        if marks[usize::from(*f)] != i {
+        if marks[usize::from(*f)] != own {
             return Some(k);
         }
     }
     None
 }
 
-// Each precondition of action j is marked i. The one that was not the last time is looked at first.
-pub fn all_marked(task: &[u16], j: usize, marks: &[u16], i: u16, last: &mut Last) -> bool
-    requires { Loaded task.now × (j < actions (task_in task.now)) × Spans (task_in task.now) marks.now }
-    ensures { result ≡ holds (marked i marks.now) (act (task_in task.now) j).pre }
+// Each precondition of action j is marked. The one that was not the last time is looked at first.
+pub fn all_marked(m: Marked, j: usize, last: &mut Last) -> bool
+    requires { Loaded m.task.now × (j < actions (task_in m.task.now)) × Spans (task_in m.task.now) m.marks.now }
+    ensures { result ≡ holds (marked m.entry.own m.entry.marks.now) (act (task_in m.entry.task.now) j).pre }
 {
-    let pre = task::preconditions(task, j);
+    let pre = task::preconditions(m.task, j);
     let seen = usize::from(last.place % 16);
-    if seen < pre.len() && marks[usize::from(pre[seen])] != i {
+    if seen < pre.len() && m.marks[usize::from(pre[seen])] != m.own {
         return false;
     }
-    let Some(k) = first_unmarked(pre, marks, i) else {
+    let Some(k) = first_unmarked(pre, m.marks, m.own) else {
         return true;
     };
     last.place = (k % 16) as u16;
     false
 }
 
-// The first action from j on whose move is f and that needs facts that are marked i alone. The walk goes along the chain of f, in which j
-// stands.
-fn first_return(
-    task: &[u16],
-    marks: &[u16],
-    i: u16,
-    f: usize,
-    j: usize,
-    last: &mut Last,
-) -> Option<usize>
-    requires { OnChain task.now f × InChain (task_in task.now) (f / 64) (f % 64) j × Spans (task_in task.now) marks.now }
-    ensures { FirstFrom (λ k. T (returns_by (task_in task.now) (marked i marks.now) (f / 64) (f % 64) k)) j (actions (task_in task.now)) result }
+// The first action from j on whose move is f and that needs marked facts alone. The walk goes along the chain of f, in which j stands.
+fn first_return(m: Marked, f: usize, j: usize, last: &mut Last) -> Option<usize>
+    requires { OnChain m.task.now f × InChain (task_in m.task.now) (f / 64) (f % 64) j × Spans (task_in m.task.now) m.marks.now }
+    ensures { FirstFrom (λ k. T (returns_by (task_in m.entry.task.now) (marked m.entry.own m.entry.marks.now) (f / 64) (f % 64) k)) j (actions (task_in m.entry.task.now)) result }
 {
     let mut k = j;
     // 65,535: the loaded task, whose form stays, ends its chains with it
     while k != 65535 {
-        if all_marked(task, k, marks, i, last) {
+        if all_marked(m, k, last) {
             return Some(k);
         }
-        k = task::next_mover(task, k);
+        k = task::next_mover(m.task, k);
     }
     None
 }
@@ -104,34 +104,27 @@ fn moves_to(task: &[u16], h: usize, f: usize) -> bool
     sets::target(task, h, f / 64) == Some(f % 64) && !sets::needs_fact(task, h, f)
 }
 
-// Some action with the move f that needs facts that are marked i alone. The walk starts at action h, if that has the move f, and then at the first.
-fn find_return(
-    task: &[u16],
-    marks: &[u16],
-    i: u16,
-    f: usize,
-    h: usize,
-    last: &mut Last,
-) -> Option<usize>
-    requires { OnChain task.now f × Spans (task_in task.now) marks.now }
-    ensures { Finds (task_in task.now) (marked i marks.now) (f / 64) (f % 64) result }
+// Some action with the move f that needs marked facts alone. The walk starts at action h, if that has the move f, and then at the first.
+fn find_return(m: Marked, f: usize, h: usize, last: &mut Last) -> Option<usize>
+    requires { OnChain m.task.now f × Spans (task_in m.task.now) m.marks.now }
+    ensures { Finds (task_in m.entry.task.now) (marked m.entry.own m.entry.marks.now) (f / 64) (f % 64) result }
 {
-    if moves_to(task, h, f) {
-        if let Some(j) = first_return(task, marks, i, f, h, last) {
+    if moves_to(m.task, h, f) {
+        if let Some(j) = first_return(m, f, h, last) {
             return Some(j);
         }
     }
-    first_return(task, marks, i, f, task::first_mover(task, f), last)
+    first_return(m, f, task::first_mover(m.task, f), last)
 }
 
-// Some action with the move f needs facts that are marked i alone. The one that was found last, for f or for a fact that shares its place, is
-// tried first.
-pub fn is_returned(task: &[u16], marks: &[u16], i: u16, f: usize, last: &mut Last) -> bool
-    requires { OnChain task.now f × Spans (task_in task.now) marks.now }
-    ensures { result ≡ returned (task_in task.now) (marked i marks.now) (f / 64) (f % 64) }
+// Some action with the move f needs marked facts alone. The one that was found last, for f or for a fact that shares its place, is tried first.
+pub fn is_returned(m: Marked, f: usize, last: &mut Last) -> bool
+    requires { OnChain m.task.now f × Spans (task_in m.task.now) m.marks.now }
+    ensures { result ≡ returned (task_in m.entry.task.now) (marked m.entry.own m.entry.marks.now) (f / 64) (f % 64) }
 {
     let h = usize::from(last.served[f % 1024]);
-    let Some(j) = find_return(task, marks, i, f, h, last) else {
+    let Some(j) = find_return(m, f, h, last) else {
+        // 65,535: no action. An Option for each would double what is cleared
         last.served[f % 1024] = 65535;
         return false;
     };

@@ -6,4 +6,4 @@ use Rattle.lacking.proofs.Arcs.{Trying}
 use Rattle.lacking.proofs.lacks_some.Given as goal
 
 abbrev pub invariant-loop-d : goal.invariant-loop-d
-invariant-loop-d l = Trying (task_in l.task) (marked l.i l.marks) (l.f / 64) (l.f % 64) l.d
+invariant-loop-d l = Trying (task_in l.m.task.now) (marked l.m.own l.m.marks.now) (l.f / 64) (l.f % 64) l.d

@@ -6,7 +6,7 @@ use Rattle.returns.proofs.Returns.{Chasing}
 use Rattle.returns.proofs.first_return.Given as goal
 
 abbrev pub invariant-loop-k : goal.invariant-loop-k
-invariant-loop-k l = Chasing (task_in l.task) (marked l.i l.marks) (l.f / 64) (l.f % 64) l.j l.k
+invariant-loop-k l = Chasing (task_in l.m.task.now) (marked l.m.own l.m.marks.now) (l.f / 64) (l.f % 64) l.j l.k
 
 abbrev pub decreases-loop-k : goal.decreases-loop-k
 decreases-loop-k l = 65535 - l.k

@@ -6,4 +6,4 @@ use Rattle.returns.specs.Returns.{marked}
 use Rattle.returns.proofs.first_unmarked.Given as goal
 
 abbrev pub invariant-loop-k : goal.invariant-loop-k
-invariant-loop-k l = holds (marked l.i l.marks) (facts_of l.facts) ≡ holds (marked l.i l.marks) (facts_of (drop l.k l.facts))
+invariant-loop-k l = holds (marked l.own l.marks) (facts_of l.facts) ≡ holds (marked l.own l.marks) (facts_of (drop l.k l.facts))
