@@ -173,9 +173,6 @@ pub record Heading (s before task : List ℕ) (v : ℕ) : Type 0 where
   pub actions' : cell task 0 1 ≡ actions_in s
   pub so_far : (w : ℕ) → w < v → VariablePlaced s w task
 
-pub heading_start : (s before task : List ℕ) (n m : ℕ) → RowWritten 0 n m 0 0 before task → n ≡ variables_in s → m ≡ actions_in s → Heading s task task 0
-heading_start s before task n m W en em = record { within = omega arith; long = refl; count = W.first ∙ en; actions' = W.second ∙ em; so_far = λ w h. absurd (omega arith) }
-
 variable_as : (s before after : List ℕ) (w : ℕ) → ((d : ℕ) → d < 4 → cell after (1 + w) d ≡ cell before (1 + w) d) → VariablePlaced s w before → VariablePlaced s w after
 variable_as s before after w kept P = record {
   count = kept 0 (omega arith) ∙ P.count;
@@ -316,9 +313,6 @@ module _ (s : List ℕ) where
 
     pub action_ends : (after : List ℕ) (n : ℕ) → ActionLoaded s at (action_rows + i) to task after n → action_end s at ≡ at + (24 + 12 * n)
     action_ends after n A = omega (arith, A.count, action_end_is s at)
-
-    pub few_facts : (after : List ℕ) (n : ℕ) → ActionLoaded s at (action_rows + i) to task after n → n ≤ 30
-    few_facts after n A = omega (arith, A.count, facts_of_le s at)
 
 -- facts read back from their numbers
 facts_in_read : (s task : List ℕ) (a p n : ℕ) → a + n ≤ length task → ((k : ℕ) → k < n → get_or task (a + k) 0 ≡ bits_at s (p + 12 * k) 12) → facts_in task a (a + n) ≡ facts_at s p n

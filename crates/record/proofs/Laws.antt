@@ -165,12 +165,6 @@ pub facts_none : (s : List ℕ) (p low n i : ℕ) → n ≤ i → in_order (fact
 unfolding facts_checks in_order
 facts_none s p low n i h = let e : n - i ≡ 0 = omega arith in rw e refl
 
-pub facts_start : (s : List ℕ) (p n : ℕ) → in_order (facts_checks s p 0 n) ≡ in_order (facts_checks s (p + 12 * 0) 0 (n - 0))
-facts_start s p n = let e : p + 12 * 0 ≡ p = omega arith in let f : n - 0 ≡ n = omega arith in rw (e, f) refl
-
-pub counts_as : (s counts : List ℕ) (n m : ℕ) → n ≡ m → Counts s counts n → Counts s counts m
-counts_as s counts n m e C = rw e at C
-
 -- a fact that the quick test passes
 module _ (s : List ℕ) (p low f : ℕ) (counts : List ℕ) (e : f ≡ bits_at s p 12) (all : p + 12 ≤ 8 * length s) (C : Counts s counts (variables_in s)) (S : Sound counts f low) where
   known : Dec (f / 64 < variables_in s) → f / 64 < variables_in s
@@ -515,12 +509,6 @@ pub record Seen (s : List ℕ) (count : ℕ) (counts : List ℕ) (i : ℕ) : Typ
   pub size : length counts ≡ 64
   pub checks : in_order (variables_checks s 22 count) ≡ in_order (variables_checks s (variable_bit i) (count - i))
   pub holds : Counts s counts i
-
-pub variables_start : (s : List ℕ) (count : ℕ) (counts : List ℕ) → length counts ≡ 64 → Counts s counts 0 → Seen s count counts 0
-variables_start s count counts h k =
-    let e : count - 0 ≡ count = omega arith in
-    let f : variable_bit 0 ≡ 22 = omega arith in
-    record { within = omega arith; size = h; checks = rw (e, f) refl; holds = k }
 
 module _ (s : List ℕ) (count : ℕ) (counts : List ℕ) (i : ℕ) (I : Seen s count counts i) where
   variables_step : i < count → in_order (variables_checks s 22 count) ≡ in_order (variable_checks s (variable_bit i) ++ variables_checks s (variable_bit (i + 1)) (count - (i + 1)))

@@ -1,14 +1,10 @@
 -- The checks of a record from a place on, as the functions of the check take them up, and what their answers say.
-use Rattle.std.specs.Prelude.{◌≡◌, Bool, true, false, ◌&&◌, List, [], ◌∷◌, ◌++◌, ℕ, ◌+◌, ◌*◌, ◌/◌, ◌%◌, ◌≤◌, ◌<◌, leb, ltb, length, get_or}
+use Rattle.std.specs.Prelude.{◌≡◌, ◌&&◌, List, [], ◌∷◌, ◌++◌, ℕ, ◌+◌, ◌*◌, ◌/◌, ◌%◌, ◌≤◌, ◌<◌, leb, ltb, length, get_or}
 use Rattle.std.proofs.Math.Option.{none}
 use Rattle.planning.specs.Basics.{Check, check, in_order, bits_at}
 use Rattle.planning.specs.Record.{variable_bit, variables_in, actions_in, count_in, preconditions_in, effects_in, effects_from}
 use Rattle.planning.specs.Record.{field_check, goal_fits, variables_checks, facts_checks, actions_checks, ends_at, record_end}
 use Rattle.bits.specs.Windows.{Leading}
-
--- the answer of a test decides P
-abbrev pub Decides : Bool → Type 0 → Type 0
-Decides b P = (b ≡ true → P) × (b ≡ false → P → ⊥)
 
 -- the list holds the count of values of each of the first n variables, and 0 behind them
 pub record Counts (s counts : List ℕ) (n : ℕ) : Type 0 where

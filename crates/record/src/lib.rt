@@ -5,15 +5,23 @@
 #![tactic(auto)]
 
 ghost use Rattle.std.specs.Prelude.{◌≡◌, true, ◌+◌, ◌*◌, ◌/◌, ◌<◌, ◌≤◌, length, IfSome, MatchOption, OnOk};
+ghost use Rattle.std.specs.Bool.{Decides};
 ghost use Rattle.std.proofs.Math.Option.{none};
 ghost use Rattle.planning.specs.Basics.{answer, done, in_order, bits_at};
 ghost use Rattle.planning.specs.Record.{variables_in, actions_in, preconditions_in, effects_in, action_end, actions_end, record_end};
 ghost use Rattle.planning.specs.Record.{field_check, variable_checks, variables_checks, fact_checks, facts_checks, action_checks, actions_checks, record_check};
 ghost use Rattle.answers.specs.Answers.{check_of, value_of};
-ghost use Rattle.record.specs.Stages.{action_facts_checks, Decides, Counts, Known, Few, Unsound, SoundHeader, SoundVariable, Sound};
+ghost use Rattle.record.specs.Stages.{action_facts_checks, Counts, Known, Few, Unsound, SoundHeader, SoundVariable, Sound};
 ghost use Rattle.record.specs.Stages.{from_end, from_actions, from_variables, from_action_count, from_variable_count, goal_checks, initial_checks};
 
 use answers::{Reason, Refusal};
+
+// The variables of a record that are checked: how many, and the count of values of each, 0 behind them.
+#[derive(Clone, Copy)]
+struct Variables {
+    count: u32,
+    values: [u8; 64],
+}
 
 // A field, or refusal 1 at its first bit.
 fn take(bytes: &[u8], at: u32, width: usize) -> Result<u32, Refusal>
@@ -51,25 +59,19 @@ pub fn check_end(bytes: &[u8], at: u32) -> Result<(), Refusal>
 }
 
 // The fact at bit `at`, field by field, whose variable is to be at least `low`: its variable.
-fn check_fact(
-    bytes: &[u8],
-    at: u32,
-    low: u32,
-    variables: u32,
-    counts: &[u8; 64],
-) -> Result<u32, Refusal>
-    requires { (at ≤ 400000) × (variables ≡ variables_in bytes.now) × (variables ≤ 64) × Counts bytes.now counts.now variables }
+fn check_fact(bytes: &[u8], at: u32, low: u32, variables: &Variables) -> Result<u32, Refusal>
+    requires { (at ≤ 400000) × Known bytes.now variables.now.count variables.now.values }
     ensures { value_of result ≡ answer (in_order (fact_checks bytes.now at low)) (bits_at bytes.now at 6) }
 {
     let v = take(bytes, at, 6)?;
-    if variables <= v || v < low {
+    if variables.count <= v || v < low {
         return Err(Refusal {
             reason: Reason::Variable,
             place: at,
         });
     }
     let value = take(bytes, at + 6, 6)?;
-    if counts[v as usize] <= (value % 64) as u8 {
+    if variables.values[v as usize] <= (value % 64) as u8 {
         return Err(Refusal {
             reason: Reason::Value,
             place: at + 6,
@@ -79,19 +81,13 @@ fn check_fact(
 }
 
 // `count` facts from bit `from` on: the bit behind them.
-fn check_facts(
-    bytes: &[u8],
-    from: u32,
-    count: u32,
-    variables: u32,
-    counts: &[u8; 64],
-) -> Result<u32, Refusal>
-    requires { (from ≤ 399000) × (count ≤ 15) × (variables ≡ variables_in bytes.now) × (variables ≤ 64) × Counts bytes.now counts.now variables }
+fn check_facts(bytes: &[u8], from: u32, count: u32, variables: &Variables) -> Result<u32, Refusal>
+    requires { (from ≤ 399000) × (count ≤ 15) × Known bytes.now variables.now.count variables.now.values }
     ensures { value_of result ≡ answer (in_order (facts_checks bytes.now from 0 count)) (from + 12 * count) }
 {
     let mut low = 0;
     for i in 0..count {
-        let v = check_fact(bytes, from + 12 * i, low, variables, counts)?;
+        let v = check_fact(bytes, from + 12 * i, low, variables)?;
         low = v + 1;
     }
     Ok(from + 12 * count)
@@ -103,30 +99,24 @@ fn check_action_facts(
     at: u32,
     pre: u32,
     eff: u32,
-    variables: u32,
-    counts: &[u8; 64],
+    variables: &Variables,
 ) -> Result<u32, Refusal>
-    requires { (at ≤ 398000) × (pre ≡ preconditions_in bytes.now at) × (eff ≡ effects_in bytes.now at) × (pre ≤ 15) × (eff ≤ 15) × Known bytes.now variables counts.now }
+    requires { (at ≤ 398000) × (pre ≡ preconditions_in bytes.now at) × (eff ≡ effects_in bytes.now at) × (pre ≤ 15) × (eff ≤ 15) × Known bytes.now variables.now.count variables.now.values }
     ensures { value_of result ≡ answer (in_order (action_facts_checks bytes.now at)) (action_end bytes.now at) }
 {
-    let mid = check_facts(bytes, at + 24, pre, variables, counts)?;
-    check_facts(bytes, mid, eff, variables, counts)
+    let mid = check_facts(bytes, at + 24, pre, variables)?;
+    check_facts(bytes, mid, eff, variables)
 }
 
 // The action at bit `at`, field by field: the bit behind it.
-fn check_action_fields(
-    bytes: &[u8],
-    at: u32,
-    variables: u32,
-    counts: &[u8; 64],
-) -> Result<u32, Refusal>
-    requires { (at ≤ 398000) × (variables ≡ variables_in bytes.now) × (variables ≤ 64) × Counts bytes.now counts.now variables }
+fn check_action_fields(bytes: &[u8], at: u32, variables: &Variables) -> Result<u32, Refusal>
+    requires { (at ≤ 398000) × Known bytes.now variables.now.count variables.now.values }
     ensures { value_of result ≡ answer (in_order (action_checks bytes.now at)) (action_end bytes.now at) }
 {
     take(bytes, at, 16)?;
     let pre = take(bytes, at + 16, 4)?;
     let eff = take(bytes, at + 20, 4)?;
-    check_action_facts(bytes, at, pre, eff, variables, counts)
+    check_action_facts(bytes, at, pre, eff, variables)
 }
 
 // The least variable that may follow a fact of 12 bits, if it is sound: its variable at least `low`, its value below that variable's
@@ -233,29 +223,24 @@ fn sound_action(bytes: &[u8], at: usize, counts: &[u8; 64]) -> Option<usize>
 }
 
 // The action at bit `at`: the bit behind it.
-fn check_action(bytes: &[u8], at: u32, variables: u32, counts: &[u8; 64]) -> Result<u32, Refusal>
-    requires { (at ≤ 398000) × (variables ≡ variables_in bytes.now) × (variables ≤ 64) × Counts bytes.now counts.now variables }
+fn check_action(bytes: &[u8], at: u32, variables: &Variables) -> Result<u32, Refusal>
+    requires { (at ≤ 398000) × Known bytes.now variables.now.count variables.now.values }
     ensures { value_of result ≡ answer (in_order (action_checks bytes.now at)) (action_end bytes.now at) }
 {
-    let Some(end) = sound_action(bytes, at as usize, counts) else {
-        return check_action_fields(bytes, at, variables, counts);
+    let Some(end) = sound_action(bytes, at as usize, &variables.values) else {
+        return check_action_fields(bytes, at, variables);
     };
     Ok(end as u32)
 }
 
 // All actions, from the bit behind the variables on: the bit behind them.
-fn check_actions(
-    bytes: &[u8],
-    count: u32,
-    variables: u32,
-    counts: &[u8; 64],
-) -> Result<u32, Refusal>
-    requires { (count ≤ 1024) × (variables ≡ variables_in bytes.now) × (variables ≤ 64) × Counts bytes.now counts.now variables }
-    ensures { value_of result ≡ answer (in_order (actions_checks bytes.now (22 + 20 * variables) count)) (actions_end bytes.now (22 + 20 * variables) count) }
+fn check_actions(bytes: &[u8], count: u32, variables: &Variables) -> Result<u32, Refusal>
+    requires { (count ≤ 1024) × Known bytes.now variables.now.count variables.now.values }
+    ensures { value_of result ≡ answer (in_order (actions_checks bytes.now (22 + 20 * variables.now.count) count)) (actions_end bytes.now (22 + 20 * variables.now.count) count) }
 {
-    let mut at = 22 + 20 * variables;
+    let mut at = 22 + 20 * variables.count;
     for _ in 0..count {
-        at = check_action(bytes, at, variables, counts)?;
+        at = check_action(bytes, at, variables)?;
     }
     Ok(at)
 }
@@ -309,10 +294,7 @@ pub fn is_sound_variable(fields: u64) -> bool
     ensures { Decides result (SoundVariable fields) }
 {
     let last = fields / 16384;
-    if last < fields / 128 % 64 {
-        return false;
-    }
-    fields % 64 <= last * (fields / 64 % 2)
+    fields / 128 % 64 <= last && fields % 64 <= last * (fields / 64 % 2)
 }
 
 // Whether the 22 bits of a header are sound: edition 1, 1 to 64 variables, at most 1,024 actions.
@@ -320,16 +302,22 @@ pub fn is_sound_header(fields: u64) -> bool
     ensures { Decides result (SoundHeader fields) }
 {
     let variables = fields / 2048 % 128;
-    if fields / 262144 != 1 {
-        return false;
+    fields / 262144 == 1 && 1 <= variables && variables <= 64 && fields % 2048 <= 1024
+}
+
+// The greatest value of the variable at bit `at`, if all of it is there and sound.
+fn sound_variable(bytes: &[u8], at: usize) -> Option<u32>
+    requires { at ≤ 2000 }
+    ensures { IfSome result (λ last. done last ≡ answer (in_order (variable_checks bytes.now at)) (bits_at bytes.now at 6)) }
+{
+    if bytes.len() < 8 || bytes.len() < (at + 27) / 8 {
+        return None;
     }
-    if variables < 1 {
-        return false;
+    let fields = bits::window_at(bytes, at) >> 44;
+    if !is_sound_variable(fields) {
+        return None;
     }
-    if 64 < variables {
-        return false;
-    }
-    fields % 2048 <= 1024
+    Some((fields / 16384) as u32)
 }
 
 // The variable at bit `at`: its greatest value.
@@ -337,17 +325,10 @@ fn check_variable(bytes: &[u8], at: u32) -> Result<u32, Refusal>
     requires { at ≤ 2000 }
     ensures { value_of result ≡ answer (in_order (variable_checks bytes.now at)) (bits_at bytes.now at 6) }
 {
-    if bytes.len() < 8 {
+    let Some(last) = sound_variable(bytes, at as usize) else {
         return check_variable_fields(bytes, at);
-    }
-    if bytes.len() < (at as usize + 27) / 8 {
-        return check_variable_fields(bytes, at);
-    }
-    let w = bits::window_at(bytes, at as usize) >> 44;
-    if !is_sound_variable(w) {
-        return check_variable_fields(bytes, at);
-    }
-    Ok((w / 16384) as u32)
+    };
+    Ok(last)
 }
 
 // All variables: the count of values of each goes to `counts`, which is 0 behind them.
@@ -364,16 +345,11 @@ fn check_variables(bytes: &[u8], count: u32, counts: &mut [u8; 64]) -> Result<()
 }
 
 // The record from its actions on.
-fn check_from_actions(
-    bytes: &[u8],
-    actions: u32,
-    variables: u32,
-    counts: &[u8; 64],
-) -> Result<(), Refusal>
-    requires { (actions ≡ actions_in bytes.now) × (actions ≤ 1024) × (variables ≡ variables_in bytes.now) × (variables ≤ 64) × Counts bytes.now counts.now variables }
+fn check_from_actions(bytes: &[u8], actions: u32, variables: &Variables) -> Result<(), Refusal>
+    requires { (actions ≡ actions_in bytes.now) × (actions ≤ 1024) × Known bytes.now variables.now.count variables.now.values }
     ensures { check_of result ≡ in_order (from_actions bytes.now) }
 {
-    let end = check_actions(bytes, actions, variables, counts)?;
+    let end = check_actions(bytes, actions, variables)?;
     check_end(bytes, end)
 }
 
@@ -382,9 +358,16 @@ fn check_from_variables(bytes: &[u8], actions: u32, variables: u32) -> Result<()
     requires { (actions ≡ actions_in bytes.now) × (actions ≤ 1024) × (variables ≡ variables_in bytes.now) × (variables ≤ 64) }
     ensures { check_of result ≡ in_order (from_variables bytes.now) }
 {
-    let mut counts = [0u8; 64];
-    check_variables(bytes, variables, &mut counts)?;
-    check_from_actions(bytes, actions, variables, &counts)
+    let mut values = [0u8; 64];
+    check_variables(bytes, variables, &mut values)?;
+    check_from_actions(
+        bytes,
+        actions,
+        &Variables {
+            count: variables,
+            values,
+        },
+    )
 }
 
 // The record from its count of actions on.

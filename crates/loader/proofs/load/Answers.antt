@@ -1,7 +1,7 @@
 -- Header, variables and the rest one after the other; where one does not pass, the record is not accepted.
-use mathlib.Core.Path.{refl}
+use mathlib.Core.Path.{refl, sym, ◌∙◌}
 use native.Mathlib.Omega.{arith}
-use Rattle.record.proofs.Laws.{split_22, header_sound, header_exact, header_fits, no_counts_lem, accepted_parts}
+use Rattle.record.proofs.Laws.{false_not, split_22, header_sound, header_exact, header_fits, no_counts_lem, accepted_parts}
 use Rattle.loader.proofs.load.Goals as goal
 
 pub returns-then-bytes-lt3 : goal.returns-then-bytes-lt3
@@ -9,7 +9,7 @@ returns-then-bytes-lt3 c = λ e. omega (arith, header_fits _ (accepted_parts _ e
 
 pub returns-then-not-is_sound_header : goal.returns-then-not-is_sound_header
 returns-then-not-is_sound_header c =
-    λ e. c.is_sound_header.ensures.1 c.if-not-is_sound_header.true (header_exact _ _ c.read_bits-head.ensures (accepted_parts _ e).header)
+    λ e. false_not (sym c.if-not-is_sound_header.true ∙ c.is_sound_header.ensures.1 (header_exact _ _ c.read_bits-head.ensures (accepted_parts _ e).header))
 
 pub load_variables-requires : goal.load_variables-requires
 load_variables-requires c =

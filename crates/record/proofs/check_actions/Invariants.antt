@@ -4,4 +4,4 @@ use Rattle.record.proofs.Laws.{Behind}
 use Rattle.record.proofs.check_actions.Given as goal
 
 abbrev pub invariant-loop : goal.invariant-loop
-invariant-loop l = Behind l.bytes (variable_bit l.variables) l.count l.at l.counter
+invariant-loop l = Behind l.bytes (variable_bit l.variables.count) l.count l.at l.counter

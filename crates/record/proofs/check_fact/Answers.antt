@@ -14,27 +14,27 @@ pub returns-then-variables-v : goal.returns-then-variables-v
 unfolding fact_checks
 returns-then-variables-v c =
     let v = there _ _ _ c.in_ok-v.ensures in
-    skip _ _ _ _ v.0 (hit _ _ _ _ _ (var_wrong _ _ _ _ _ c.requires.1 v.1 c.then-variables-v.either))
+    skip _ _ _ _ v.0 (hit _ _ _ _ _ (var_wrong _ _ _ _ _ c.requires.1.0 v.1 c.then-variables-v.either))
 
 pub returns-in_err-value : goal.returns-in_err-value
 unfolding fact_checks
 returns-in_err-value c =
     let v = there _ _ _ c.in_ok-v.ensures in
-    skip _ _ _ _ v.0 (skip _ _ _ _ (var_right _ _ _ _ _ c.requires.1 v.1 c.if-variables-v.false c.if-v-low.false)
+    skip _ _ _ _ v.0 (skip _ _ _ _ (var_right _ _ _ _ _ c.requires.1.0 v.1 c.if-variables-v.false c.if-v-low.false)
     (stopped _ _ _ c.from_residual-in_err-value.ensures.1 _ _ _ _ c.in_err-value.ensures))
 
-pub returns-then-counts-v : goal.returns-then-counts-v
+pub returns-then-variables-v-2 : goal.returns-then-variables-v-2
 unfolding fact_checks
-returns-then-counts-v c =
+returns-then-variables-v-2 c =
     let v = there _ _ _ c.in_ok-v.ensures in
     let d = there _ _ _ c.in_ok-value.ensures in
-    skip _ _ _ _ v.0 (skip _ _ _ _ (var_right _ _ _ _ _ c.requires.1 v.1 c.if-variables-v.false c.if-v-low.false)
-    (skip _ _ _ _ d.0 (hit _ _ _ _ _ (val_above _ _ _ _ _ v.1 (c.requires.3.right _ c.if-variables-v.false) d.1 c.if-counts-v.true))))
+    skip _ _ _ _ v.0 (skip _ _ _ _ (var_right _ _ _ _ _ c.requires.1.0 v.1 c.if-variables-v.false c.if-v-low.false)
+    (skip _ _ _ _ d.0 (hit _ _ _ _ _ (val_above _ _ _ _ _ v.1 (c.requires.1.2.right _ c.if-variables-v.false) d.1 c.if-variables-v-2.true))))
 
 pub returns : goal.returns
 unfolding fact_checks
 returns c =
     let v = there _ _ _ c.in_ok-v.ensures in
     let d = there _ _ _ c.in_ok-value.ensures in
-    ap done (sym v.1) ∙ skip _ _ _ _ v.0 (skip _ _ _ _ (var_right _ _ _ _ _ c.requires.1 v.1 c.if-variables-v.false c.if-v-low.false)
-    (skip _ _ _ _ d.0 (skip _ _ _ _ (val_right _ _ _ _ _ v.1 (c.requires.3.right _ c.if-variables-v.false) d.1 c.if-counts-v.false) (pass_end _))))
+    ap done (sym v.1) ∙ skip _ _ _ _ v.0 (skip _ _ _ _ (var_right _ _ _ _ _ c.requires.1.0 v.1 c.if-variables-v.false c.if-v-low.false)
+    (skip _ _ _ _ d.0 (skip _ _ _ _ (val_right _ _ _ _ _ v.1 (c.requires.1.2.right _ c.if-variables-v.false) d.1 c.if-variables-v-2.false) (pass_end _))))

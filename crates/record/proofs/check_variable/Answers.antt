@@ -1,7 +1,0 @@
--- The quick test found the 20 bits sound, or the checks are made field by field.
-use Rattle.record.proofs.Laws.{variable_sound}
-use native.Mathlib.Omega.{arith}
-use Rattle.record.proofs.check_variable.Goals as goal
-
-pub returns : goal.returns
-returns c = variable_sound _ _ _ (c.window_at-w.ensures 20 (omega arith) (omega arith)) (omega arith) (c.is_sound_variable.ensures.0 c.if-not-is_sound_variable.false)
