@@ -29,7 +29,7 @@ use Rattle.task_size.specs.Size.{facts_of, facts_from, task_size}
 use Rattle.task.specs.Rows.{RowWritten}
 use Rattle.loader.specs.Loading.{FactsLoaded, Placed, ActionLoaded, VariablePlaced, VariableLoaded, Headed}
 use Rattle.loader.proofs.Cut.{fact_of_bits, variable_cut}
-use Rattle.task_size.proofs.Size.{facts_of_le, action_end_is, actions_end_more, actions_end_is, facts_from_more, facts_from_mono, facts_from_le}
+use Rattle.task_size.proofs.Size.{action_end_is, actions_end_more, actions_end_is, facts_from_more, facts_from_mono, facts_from_le}
 use Rattle.task.proofs.Reading.{task_in_variables, task_in_actions, task_in_variable, task_in_act}
 
 -- the first n of the four facts at the front of a window

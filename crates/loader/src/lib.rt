@@ -39,20 +39,25 @@ fn load_facts(
     requires { FactsFit bytes.now from count first task.old × Counts bytes.now counts.now (variables_in bytes.now) }
     ensures { MatchOption result (in_order (facts_checks bytes.now from 0 count) ≡ none → ⊥) (λ _. FactsRead bytes.now from count first task.old task.new) }
 {
-    let fours = count.saturating_sub(1) / 4;
+    let mut at = from;
+    let mut left = count;
+    let mut to = first;
     let mut low = 0;
-    for k in 0..fours {
-        let window = bits::window_at(bytes, from + 48 * k);
+    // A `for` over the full windows was slower: most lists have none.
+    while 4 < left {
+        let window = bits::window_at(bytes, at);
         low = record::sound_few(window, 4, low, counts)?;
-        lists::put_four(task, first + 4 * k, spread(window));
+        lists::put_four(task, to, spread(window));
+        at += 48;
+        left -= 4;
+        to += 4;
     }
-    let left = count - 4 * fours;
     if left == 0 {
         return Some(());
     }
-    let window = bits::window_at(bytes, from + 48 * fours);
+    let window = bits::window_at(bytes, at);
+    lists::put_four(task, to, spread(window));
     record::sound_few(window, left, low, counts)?;
-    lists::put_four(task, first + 4 * fours, spread(window));
     Some(())
 }
 

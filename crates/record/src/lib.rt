@@ -159,25 +159,19 @@ fn sound_inner(bytes: &[u8], from: usize, count: usize, counts: &[u8; 64]) -> bo
     ensures { result ≡ true → in_order (facts_checks bytes.now from 0 count) ≡ none }
 {
     let shift = from % 8;
-    let j = from / 8;
-    let fours = count.saturating_sub(1) / 4;
+    let mut j = from / 8;
+    let mut left = count;
     let mut low = 0;
-    for k in 0..fours {
-        let Some(next) = sound_few(bits::window_from(bytes, j + 6 * k, shift), 4, low, counts)
-        else {
+    // A `for` over the full windows was slower: most lists have none.
+    while 4 < left {
+        let Some(next) = sound_few(bits::window_from(bytes, j, shift), 4, low, counts) else {
             return false;
         };
         low = next;
+        j += 6;
+        left -= 4;
     }
-    let left = count - 4 * fours;
-    left == 0
-        || sound_few(
-            bits::window_from(bytes, j + 6 * fours, shift),
-            left,
-            low,
-            counts,
-        )
-        .is_some()
+    left == 0 || sound_few(bits::window_from(bytes, j, shift), left, low, counts).is_some()
 }
 
 // Whether `count` facts from bit `from` on are there and sound: four to a load.
@@ -191,16 +185,19 @@ fn sound_facts(bytes: &[u8], from: usize, count: usize, counts: &[u8; 64]) -> bo
     if bytes.len() < (from + 12 * count + 7) / 8 {
         return false;
     }
-    let fours = count.saturating_sub(1) / 4;
+    let mut at = from;
+    let mut left = count;
     let mut low = 0;
-    for k in 0..fours {
-        let Some(next) = sound_few(bits::window_at(bytes, from + 48 * k), 4, low, counts) else {
+    // A `for` over the full windows was slower: most lists have none.
+    while 4 < left {
+        let Some(next) = sound_few(bits::window_at(bytes, at), 4, low, counts) else {
             return false;
         };
         low = next;
+        at += 48;
+        left -= 4;
     }
-    let left = count - 4 * fours;
-    left == 0 || sound_few(bits::window_at(bytes, from + 48 * fours), left, low, counts).is_some()
+    left == 0 || sound_few(bits::window_at(bytes, at), left, low, counts).is_some()
 }
 
 // The bit behind the action at bit `at`, if all of it is there and sound.

@@ -1,7 +1,9 @@
--- The facts of the first k windows passed their checks and are loaded (`Filling`).
+-- The facts before the last `left` passed their checks and are loaded (`Filling`).
 use Rattle.loader.proofs.Loading.{Filling}
-use Prim.Native.Nat.{◌+◌, ◌*◌, ◌-◌}
 use Rattle.loader.proofs.load_facts.Given as goal
 
-abbrev pub invariant-loop-k : goal.invariant-loop-k
-invariant-loop-k l = Filling l.bytes l.from l.count l.first l.initial.task l.task (l.from + 48 * l.k) l.low (l.count - 4 * l.k) (l.first + 4 * l.k)
+abbrev pub invariant-loop-left : goal.invariant-loop-left
+invariant-loop-left l = Filling l.bytes l.from l.count l.first l.initial.task l.task l.at l.low l.left l.to
+
+abbrev pub decreases-loop-left : goal.decreases-loop-left
+decreases-loop-left l = l.left

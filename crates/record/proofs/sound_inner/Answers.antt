@@ -1,5 +1,5 @@
-use Rattle.record.proofs.Laws.{run_turn, run_at, run_none, run_decides}
-use mathlib.Core.Path.{◌≡◌, sym, ◌∙◌}
+use Rattle.record.proofs.Laws.{run_turn, run_none, run_decides}
+use mathlib.Core.Path.{◌≡◌, refl, sym, ◌∙◌}
 use Prim.Native.Nat.{ℕ, ◌+◌, ◌-◌, ◌*◌, ◌/◌, ◌^◌, ◌<◌, ◌≤◌}
 use native.Mathlib.Omega.{arith}
 use mathlib.Core.List.{List}
@@ -11,15 +11,15 @@ use Rattle.record.proofs.sound_inner.Goals as goal
 leading : (s : List ℕ) (j o w : ℕ) → o < 8 → ((n : ℕ) → o + n ≤ 64 → w / 2 ^ (64 - n) ≡ bits_at s (j * 8 + o) n) → Leading s (j * 8 + o) w
 leading s j o w h e n l _ = e n (omega arith)
 
-pub loop-k-preserved : goal.loop-k-preserved
-loop-k-preserved c =
-    run_turn _ _ _ _ _ _ _ _ c.loop-k.invariant (leading _ _ _ _ (omega arith) c.window_from.ensures) (omega arith) c.requires.3 _ _ _ (omega arith) (omega arith)
-    (omega arith) c.in-Some.ensures
+pub loop-left-preserved : goal.loop-left-preserved
+loop-left-preserved c =
+    run_turn _ _ _ _ _ _ _ _ c.loop-left.invariant (leading _ _ _ _ (omega arith) c.window_from.ensures) (omega arith) c.requires.3 _ _ _ (omega arith)
+    (omega arith) refl c.in-Some.ensures
 
 pub returns-then-left-eq0 : goal.returns-then-left-eq0
-returns-then-left-eq0 c = λ _. run_none _ _ _ _ _ _ c.loop-k.invariant (omega arith)
+returns-then-left-eq0 c = λ _. run_none _ _ _ _ _ _ c.loop-left.invariant c.if-left-eq0.true
 
 pub returns-else-left-eq0 : goal.returns-else-left-eq0
 returns-else-left-eq0 c =
-    λ e. run_decides _ _ _ _ _ _ _ _ (run_at _ _ _ _ _ _ _ _ c.loop-k.invariant (omega arith) (omega arith))
-    (leading _ _ _ _ (omega arith) c.window_from-else-left-eq0.ensures) (omega arith) c.requires.3 _ c.sound_few-else-left-eq0.ensures (sym c.is_some.ensures ∙ e)
+    λ e. run_decides _ _ _ _ _ _ _ _ c.loop-left.invariant (leading _ _ _ _ (omega arith) c.window_from-else-left-eq0.ensures) (omega arith)
+    c.requires.3 _ c.sound_few-else-left-eq0.ensures (sym c.is_some.ensures ∙ e)
