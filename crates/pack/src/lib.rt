@@ -48,7 +48,7 @@ fn four(a: u64, b: u64, c: u64, d: u64, width: usize) -> u64
 }
 
 // Four entries from i on as one number, wherever list and marks end.
-pub fn any_four<const MARK: usize>(list: &[u16], marks: &[u8], i: usize) -> u64
+fn any_four<const MARK: usize>(list: &[u16], marks: &[u8], i: usize) -> u64
     requires { (MARK ≤ 1) × (i ≤ 40000) × ((k : ℕ) → get_or list.now k 0 < 1024) }
     ensures { FourAt MARK list.now marks.now i result }
 {
@@ -59,6 +59,24 @@ pub fn any_four<const MARK: usize>(list: &[u16], marks: &[u8], i: usize) -> u64
         entry_at::<MARK>(list, marks, i + 3),
         MARK + 10,
     )
+}
+
+// Eight entries, four in a number.
+#[derive(Clone, Copy)]
+pub struct Eight {
+    pub first: u64,
+    pub second: u64,
+}
+
+// The eight entries from i on, wherever list and marks end.
+pub fn any_eight<const MARK: usize>(list: &[u16], marks: &[u8], i: usize) -> Eight
+    requires { (MARK ≤ 1) × (i ≤ 32768) × ((k : ℕ) → get_or list.now k 0 < 1024) }
+    ensures { FourAt MARK list.now marks.now i result.first × FourAt MARK list.now marks.now (i + 4) result.second }
+{
+    Eight {
+        first: any_four::<MARK>(list, marks, i),
+        second: any_four::<MARK>(list, marks, i + 4),
+    }
 }
 
 // Four steps from i on as one number, without their marks.
@@ -107,13 +125,6 @@ fn moved(x: u64) -> u64
         + (p >> 10) % 2 * 1024
 }
 
-// Eight entries, four in a number.
-#[derive(Clone, Copy)]
-pub struct Eight {
-    pub first: u64,
-    pub second: u64,
-}
-
 // The eight entries from i on of a list that has them, quickly where no mark is missing.
 pub fn eight_at<const MARK: usize>(list: &[u16], marks: &[u8], i: usize) -> Eight
     requires { (MARK ≤ 1) × (i + 8 ≤ length list.now) × (length list.now ≤ 32768) × ((k : ℕ) → get_or list.now k 0 < 1024) }
@@ -132,6 +143,7 @@ pub fn eight_at<const MARK: usize>(list: &[u16], marks: &[u8], i: usize) -> Eigh
             second: steps_at(list, i + 4, 11) + moved(tops),
         };
     }
+    // A call of any_eight here was slower.
     Eight {
         first: any_four::<MARK>(list, marks, i),
         second: any_four::<MARK>(list, marks, i + 4),

@@ -89,7 +89,7 @@ fn gather(word: u64) -> u64
         + (moved >> 9) % 2
 }
 
-// The marks from a place on, one by one.
+// The marks from a place on, one by one: another type and another place in each entry, so that one function for both would say more.
 fn read_each_mark(bytes: &[u8], from: usize, steps: usize, marks: &mut [u8])
     requires { (from ≤ steps) × (steps ≤ 32768) × (steps ≤ length marks.old) × (53 + 11 * steps ≤ 8 * length bytes.now) }
     ensures { take steps marks.new ≡ take from marks.old ++ marks_at bytes.now 1 (53 + 11 * from) (steps - from) }
@@ -100,6 +100,7 @@ fn read_each_mark(bytes: &[u8], from: usize, steps: usize, marks: &mut [u8])
 }
 
 // Steps and marks of a sheet of edition 2 in the same way, both out of the same words; one bit of the first four stands before the others.
+// A loop of its own, as the other has no marks to store.
 fn read_both(bytes: &[u8], steps: usize, list: &mut [u16], marks: &mut [u8]) -> usize
     requires { (steps ≤ 32768) × (steps ≤ length list.old) × (steps ≤ length marks.old) × (53 + 11 * steps ≤ 8 * length bytes.now) }
     ensures { Begun bytes.now 1 steps list.new result × MarksBegun bytes.now steps marks.new result }

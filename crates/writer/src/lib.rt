@@ -12,35 +12,33 @@ ghost use Rattle.sheet.specs.Again.{ReadsAs};
 ghost use Rattle.pack.specs.Fields.{eight_bits};
 
 use answers::Refusal;
+use pack::Eight;
 
 // Eight entries behind five bits: as many bytes as an entry has bits, and five bits more. Each word is one store of eight bytes; the second
 // starts before the first one ends, and has the same bits there.
-fn write_eight<const MARK: usize>(bytes: &mut [u8], at: usize, five: u64, a: u64, b: u64)
-    requires { (MARK ≤ 1) × (at + MARK + 11 ≤ length bytes.old) × (five < 32) × (a < 2 ^ (4 * (MARK + 10))) × (b < 2 ^ (4 * (MARK + 10))) }
-    ensures { take (at + (MARK + 10)) bytes.new ≡ take at bytes.old ++ packed (MARK + 10) (eight_bits MARK five a b) }
+fn write_eight<const MARK: usize>(bytes: &mut [u8], at: usize, five: u64, e: Eight)
+    requires { (MARK ≤ 1) × (at + MARK + 11 ≤ length bytes.old) × (five < 32) × (e.first < 2 ^ (4 * (MARK + 10))) × (e.second < 2 ^ (4 * (MARK + 10))) }
+    ensures { take (at + (MARK + 10)) bytes.new ≡ take at bytes.old ++ packed (MARK + 10) (eight_bits MARK five e.first e.second) }
 {
-    bits::put_word(bytes, at, pack::first_word::<MARK>(five, a));
-    bits::put_word(bytes, at + MARK + 3, pack::second_word::<MARK>(a, b));
+    bits::put_word(bytes, at, pack::first_word::<MARK>(five, e.first));
+    bits::put_word(
+        bytes,
+        at + MARK + 3,
+        pack::second_word::<MARK>(e.first, e.second),
+    );
 }
 
 // The same by fewer bytes.
-fn write_last<const MARK: usize>(
-    bytes: &mut [u8],
-    at: usize,
-    count: usize,
-    five: u64,
-    a: u64,
-    b: u64,
-)
-    requires { (MARK ≤ 1) × (count ≤ MARK + 10) × (at + count ≤ length bytes.old) × (five < 32) × (a < 2 ^ (4 * (MARK + 10))) × (b < 2 ^ (4 * (MARK + 10))) }
-    ensures { take (at + count) bytes.new ≡ take at bytes.old ++ packed count (eight_bits MARK five a b) }
+fn write_last<const MARK: usize>(bytes: &mut [u8], at: usize, count: usize, five: u64, e: Eight)
+    requires { (MARK ≤ 1) × (count ≤ MARK + 10) × (at + count ≤ length bytes.old) × (five < 32) × (e.first < 2 ^ (4 * (MARK + 10))) × (e.second < 2 ^ (4 * (MARK + 10))) }
+    ensures { take (at + count) bytes.new ≡ take at bytes.old ++ packed count (eight_bits MARK five e.first e.second) }
 {
     let n = count.min(MARK + 3);
-    bits::write_bits(bytes, at, pack::first_word::<MARK>(five, a), 64, n);
+    bits::write_bits(bytes, at, pack::first_word::<MARK>(five, e.first), 64, n);
     bits::write_bits(
         bytes,
         at + n,
-        pack::second_word::<MARK>(a, b),
+        pack::second_word::<MARK>(e.first, e.second),
         64,
         count - n,
     );
@@ -62,13 +60,12 @@ fn write_entries<const MARK: usize>(
     let mut at: usize = 6;
     for k in 0..eights {
         let e = pack::eight_at::<MARK>(list, marks, 8 * k);
-        write_eight::<MARK>(bytes, at, five, e.first, e.second);
+        write_eight::<MARK>(bytes, at, five, e);
         five = e.second % 32;
         at += MARK + 10;
     }
-    let a = pack::any_four::<MARK>(list, marks, 8 * eights);
-    let b = pack::any_four::<MARK>(list, marks, 8 * eights + 4);
-    write_last::<MARK>(bytes, at, size - at, five, a, b);
+    let e = pack::any_eight::<MARK>(list, marks, 8 * eights);
+    write_last::<MARK>(bytes, at, size - at, five, e);
 }
 
 // The same where the bits of a mark are known when it runs.

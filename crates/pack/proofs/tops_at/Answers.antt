@@ -13,7 +13,7 @@ told : (c : After-halves-2)
     let r = x - h + 9187201950435737471 in (h ≤ x) × (r < 18446744073709551616) × FourTops o.marks.now o.i (r / 4294967296) × FourTops o.marks.now (o.i + 4) r
 told c =
     let o = c.args in
-    tops_are o.marks.now o.i _ _ _ (λ k. omega (arith, c.shared_slice_known-1.given k)) c.long_word-x.ensures
+    tops_are o.marks.now o.i _ _ _ (λ k. omega (arith, c.type_inv.marks k)) c.long_word-x.ensures
     c.halves.ensures c.halves-2.ensures
 
 pub returns : goal.returns

@@ -34,14 +34,13 @@ pub write_last-requires : goal.write_last-requires
 write_last-requires g c =
     let n = counted g.row.MARK c.requires.0 c.args.list.now c.args.marks.now _ c.requires.3 in
     let w = writing_last _ c.requires.0 _ _ _ _ _ _ _ _ c.loop-k.invariant n.1 c.requires.4 (omega arith) in
-    (c.requires.0, w.1, omega arith, c.loop-k.invariant.few, c.any_four-a.ensures.1, c.any_four-b.ensures.1)
+    (c.requires.0, w.1, omega arith, c.loop-k.invariant.few, c.any_eight-e.ensures.0.1, c.any_eight-e.ensures.1.1)
 
 pub returns : goal.returns
 returns g c =
-    let a = c.any_four-a.ensures in
-    let b = c.any_four-b.ensures in
+    let e = c.any_eight-e.ensures in
     let n = counted g.row.MARK c.requires.0 c.args.list.now c.args.marks.now _ c.requires.3 in
     let k : 8 * (c.loop-k.k) ≡ 8 * (length c.args.list.now / 8) = omega arith in
     let i = rw k at c.loop-k.invariant in
     rw (step_bits_fields g.row.MARK c.requires.0 c.args.list.now c.args.marks.now c.requires.1)
-    (writing_end _ c.requires.0 _ _ _ _ _ _ _ _ i n.1 c.requires.4 (entries_fit _ c.requires.0 _ _ c.requires.1) _ _ a.0 b.0 a.1 b.1 _ (omega arith) c.write_last.ensures)
+    (writing_end _ c.requires.0 _ _ _ _ _ _ _ _ i n.1 c.requires.4 (entries_fit _ c.requires.0 _ _ c.requires.1) _ _ e.0.0 e.1.0 e.0.1 e.1.1 _ (omega arith) c.write_last.ensures)
