@@ -1,13 +1,11 @@
 -- What is counted along a list. As long as every step ran for real the newest values are the real state, so that the next step is tested on
 -- them; once one has failed the count stays.
 use mathlib.Core.Path.{◌≡◌, refl, sym, ap, ◌∙◌}
-use mathlib.Core.Bool.{Bool, true, false}
+use mathlib.Core.Bool.{true}
 use mathlib.Core.List.{List, [], ◌∷◌, ◌++◌}
 use Prim.Native.Nat.{ℕ, ◌+◌, ◌<◌, ◌≤◌}
 use native.Mathlib.Omega.{arith}
-use lib.Dec.{eqb}
 use lib.ListN.{length, length-append}
-use Rattle.planning.specs.Basics.{done}
 use Rattle.planning.specs.Record.{Action, Task}
 use Rattle.planning.specs.Runs.{holds, step, real, actions, act, initial, goals, run_by, steps_by, run, steps_run, is_plan, cost_by, cost_of, all_below}
 use Rattle.planning.specs.Newest.{Values, initial_values, newer, alone}
@@ -25,16 +23,6 @@ use Rattle.task.proofs.Reading.{task_in_act}
 use Rattle.applying.proofs.Running.{further_steps}
 use Rattle.counts.specs.declared.Counts.{Counts}
 use Rattle.counts.specs.Counting.{no_counts, Onward, Few, judged_by}
-
--- the answer: where all steps run for real the goals decide, else it is no plan
-module _ (c : Counts) (met : Bool) (n : ℕ) where
-  pub judged_all : (r : Bool) → eqb c.runs c.steps ≡ true → r ≡ met
-      → done (record { steps = c.steps; cost = c.cost; real' = r; runs = c.runs; searches' = n }) ≡ done (judged_by met c n)
-  judged_all r h e = rw (h, e) refl
-
-  pub judged_some : eqb c.runs c.steps ≡ false
-      → done (record { steps = c.steps; cost = c.cost; real' = eqb c.runs c.steps; runs = c.runs; searches' = n }) ≡ done (judged_by met c n)
-  judged_some h = rw h refl
 
 -- the cost of an action, as the list of the task has it
 pub cost_is : (task : List ℕ) (i : ℕ) → i < actions (task_in task) → cost_at task i ≡ (act (task_in task) i).cost

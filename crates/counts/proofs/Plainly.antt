@@ -1,6 +1,5 @@
 -- Plain actions. Where an action needs black variables alone, the red-black state and the newest values agree on what it needs.
 use mathlib.Core.Path.{◌≡◌, refl, sym, ap, ◌∙◌}
-use mathlib.Core.Logic.{◌⊎◌, inl, inr}
 use mathlib.Core.Bool.{Bool, true, false, ◌&&◌}
 use mathlib.Core.List.{List, [], ◌∷◌}
 use mir.Val.{bool_byte}
@@ -10,11 +9,11 @@ use lib.Dec.{T, eqb}
 use lib.ListN.{length, get_or, take, drop, replicate}
 use lib.Seq.{get_or-take, get_or-drop}
 use Rattle.planning.specs.Record.{Fact, Action, Task}
-use Rattle.planning.specs.Runs.{State, Mode, holds, step, relaxed, act, black}
+use Rattle.planning.specs.Runs.{State, Mode, holds, step, relaxed, act}
 use Rattle.planning.specs.Newest.{Values, newer, alone}
 use Rattle.laws.proofs.Tests.{T→true, and_l, and_r}
 use Rattle.task.specs.Task.{fact_of, facts_of}
-use Rattle.sets.specs.Sets.{values_of, red_black_of, further, listed, Known, WithOnly}
+use Rattle.sets.specs.Sets.{values_of, red_black_of, further, listed}
 use Rattle.sets.proofs.Slices.{facts_of_drop, facts_of_end}
 use Rattle.applying.proofs.Knowing.{known_none, known_step, known_held, listed_none}
 use Rattle.applying.proofs.RedBlackSteps.{red_black_black}
@@ -153,13 +152,6 @@ module _ (t : Task) (s : State) where
   module _ {set : List ℕ} (P : Plain t s set) (i : ℕ) where
     pub plain_step : Plain t (step relaxed (act t i) s) set
     plain_step = record { known = known_step t s P.known i; black' = P.black' }
-
-    pub plain_more : (set' : List ℕ) → Known t (step relaxed (act t i) s) set' → WithOnly i set set' → T (all_black (black t) (act t i).pre) → Plain t (step relaxed (act t i) s) set'
-    plain_more set' K only own = record { known = K; black' = λ j b h. go j b (only j b h) }
-      where
-        go : (j : ℕ) → j < 1024 → (j ≡ i) ⊎ T (listed set j) → T (all_black (black t) (act t j).pre)
-        go j b (inl q) = rw q own
-        go j b (inr h) = P.black' j b h
 
 -- where the effects are held already, the state behind the action is the same
 pub plain_held : (t : Task) (s : State) (a : Action) (set : List ℕ) → holds s a.eff ≡ true → Plain t (step relaxed a s) set → Plain t s set

@@ -23,9 +23,10 @@ pub fn mark(marks: &mut [u8], from: usize, to: usize, action: bool)
     requires { (from ≤ to) × (to ≤ length marks.old) × (action ≡ true → from < to) }
     ensures { take to marks.new ≡ take from marks.old ++ marks_for action (to - from) }
 {
-    marks[from..to].fill(1);
+    let moves = to - usize::from(action);
+    marks[from..moves].fill(1);
     if action {
-        marks[to - 1] = 0;
+        marks[moves] = 0;
     }
 }
 
@@ -75,20 +76,21 @@ pub fn glide(task: &[u16], newest: Newest, plan: &[u16], c: Counts, plain: &[u64
     ensures { Glides (task_in task.now) plain.now plan.now (length plan.now) (values_of newest.values) c result }
 {
     let i = usize::from(plan[c.steps]);
-    let mut r = counted(task, &newest.values, i, c);
-    let mut now = newest.step(task, i);
-    for x in &plan[r.steps..] {
+    let mut r = Glided {
+        newest: newest.step(task, i),
+        counts: counted(task, &newest.values, i, c),
+    };
+    for x in &plan[c.steps + 1..] {
         let i = usize::from(*x);
         if !sets::is_listed(plain, i) {
             break;
         }
-        r = passed(task, i, r);
-        now = now.step(task, i);
+        r = Glided {
+            newest: r.newest.step(task, i),
+            counts: passed(task, i, r.counts),
+        };
     }
-    Glided {
-        newest: now,
-        counts: r,
-    }
+    r
 }
 
 // Each precondition of action i is of a black variable.

@@ -1,3 +1,4 @@
+-- The goals loaded are a list that states those of the task.
 use mathlib.Core.Path.{ap, ◌∙◌}
 use Rattle.planning.specs.Runs.{holds}
 use Rattle.state.proofs.Stating.{goals_states}

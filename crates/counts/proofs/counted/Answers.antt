@@ -1,3 +1,4 @@
+-- The cost that the list has for an action is the action's.
 use mathlib.Core.Path.{refl, ap, ◌∙◌}
 use Prim.Native.Nat.{◌+◌}
 use native.Mathlib.Omega.{arith}

@@ -1,3 +1,4 @@
+-- Actions known to be plain stay plain behind any step; one that joins has its effects held there, and its preconditions are black.
 use Rattle.counts.proofs.Plainly.{plain_step}
 use Rattle.counts.proofs.effects_held.Goals as goal
 

@@ -1,3 +1,4 @@
+-- One run more where all steps so far did, which is what the action adds as it applies.
 use mathlib.Core.Path.{◌∙◌}
 use native.Mathlib.Omega.{arith}
 use Rattle.counts.proofs.Counting.{cost_is}
