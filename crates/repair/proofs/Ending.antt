@@ -17,7 +17,9 @@ use Rattle.lists.proofs.Laying.{capacity_le, room_fits, room_short}
 use Rattle.paths.specs.Paths.{few_values, memo_for, Memo}
 use Rattle.paths.proofs.Memos.{memo_marks}
 use Rattle.leads.proofs.Forgetting.{blank_memo}
-use Rattle.answers.specs.declared.Planned.{Planned}
+use Rattle.std.specs.Prelude.{Result}
+use Rattle.answers.specs.declared.Plan.{Plan}
+use Rattle.answers.specs.declared.Refusal.{Refusal}
 use Rattle.answers.specs.Plans.{answer_of}
 use Rattle.repair.specs.Answers.{Held}
 use Rattle.counts.specs.declared.Counts.{Counts}
@@ -55,7 +57,7 @@ module _ (plan work area : List ℕ) (less all room : ℕ) (ea : less ≡ min (l
   area_length = length-take-le room area room_bounds.1
 
 -- the repair of the list k in the front of the plan list d, its marks in that of the area z: the answer, or 11
-module _ (t : Task) (k d z : List ℕ) (room : ℕ) (r : Planned) where
+module _ (t : Task) (k d z : List ℕ) (room : ℕ) (r : Result Plan Refusal) where
   abbrev l : List ℕ
   l = repaired t k
 
@@ -70,7 +72,7 @@ module _ (t : Task) (k d z : List ℕ) (room : ℕ) (r : Planned) where
   held_long e h = record { says = e ∙ rw (room_short (length l) room h) refl; fills = λ b. absurd (omega arith); marked = λ b. absurd (omega arith) }
 
 -- the same of the front parts ys of the plan list and zs of the mark area
-pub held_front : (t : Task) (k ys rest zs more : List ℕ) (n : ℕ) → n ≡ length ys → n ≡ length zs → (room : ℕ) → n ≡ room → (r : Planned)
+pub held_front : (t : Task) (k ys rest zs more : List ℕ) (n : ℕ) → n ≡ length ys → n ≡ length zs → (room : ℕ) → n ≡ room → (r : Result Plan Refusal)
     → Held t k ys zs n r → Held t k (ys ++ rest) (zs ++ more) room r
 held_front t k ys rest zs more n en em room e r H = rw (← e) (record {
   says = H.says;
@@ -81,7 +83,7 @@ held_front t k ys rest zs more n en em room e r H = rw (← e) (record {
 -- the repair where every step is taken and every stage placed
 pub repairing_held : {t : Task} {l₀ plan₀ plan area memo sets : List ℕ} {f : Values} {c : Counts} {n a j : ℕ}
     → Repairing t l₀ plan₀ plan area memo sets f c n a j → Formed t → c.steps ≡ a → length l₀ < j
-    → (r : Planned) → answer_of r ≡ done (judged_by (holds (alone f) (goals t)) c n) → Held t l₀ plan area (length plan₀) r
+    → (r : Result Plan Refusal) → answer_of r ≡ done (judged_by (holds (alone f) (goals t)) c n) → Held t l₀ plan area (length plan₀) r
 repairing_held {t = t} {l₀ = l₀} {plan₀ = plan₀} {plan = plan} {area = area} {f = f} {c = c} {n = n} {a = a} G F k h r e =
     let whole = repairing_whole G k h in
     let counts : Counted t (take a plan) f c = subst (λ (n : ℕ). Counted t (take n plan) f c) k G.counts in

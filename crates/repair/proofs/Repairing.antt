@@ -24,14 +24,11 @@ use Rattle.laws.proofs.Tests.{bool_same, and_l, and_r}
 use Rattle.laws.proofs.Prefixes.{run_by_behind}
 use Rattle.laws.proofs.Formed.{Formed, eff_func}
 use Rattle.sets.specs.Sets.{sets_of, red_black_of}
-use Rattle.applying.proofs.RedBlack.{red_black_step, red_black_initial}
+use Rattle.applying.proofs.RedBlackSteps.{red_black_step, red_black_initial}
 use Rattle.paths.specs.Paths.{Memo}
-use Rattle.asking.specs.declared.Written.TheVariants as written
-use Rattle.asking.specs.declared.Inserted.{Inserted}
-use Rattle.asking.specs.declared.Inserted.TheVariants.{Upto, Long}
+use Rattle.std.specs.Prelude.{None, Some}
 use Rattle.entries.specs.Entries.{Entries}
-use Rattle.asking.specs.Asking.{written_in, Searched, Put}
-use Rattle.asking.proofs.Putting.{told_as, counts_as}
+use Rattle.asking.specs.Asking.{Put}
 use Rattle.counts.specs.declared.Counts.{Counts}
 use Rattle.counts.specs.Counting.{no_counts, Onward, Small, Few}
 use Rattle.counts.specs.Marks.{marks_for}
@@ -290,17 +287,15 @@ ltb_left : (j n : ℕ) → ltb 0 (n - j) ≡ ltb j n
 ltb_left j n = elim (dec_lt j n) [ yes h ↦ lt-ltb 0 (n - j) (omega arith) ∙ sym (lt-ltb j n h) | no h ↦ le-ltb 0 (n - j) (omega arith) ∙ sym (le-ltb j n (omega arith)) ]
 
 -- the steps of stage j were written; of the relaxed plan the part `rest` was handed on
-pub record Arranged (t : Task) (l₀ plan₀ plan area memo sets : List ℕ) (f : Values) (c : Counts) (n a j : ℕ) (rest plan' : List ℕ) (r : Inserted) : Type 0 where
+pub record Arranged (t : Task) (l₀ plan₀ plan area memo sets : List ℕ) (f : Values) (c : Counts) (n a j : ℕ) (rest plan' : List ℕ) : Type 0 where
   pub start : Repairing t l₀ plan₀ plan area memo sets f c n a j
   pub taken : c.steps ≡ a
   pub here : j ≤ length l₀
   pub part : rest ≡ drop j l₀
   pub long : length plan' ≡ length plan
-  pub put : Put plan plan' a (stage_of t (sets_of sets) (shown t sets f) rest) (written_in r)
-  pub counts : Searched (stage_searches t (sets_of sets) (shown t sets f) rest) r
 
-module _ {t : Task} {l₀ plan₀ plan area memo sets : List ℕ} {f : Values} {c : Counts} {n a j : ℕ} {rest plan' : List ℕ} {r : Inserted}
-    (R : Arranged t l₀ plan₀ plan area memo sets f c n a j rest plan' r) where
+module _ {t : Task} {l₀ plan₀ plan area memo sets : List ℕ} {f : Values} {c : Counts} {n a j : ℕ} {rest plan' : List ℕ}
+    (R : Arranged t l₀ plan₀ plan area memo sets f c n a j rest plan') where
   abbrev G : Repairing t l₀ plan₀ plan area memo sets f c n a j
   G = R.start
 
@@ -316,18 +311,11 @@ module _ {t : Task} {l₀ plan₀ plan area memo sets : List ℕ} {f : Values} {
   so_far'' : repaired t l₀ ≡ take a plan ++ (steps ++ all_steps next)
   so_far'' = so_far' G R.taken ∙ ap (λ (l : List ℕ). take a plan ++ l) (ap all_steps here_is ∙ rest_steps t (sets_of sets) (shown t sets f) G.held G.knows rest)
 
-  pub repairing_long : r ≡ Long → length plan₀ < length (repaired t l₀)
-  repairing_long q =
-      let z = told_as plan plan' a steps r Long q R.put in
+  pub repairing_long : Put plan plan' a steps None → length plan₀ < length (repaired t l₀)
+  repairing_long z =
       omega (arith, z, G.long, whole_length G (steps ++ all_steps next) so_far'', length-append steps (all_steps next))
 
-  module _ (x k : ℕ) (q : r ≡ Upto x k) where
-    told : Put plan plan' a steps (written.Upto x)
-    told = told_as plan plan' a steps r (Upto x k) q R.put
-
-    searches_here : k ≡ stage_searches t (sets_of sets) (shown t sets f) rest
-    searches_here = counts_as (stage_searches t (sets_of sets) (shown t sets f) rest) r x k q R.counts
-
+  module _ (x k : ℕ) (told : Put plan plan' a steps (Some x)) (searches_here : k ≡ stage_searches t (sets_of sets) (shown t sets f) rest) where
     bounds : (a ≤ x) × (x ≤ length plan')
     bounds = (omega (arith, told.0), omega (arith, told.1, R.long))
 

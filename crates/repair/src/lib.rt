@@ -7,55 +7,72 @@ ghost use Rattle.task.specs.Task.{task_in};
 ghost use Rattle.repair.specs.Answers.{room_in, Held};
 ghost use Rattle.repair.specs.Repairs.{Repairable, EmptyMemo};
 
-use answers::Planned;
-use asking::Inserted;
+use answers::{Plan, Refusal};
+use counts::Counts;
+use search::Arcs;
 use state::State;
 
 // The repair from the initial state in one pass: where every step placed is taken the next stage is placed behind them, else the next
 // step is taken. Where the effects of its action are held the next states have the same sets, and plain steps behind it are taken too.
-fn walk(task: &[u16], list: &[u16], plan: &mut [u16], marks: &mut [u8], memo: &mut [u16]) -> Planned
+fn walk(
+    task: &[u16],
+    list: &[u16],
+    plan: &mut [u16],
+    marks: &mut [u8],
+    memo: &mut [u16],
+) -> Result<Plan, Refusal>
     requires { Repairable task.now list.now × (length plan.old ≤ 32768) × (length marks.old ≡ length plan.old) × EmptyMemo (task_in task.now) memo.old }
     ensures { Held (task_in task.now) list.now plan.new marks.new (length plan.old) result }
 {
     let needs = paths::needs(task);
     let mut s = State::initial(task);
     let mut plain = [0u64; 16];
-    let mut c = counts::uncounted();
+    let mut c = Counts::default();
     let mut searched: usize = 0;
     let mut at: usize = 0;
     let mut j: usize = 0;
+    // Stages and steps are taken in turn, so that no range tells the turns.
     while c.steps < at || j <= list.len() {
         if c.steps == at {
-            let left = &list[j..];
-            let w = stages::stage(task, &s.newest.values, &s.sets, memo, left, plan, at);
-            let Inserted::Upto { end, searches } = w else {
-                return counts::too_long(plan.len());
+            let arcs = Arcs {
+                task,
+                ever: &s.sets,
             };
-            counts::mark(marks, at, end, j < list.len());
-            at = end;
-            searched += searches;
+            let left = &list[j..];
+            let Some(w) = stages::stage(&arcs, &s.newest.values, memo, left, plan, at) else {
+                return Err(counts::too_long(plan.len()));
+            };
+            counts::mark(marks, at, w.end, j < list.len());
+            at = w.end;
+            searched += w.searches;
             j += 1;
             continue;
         }
-        let k = c.steps;
-        let i = lists::wide(plan[k]);
+        let i = usize::from(plan[c.steps]);
         if counts::effects_held(task, &s.sets, i, &mut plain) {
-            let old = s.newest;
-            let g = counts::glide(task, old, plan, c, at, &plain);
-            let newest = g.newest;
+            let g = counts::glide(task, s.newest, &plan[..at], c, &plain);
+            s.newest = g.newest;
             c = g.counts;
-            s.newest = newest;
             continue;
         }
         c = counts::counted(task, &s.newest.values, i, c);
-        leads::refresh(task, &s.sets, memo, i, needs);
+        let arcs = Arcs {
+            task,
+            ever: &s.sets,
+        };
+        leads::refresh(&arcs, memo, i, needs);
         s = s.step(task, i);
     }
-    counts::verdict(task, &s.newest.values, c, searched)
+    Ok(counts::verdict(task, &s.newest.values, c, searched))
 }
 
 // The same with a memo of its own, which is small where no variable has many values.
-fn repair_in(task: &[u16], list: &[u16], plan: &mut [u16], marks: &mut [u8]) -> Planned
+fn repair_in(
+    task: &[u16],
+    list: &[u16],
+    plan: &mut [u16],
+    marks: &mut [u8],
+) -> Result<Plan, Refusal>
     requires { Repairable task.now list.now × (length plan.old ≤ 32768) × (length marks.old ≡ length plan.old) }
     ensures { Held (task_in task.now) list.now plan.new marks.new (length plan.old) result }
 {
@@ -75,11 +92,10 @@ pub fn repair(
     plan: &mut [u16],
     work: &[u16],
     marks: &mut [u8],
-) -> Planned
+) -> Result<Plan, Refusal>
     requires { Repairable task.now relaxed.now }
     ensures { Held (task_in task.now) relaxed.now plan.new marks.new (room_in plan.old work.now marks.old) result }
 {
-    let lists = lists::lesser(plan.len(), work.len());
-    let room = lists::capacity(lists::lesser(lists, marks.len()));
+    let room = lists::capacity(plan.len().min(work.len()).min(marks.len()));
     repair_in(task, relaxed, &mut plan[..room], &mut marks[..room])
 }
