@@ -18,13 +18,13 @@ ghost use Rattle.counts.specs.Plain.{all_black, Plain, passed_by, Glides};
 use answers::{Plan, Reason, Refusal};
 use state::{Goals, Newest};
 
-// The marks of a stage's steps, at the places from `from` up to `to`: 1 for a move, 0 for the action behind them if there is one.
-pub fn mark(marks: &mut [u8], from: usize, to: usize, action: bool)
-    requires { (from ≤ to) × (to ≤ length marks.old) × (action ≡ true → from < to) }
-    ensures { take to marks.new ≡ take from marks.old ++ marks_for action (to - from) }
+// The marks of a stage's steps: 1 for a move, 0 for the action behind them if there is one.
+pub fn mark(marks: &mut [u8], action: bool)
+    requires { action ≡ true → 0 < length marks.old }
+    ensures { marks.new ≡ marks_for action (length marks.old) }
 {
-    let moves = to - usize::from(action);
-    marks[from..moves].fill(1);
+    let moves = marks.len() - usize::from(action);
+    marks[..moves].fill(1);
     if action {
         marks[moves] = 0;
     }
