@@ -1,26 +1,14 @@
 -- Marks as the top bits of bytes, and moved to where they stand before their steps.
 use mathlib.Core.List.{List}
-use mathlib.Core.Path.{◌≡◌, refl, sym, ap, ◌∙◌}
+use mathlib.Core.Path.{◌≡◌, refl, sym, ◌∙◌}
 use Prim.Native.Nat.{ℕ, ◌+◌, ◌-◌, ◌*◌, ◌/◌, ◌%◌, ◌<◌, ◌≤◌}
 use native.Mathlib.Omega.{arith}
 use lib.ListN.{length, get_or}
-use lib.Pow.{shr-shr}
 use Rattle.planning.specs.Basics.{bits_at}
 use Rattle.planning.specs.Sheet.{mark_of}
 use Rattle.bits.proofs.Window.{bits_at_word, bits_at_long, four_bits}
 use Rattle.pack.specs.Fields.{entries, four_of, halves_of, FourTops}
 use Rattle.pack.proofs.Fields.{mark_byte, get_d_entries}
-
--- half of each byte, by a shift of the whole
-half_byte : (q : ℕ) → q / 2 % 128 ≡ q % 256 / 2
-half_byte q = omega arith
-
-pub halves_are : (x : ℕ) → x / 33554432 % 128 * 16777216 + x / 131072 % 128 * 65536 + x / 512 % 128 * 256 + x / 2 % 128 ≡ halves_of x
-halves_are x =
-    let a : x / 33554432 % 128 ≡ x / 16777216 % 256 / 2 = ap (λ (n : ℕ). n % 128) (sym (shr-shr x 24 1)) ∙ half_byte (x / 16777216) in
-    let b : x / 131072 % 128 ≡ x / 65536 % 256 / 2 = ap (λ (n : ℕ). n % 128) (sym (shr-shr x 16 1)) ∙ half_byte (x / 65536) in
-    let c : x / 512 % 128 ≡ x / 256 % 256 / 2 = ap (λ (n : ℕ). n % 128) (sym (shr-shr x 8 1)) ∙ half_byte (x / 256) in
-    rw (a, b, c, half_byte x) refl
 
 -- Four bytes below others: each of them, and its top bit.
 module _ (a b c d v : ℕ) (ha : a < 256) (hb : b < 256) (hc : c < 256) (hd : d < 256) (e : v % 4294967296 ≡ a * 16777216 + b * 65536 + c * 256 + d) where

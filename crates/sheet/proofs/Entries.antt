@@ -56,10 +56,6 @@ module _ (n : ℕ) (l : List ℕ) (i : ℕ) where
   entry_passes h p =
       rw (drop-cons l i 0 h, add-one i) (not_below_cons n i (get_or l i 0) (drop (suc i) l) true (lt-ltb (get_or l i 0) n p))
 
-  pub entry_fails : i < length l → n ≤ get_or l i 0 → not_below n i (drop i l) ≡ some i
-  unfolding picked
-  entry_fails h p = rw (drop-cons l i 0 h) (not_below_cons n i (get_or l i 0) (drop (suc i) l) false (le-ltb (get_or l i 0) n p))
-
   pub no_entry_left : length l ≤ i → not_below n i (drop i l) ≡ none
   unfolding not_below
   no_entry_left h = rw (drop_of_length-le l h) refl

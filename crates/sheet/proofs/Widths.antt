@@ -2,8 +2,7 @@
 use mathlib.Core.Bool.{Bool, true, false, not}
 use mathlib.Core.List.{List, [], ◌∷◌}
 use mathlib.Core.Path.{◌≡◌, refl}
-use Prim.Native.Nat.{ℕ, zero, suc, ◌+◌, ◌*◌, ◌/◌, ◌≤◌}
-use native.Mathlib.Nat.{mul-le-mul}
+use Prim.Native.Nat.{ℕ, zero, suc, ◌+◌, ◌/◌, ◌≤◌}
 use native.Mathlib.Omega.{arith}
 use lib.Dec.{eqb}
 use mir.Val.{bool_byte}
@@ -56,7 +55,3 @@ width_is e = go (eqb e 1)
 -- the bytes that so many bits fill
 pub eighths : (n : ℕ) → div_ceil n 8 ≡ (n + 7) / 8
 eighths n = omega arith
-
--- The marks of a sheet have no more bits than it may have steps.
-pub marks_few : (w n : ℕ) → w ≤ 1 → n ≤ 32768 → w * n ≤ 32768
-marks_few w n h l = mul-le-mul h l

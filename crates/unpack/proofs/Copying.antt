@@ -2,7 +2,7 @@
 use mathlib.Core.List.{List, [], ◌∷◌, ◌++◌, append_assoc, append-nil}
 use mathlib.Core.Path.{◌≡◌, refl, sym, ◌∙◌}
 use Prim.Native.Nat.{ℕ, zero, suc, ◌+◌, ◌-◌, ◌*◌, ◌/◌, ◌%◌, ◌^◌, ◌<◌, ◌≤◌}
-use native.Mathlib.Nat.{zero-add, suc-add, sub-zero}
+use native.Mathlib.Nat.{zero-add, suc-add}
 use native.Mathlib.Numerals.{add-one}
 use native.Mathlib.Omega.{arith}
 use lib.ListN.{length, take, drop, set, length-set, length-append}
@@ -30,14 +30,6 @@ pub record Copying (f : ℕ → ℕ) (d n : ℕ) (whole xs₀ xs : List ℕ) (i 
   pub so_far : whole ≡ take i xs ++ row f d (53 + d * i) (n - i)
 
 module _ (f : ℕ → ℕ) (d n : ℕ) where
-  pub copying_start : (xs : List ℕ) (i : ℕ) → i ≤ n → n ≤ length xs → Copying f d n (take i xs ++ row f d (53 + d * i) (n - i)) xs xs i
-  copying_start xs i h r = record { within = h; room = r; long = refl; so_far = refl }
-
-  pub copying_none : (xs : List ℕ) → n ≤ length xs → Copying f d n (row f d 53 n) xs xs 0
-  copying_none xs r =
-      let e : 53 + d * 0 ≡ 53 = omega arith in
-      record { within = omega arith; room = r; long = refl; so_far = rw (sub-zero, e) refl }
-
   module _ (whole xs₀ xs : List ℕ) (i : ℕ) (g : Copying f d n whole xs₀ xs i) where
     pub copying_one : (v : ℕ) → i < n → v ≡ f (53 + d * i) → Copying f d n whole xs₀ (set xs i v) (i + 1)
     unfolding row

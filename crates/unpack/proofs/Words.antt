@@ -18,9 +18,6 @@ pub bits_moved : (a b c d : ℕ) → a < 2 → b < 2 → c < 2 → d < 2
     m / 8589934592 % 2 * 16777216 + m / 33554432 % 2 * 65536 + m / 131072 % 2 * 256 + m / 512 % 2 ≡ a * 16777216 + b * 65536 + c * 256 + d
 bits_moved = four_bits _ _ tt
 
-pub gathered_below : (w r : ℕ) → r ≡ w / 8796093022208 % 2 * 16777216 + w / 4294967296 % 2 * 65536 + w / 2097152 % 2 * 256 + w / 1024 % 2 → r < 4294967296
-gathered_below w r e = omega arith
-
 -- Two halves of 32 bits, and fields of ten bits in them, at k places up.
 module _ (hi lo p : ℕ) (h : hi < 4294967296) (e : p ≡ hi + lo * 4294967296) where
   upper : p / 4294967296 ≡ lo
