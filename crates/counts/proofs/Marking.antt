@@ -40,11 +40,16 @@ unfolding marks_for
 marks_length true n h = omega (arith, h refl, length-append (replicate {A = ℕ} (n - 1) 1) (0 ∷ []), length-replicate {A = ℕ} (n - 1) 1)
 marks_length false n h = length-replicate {A = ℕ} n 1
 
--- the marks ms written into the area d from place k up to place `to`
-pub marks_front : (d ms : List ℕ) (k to : ℕ) → k ≤ to → to ≤ length d → (a : Bool) → (a ≡ true → k < to) → ms ≡ marks_for a (length (take (to - k) (drop k d)))
-    → take to (put_mid k (to - k) d ms) ≡ take k d ++ marks_for a (to - k)
-marks_front d ms k to h b a f e =
-    let part : length (take (to - k) (drop k d)) ≡ to - k = length-take-le (to - k) (drop k d) (omega (arith, length-drop k d)) in
-    let whole : ms ≡ marks_for a (to - k) = e ∙ ap (marks_for a) part in
-    let n : length ms ≡ to - k = ap length whole ∙ marks_length a (to - k) (λ q. omega (arith, f q)) in
-    take-put_mid k (to - k) d ms to (omega arith) (omega arith) ∙ ap (λ (l : List ℕ). take k d ++ l) whole
+-- the part of the area d from place k up to place `to`, and the marks ms written there
+module _ (d ms : List ℕ) (k to : ℕ) (h : k ≤ to) (b : to ≤ length d) where
+  pub part_length : length (take (to - k) (drop k d)) ≡ to - k
+  part_length = length-take-le (to - k) (drop k d) (omega (arith, length-drop k d))
+
+  pub area_kept : length ms ≡ length (take (to - k) (drop k d)) → length (put_mid k (to - k) d ms) ≡ length d
+  area_kept e = simp (length-append, length-drop) (omega (arith, e, part_length, length-take-le k d (omega arith)))
+
+  pub marks_front : (a : Bool) → (a ≡ true → k < to) → ms ≡ marks_for a (length (take (to - k) (drop k d))) → take to (put_mid k (to - k) d ms) ≡ take k d ++ marks_for a (to - k)
+  marks_front a f e =
+      let whole : ms ≡ marks_for a (to - k) = e ∙ ap (marks_for a) part_length in
+      let n : length ms ≡ to - k = ap length whole ∙ marks_length a (to - k) (λ q. omega (arith, f q)) in
+      take-put_mid k (to - k) d ms to (omega arith) (omega arith) ∙ ap (λ (l : List ℕ). take k d ++ l) whole

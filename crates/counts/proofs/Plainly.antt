@@ -13,14 +13,13 @@ use Rattle.planning.specs.Runs.{State, Mode, holds, step, relaxed, act}
 use Rattle.planning.specs.Newest.{Values, newer, alone}
 use Rattle.laws.proofs.Tests.{T→true, and_l, and_r}
 use Rattle.task.specs.Task.{fact_of, facts_of}
-use Rattle.sets.specs.Sets.{values_of, red_black_of, further, listed}
+use Rattle.sets.specs.Sets.{red_black_of, further, listed}
 use Rattle.sets.proofs.Slices.{facts_of_drop, facts_of_end}
 use Rattle.applying.proofs.Knowing.{known_none, known_step, known_held, listed_none}
 use Rattle.applying.proofs.RedBlackSteps.{red_black_black}
 use Rattle.counts.specs.declared.Counts.{Counts}
-use Rattle.counts.specs.declared.Glided.{Glided}
 use Rattle.counts.specs.Counting.{Onward, Few}
-use Rattle.counts.specs.Plain.{all_black, Plain, passed_by, Glide, Gliding, Glides}
+use Rattle.counts.specs.Plain.{all_black, Plain, passed_by, Glide, Gliding}
 
 -- at place k of a list of facts: what is left to look at are the facts from k on
 module _ (m : Mode) (l : List ℕ) (k : ℕ) where
@@ -98,31 +97,6 @@ module _ (t : Task) (set plan : List ℕ) (to : ℕ) (f : Values) (c : Counts) w
 -- an entry of the part of a list from place s on
 pub entry_behind : (l : List ℕ) (s k m i : ℕ) → m ≡ s + k → k < length l - s → i ≡ get_or (take (length l - s) (drop s l)) k 0 → i ≡ get_or l m 0
 entry_behind l s k m i e h q = q ∙ get_or-take (length l - s) (drop s l) k 0 h ∙ get_or-drop s l k 0 ∙ ap (λ (j : ℕ). get_or l j 0) (sym e)
-
--- such steps behind the first one
-pub glides_from : (t : Task) (set plan : List ℕ) (to : ℕ) (f : Values) (c : Counts) (i : ℕ) (r : Glided) → i ≡ get_or plan c.steps 0
-    → {first : Counts} → Onward (act t i) f c first → (g : Values) → g ≡ newer (act t i) f → Gliding t set plan to g first (values_of r.newest.values) r.counts → Glides t set plan to f c r
-glides_from t set plan to f c i r ei {first = first} O g eg G = record { first = first; onward = rw (← ei) O; more = rw (← ei, ← eg) G }
-
--- what is told of the front part of a list is so of the list
-module _ (t : Task) (set plan : List ℕ) (a : ℕ) where
-  glide_front : (m : ℕ) (f : Values) (c : Counts) (g : Values) (r : Counts) → c.steps + m ≤ a → Glide t set (take a plan) m f c g r → Glide t set plan m f c g r
-  unfolding Glide
-  glide_front zero f c g r b G = G
-  glide_front (suc m) f c g r b G =
-      let e : get_or (take a plan) c.steps 0 ≡ get_or plan c.steps 0 = get_or-take a plan c.steps 0 (omega arith) in
-      rw (← e) (G.0, glide_front m _ _ g r (omega (arith, passed_steps (act t (get_or (take a plan) c.steps 0)) c)) G.1)
-
-  pub glides_front : (n : ℕ) → n ≡ a → (f : Values) (c : Counts) → c.steps < a → (r : Glided) → Glides t set (take a plan) n f c r → Glides t set plan a f c r
-  glides_front n en f c h r G =
-      let e : get_or (take a plan) c.steps 0 ≡ get_or plan c.steps 0 = get_or-take a plan c.steps 0 h in
-      let M = G.more in
-      rw en at (glides_from t set plan n f c _ r e G.onward _ refl (record {
-        count = M.count;
-        steps = M.steps;
-        within = M.within;
-        way = glide_front M.count _ _ _ _ (omega (arith, M.steps, M.within)) M.way;
-      }))
 
 -- counts stay within their bounds
 further_le : (b : Bool) (r s : ℕ) → r ≤ s → further b r s ≤ s + 1
