@@ -42,7 +42,7 @@ fn walk(
             let Some(w) = stages::stage(&arcs, &s.newest.values, memo, left, plan, at) else {
                 return Err(counts::too_long(plan.len()));
             };
-            counts::mark(marks, at, w.end, j < list.len());
+            counts::mark(&mut marks[at..w.end], j < list.len());
             at = w.end;
             searched += w.searches;
             j += 1;
