@@ -53,9 +53,6 @@ module _ (row left v : ℕ) (small : row < 2 ^ 64) (small' : left < 2 ^ 64) wher
   unfolding meets
   ready_of e = rw e (sym (meets_not (eqb (bit_and row left) 0) refl))
 
-pub unready_of : (row left v : ℕ) → in_set left v ≡ false → false ≡ (in_set left v && not (some_below 64 (λ u. in_set left u && in_set row u)))
-unready_of row left v e = rw e refl
-
 end_black : (t : Task) (v u : ℕ) → T (black_arc t v u) → T (black t u)
 unfolding black_arc
 end_black t v u a = search (and_l, and_r)

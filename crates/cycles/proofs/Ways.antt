@@ -44,9 +44,6 @@ pub record Joining (n k : ℕ) (rows₀ : List ℕ) (onward : ℕ) (rows : List 
   pub left : (x : ℕ) → u ≤ x → get_or rows x 0 ≡ get_or rows₀ x 0
 
 module _ (n k : ℕ) (rows₀ : List ℕ) (b : n ≤ 64) (S : StartBelow n (sets_of rows₀)) where
-  pub joining_start : (onward : ℕ) → length rows₀ ≡ 64 → onward ≡ get_or rows₀ k 0 → Joining n k rows₀ onward rows₀ 0
-  joining_start onward l e = record { within = omega arith; long = l; is_row = e; done = λ x v h. absurd (omega arith); left = λ x h. refl }
-
   module _ (onward : ℕ) (rows : List ℕ) (u : ℕ) (J : Joining n k rows₀ onward rows u) where
     pub joining_turn : u < n → (w : ℕ) → mode_of w ≡ (λ v. in_set (get_or rows u 0) v || (in_set (get_or rows u 0) k && in_set onward v)) → Joining n k rows₀ onward (set rows u w) (u + 1)
     unfolding mode_of sets_of through
@@ -102,9 +99,6 @@ module _ (n : ℕ) (rows₀ : List ℕ) where
     starts = subst (StartBelow n) (sym e.states) (through_starts n k (sets_of rows) C.starts);
     ways = rw add-one (e.states ∙ ap (through k) C.ways);
   }
-
-  pub closing_end : (rows : List ℕ) (k : ℕ) → Closing n rows₀ rows k → n ≤ k → sets_of rows ≡ via (sets_of rows₀) n
-  closing_end rows k C h = let e : k ≡ n = omega (arith, C.within) in C.ways ∙ rw e refl
 
 -- ways and reachability
 module _ (s : ℕ → ℕ → Bool) where

@@ -137,9 +137,6 @@ own_turn false true t = refl
 own_turn false false t = and-false t
 
 module _ (facts : List ℕ) (changed paint : ℕ) (rows₀ : List ℕ) where
-  pub adding_start : length rows₀ ≡ 64 → Adding facts changed paint rows₀ rows₀ 0
-  adding_start n = record { long = n; so_far = λ u v. refl }
-
   module _ (rows : List ℕ) (k : ℕ) (p : Adding facts changed paint rows₀ rows k) where
     pub adding_turn : k < length facts → (f u w : ℕ) → f ≡ get_or facts k 0 → f < 4096 → u ≡ f / 64 → mode_of w ≡ (λ v. in_set (get_or rows u 0) v || arcs changed paint u v)
         → Adding facts changed paint rows₀ (set rows u w) (k + 1)

@@ -5,7 +5,6 @@ use mathlib.Core.Option as math
 use Prim.Native.Nat.{ℕ, ◌+◌, ◌*◌, ◌/◌, ◌%◌, ◌<◌, ◌≤◌}
 use native.Mathlib.Nat.{add-zero}
 use native.Mathlib.Omega.{arith}
-use native.Mathlib.Decide.{ℕ_discrete}
 use lib.Dec.{eqb}
 use Rattle.std.specs.Prelude.{Some, None}
 use Rattle.planning.specs.Basics.{some_below}
@@ -33,19 +32,9 @@ module _ (t : Task) (m : State) (v e : ℕ) where
   pub record Trying (d : ℕ) : Type 0 where
     pub passed : (k : ℕ) → k < d → (not (eqb (0 + k) e) && not (returned t m v (0 + k))) ≡ false
 
-  pub trying_start : Trying 0
-  trying_start = record { passed = λ k l. absurd (omega arith) }
-
   module _ (d : ℕ) (R : Trying d) (r : Bool) (q : r ≡ (eqb d e || returned t m v d)) where
     test : (not (eqb (0 + d) e) && not (returned t m v (0 + d))) ≡ not r
     test = let z : 0 + d ≡ d = omega arith in rw z (not_or (eqb d e) (returned t m v d) r q)
-
-    pub trying_turn : r ≡ true → Trying (d + 1)
-    trying_turn z = record { passed = λ k l. go k l (ℕ_discrete k d) }
-      where
-        go : (k : ℕ) → k < d + 1 → Dec (k ≡ d) → (not (eqb (0 + k) e) && not (returned t m v (0 + k))) ≡ false
-        go k l (yes y) = rw y (test ∙ ap not z)
-        go k l (no y) = R.passed k (omega arith)
 
     pub trying_hit : (n : ℕ) → d < n → r ≡ false → true ≡ unreturned_from t m v e 0 n
     unfolding unreturned_from
@@ -72,7 +61,3 @@ module _ (t : Task) (m : State) (i v e : ℕ) where
       go : (o : math.Option ℕ) → Asked o None → unreturned_from t m v e 0 (count t v) ≡ arcs_by o t m v e
       go math.none q = refl
       go (math.some x) q = let y : ◌≡◌ {A = ℕ} 0 1 = cc in absurd (omega arith)
-
-pub asked_small : (o : math.Option ℕ) (d : ℕ) → Asked o (Some d) → d < 64
-asked_small math.none d q = let y : ◌≡◌ {A = ℕ} 0 1 = cc in absurd (omega arith)
-asked_small (math.some x) d q = let y : x ≡ d = cc in omega (arith, q.1)

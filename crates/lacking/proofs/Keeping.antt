@@ -4,10 +4,8 @@ use mathlib.Core.Bool.{true, false}
 use mathlib.Core.List.{List}
 use Prim.Native.Nat.{ℕ, ◌+◌, ◌<◌, ◌≤◌}
 use native.Mathlib.Omega.{arith}
-use native.Mathlib.Decide.{ℕ_discrete}
-use lib.ListN.{length, get_or, set, replicate, length-set, length-replicate, get_or-replicate}
-use lib.Seq.{get_or-set_same, get_or-set_other}
-use Rattle.std.specs.Prelude.{Option, None, Some, IfSome}
+use lib.ListN.{length, get_or, replicate, length-replicate, get_or-replicate}
+use Rattle.std.specs.Prelude.{Option, None, Some}
 use Rattle.planning.specs.Record.{Task}
 use Rattle.planning.specs.Runs.{actions, act, count}
 use Rattle.task.specs.Task.{facts_of, task_in, Loaded}
@@ -28,14 +26,6 @@ ready_start t marks U = record {
 
 pub ready_more : (t : Task) (own k : ℕ) (marks : List ℕ) (kept : List (Option Allowing)) → Ready t own marks kept → own ≤ k → Ready t k marks kept
 ready_more t own k marks kept R l = record { unmarked = unmarked_more t own k marks R.unmarked l; complete = R.complete }
-
--- one more is kept
-pub kept_more : (t : Task) (kept : List (Option Allowing)) → Kept t kept → (s : ℕ) (a : Allowing) → s < 32 → Complete t a.variable a.action → Kept t (set kept s (Some a))
-kept_more t kept K s a h C = record { long = length-set kept s (Some a) ∙ K.long; each = λ k b. go k b (ℕ_discrete k s) }
-  where
-    go : (k : ℕ) → k < 32 → Dec (k ≡ s) → IfSome (get_or (set kept s (Some a)) k None) (λ a. Complete t a.variable a.action)
-    go k b (yes e) = rw (e, get_or-set_same kept s (Some a) None (omega (arith, K.long))) C
-    go k b (no e) = rw (get_or-set_other kept s k (Some a) None e) (K.each k b)
 
 -- what stands at s
 pub kept_at : (t : Task) (kept : List (Option Allowing)) → Kept t kept → (s : ℕ) (a : Allowing) → s < length kept → get_or kept s None ≡ Some a

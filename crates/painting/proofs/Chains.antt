@@ -8,7 +8,6 @@ use Prim.Native.Nat.{ℕ, ◌+◌, ◌-◌, ◌*◌, ◌/◌, ◌%◌, ◌<◌, 
 use native.Mathlib.Omega.{arith}
 use native.Mathlib.Decide.{ℕ_discrete, dec_lt}
 use lib.Dec.{T}
-use lib.ListN.{length}
 use Rattle.std.specs.Prelude.{Option, None, Some, MatchOption}
 use Rattle.planning.specs.Record.{Fact, Task}
 use Rattle.planning.specs.Runs.{Mode, has, variables, actions, act, black, count}
@@ -221,9 +220,6 @@ module _ (entry task₀ : List ℕ) (paint : ℕ) (A : Acyclic entry paint) (n :
 
     pub linking_back : 0 < i → (task' : List ℕ) → task' ≡ linked_move (move_of (mode_of paint) (reduced_effects (act (task_in task) (i - 1)))) (i - 1) task → Linking task₀ task' (i - 1)
     linking_back h task' K = linking_turn task₀ paint A₀ task (i - 1) (subst (Linking task₀ task) (omega arith) L) task' (rw (same, A₀.colours) at K)
-
-    pub linking_long : length task ≡ length entry
-    linking_long = L.relinked.long ∙ U.relinked.long
 
     pub linking_end : i ≤ 0 → Linked entry task
     linking_end h =

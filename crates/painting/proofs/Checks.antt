@@ -1,6 +1,6 @@
 -- Check 8 of one action and of all in turn, and what both checks answer and leave.
 use mathlib.Core.Path.{◌≡◌, refl, sym, ap, ◌∙◌}
-use mathlib.Core.Bool.{Bool, true, false}
+use mathlib.Core.Bool.{Bool, true}
 use mathlib.Core.List.{List, ◌++◌}
 use mathlib.Core.Option as math
 use Prim.Native.Nat.{ℕ, ◌+◌, ◌-◌, ◌*◌, ◌/◌, ◌%◌, ◌<◌, ◌≤◌}
@@ -19,7 +19,7 @@ use Rattle.planning.specs.Painting.{reduced_effects, black_arc, on_cycle, cyclic
 use Rattle.planning.specs.Repair.{order}
 use Rattle.laws.proofs.Below.{First?, first_is}
 use Rattle.laws.proofs.Checks.{refuse_at_none}
-use Rattle.laws.proofs.Searches.{Searched, searched_start, searched_turn, searched_hit, searched_end}
+use Rattle.laws.proofs.Searches.{Searched, searched_start, searched_hit, searched_end}
 use Rattle.laws.proofs.Arcs.{reduced_elim}
 use Rattle.laws.proofs.Formed.{Formed}
 use Rattle.answers.specs.declared.Refusal.{Refusal}
@@ -39,15 +39,11 @@ use Rattle.lacking.specs.Lacking.{Unmarked, lacks_by, Ready}
 use Rattle.painting.specs.Chains.{Acyclic, Linked}
 use Rattle.painting.specs.Answers.{lacks, Readied}
 use Rattle.lacking.proofs.Marked.{unmarked_all, Allows, marks_allow, unmarked_more}
-use Rattle.lacking.proofs.Keeping.{ready_more}
 use Rattle.painting.proofs.Chains.{Move, acyclic_relinked, ordered_chained, ordered_relinked}
 use Rattle.painting.proofs.Lacks.{has_right, facts_small, lacks_is}
 
 -- the facts of an action, which stand one behind the other
 module _ (task : List ℕ) (L : Loaded task) (i : ℕ) (h : i < actions (task_in task)) (a b : ℕ) (ea : a ≡ pre_at task i) (eb : b ≡ end_at task i) where
-  pub all_rise : a ≤ b
-  all_rise = let R = L.rows i h in omega (arith, R.pre_below, R.eff_below)
-
   pub all_stated : facts_of (take (b - a) (drop a task)) ≡ (act (task_in task) i).pre ++ (act (task_in task) i).eff
   unfolding facts_of
   all_stated =
@@ -102,9 +98,6 @@ module _ (t : Task) (n : ℕ) (e : n ≡ actions t) where
   all_actions = rw e refl
 
   module _ (marks : List ℕ) (kept : List (Option Allowing)) (i : ℕ) (S : Scanning t n marks kept i) (r : Bool) (answer : r ≡ lacks t i) (h : i < n) where
-    pub scanning_turn : r ≡ false → (marks' : List ℕ) (kept' : List (Option Allowing)) → Ready t (2 * i + 2) marks' kept' → Scanning t n marks' kept' (i + 1)
-    scanning_turn z marks' kept' R = record { ready = ready_more t (2 * i + 2) (2 * (i + 1)) marks' kept' R (omega arith); searched = searched_turn n (lacks t) i S.searched h (sym answer ∙ z) }
-
     pub scanning_hit : r ≡ true → math.some i ≡ unreturned t
     scanning_hit z = searched_hit n (lacks t) i S.searched h (sym answer ∙ z) ∙ all_actions
 

@@ -42,15 +42,9 @@ module _ (task : List ℕ) (L : Loaded task) (i : ℕ) (h : i < actions (task_in
   pub pre_inside : facts_of facts ≡ (act (task_in task) i).pre → (k : ℕ) → k < length facts → get_or facts k 0 / 64 < variables (task_in task)
   pre_inside e k l = sorted_inside (variables (task_in task)) (count (task_in task)) facts 0 (rw e (L.formed.pre_sorted i)) k l
 
-  pub eff_inside : facts_of facts ≡ (act (task_in task) i).eff → (k : ℕ) → k < length facts → get_or facts k 0 / 64 < variables (task_in task)
-  eff_inside e k l = sorted_inside (variables (task_in task)) (count (task_in task)) facts 0 (rw e (L.formed.eff_sorted i)) k l
-
   module _ (marks : List ℕ) (S : Spans (task_in task) marks) where
     pub pre_markable : facts_of facts ≡ (act (task_in task) i).pre → (o : Option ℕ) → Markable facts o marks
     pre_markable e o k l = omega (arith, S, place_inside (variables (task_in task)) o (get_or facts k 0) (pre_inside e k l))
-
-    pub eff_markable : facts_of facts ≡ (act (task_in task) i).eff → (o : Option ℕ) → Markable facts o marks
-    eff_markable e o k l = omega (arith, S, place_inside (variables (task_in task)) o (get_or facts k 0) (eff_inside e k l))
 
     pub pre_places : facts_of facts ≡ (act (task_in task) i).pre → (k : ℕ) → k < length facts → get_or facts k 0 < length marks
     pre_places e k l = omega (arith, S, pre_inside e k l)
