@@ -9,7 +9,7 @@ ghost use Rattle.task.specs.Task.{facts_of, task_in, AllFacts, States};
 ghost use Rattle.achievers.specs.Achievers.{Achieved, Replay};
 ghost use Rattle.extraction.specs.Keeping.{wants, by_of, Joined};
 
-// Action a joins the set; from 1,024 on a number is none.
+// Action a joins the set; 65,535, which stands for none in the list of first achievers, does not.
 fn add(wanted: &mut [u64; 16], a: usize)
     requires { length wanted.old ≡ 16 }
     ensures { Joined (λ i. eqb i a) wanted.old wanted.new }

@@ -5,7 +5,7 @@ use mathlib.Core.Logic.{◌⊎◌, inl, inr, ◌≢◌}
 use mathlib.Core.Bool.{true, false, not}
 use mathlib.Core.List.{List, []}
 use mathlib.Core.Option.{some}
-use Prim.Native.Nat.{ℕ, ◌+◌, ◌-◌, ◌*◌, ◌/◌, ◌%◌, ◌<◌, ◌≤◌}
+use Prim.Native.Nat.{ℕ, ◌+◌, ◌-◌, ◌*◌, ◌/◌, ◌%◌, ◌<◌}
 use native.Mathlib.Omega.{arith}
 use native.Mathlib.Decide.{dec_lt}
 use Rattle.std.specs.Prelude.{Some, None}
@@ -116,7 +116,7 @@ module _ {task order list plan sets work₀ ready₀ work ready : List ℕ} {n k
               settled = sites_leave s (has []) p ready' S (λ v d x. x) (rw (← is, h) tt) (λ y x. inl x) (λ y x. x) O;
             }
 
-            pub drop_less : (length last ≤ 0 → ready ≡ ready₀) → left task sets ready' [] < left task sets ready₀ last
+            pub drop_less : (length last ≡ 0 → ready ≡ ready₀) → left task sets ready' [] < left task sets ready₀ last
             unfolding left
             drop_less same = go (dec_lt 0 (length last))
               where

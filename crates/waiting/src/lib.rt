@@ -23,7 +23,8 @@ pub fn unmet(sets: &[u64; 64], facts: &[u16], from: usize) -> usize
 }
 
 // What waits, by rank: each action's next on its chain; from PLACE on the place of the precondition that it waits for; from HEAD on for
-// each fact the head of its chain of actions. 65,535 ends a chain: an option has no 16 bits of its own (fixed memory). ALL is room for the facts of 64 variables, FEW for those of 16.
+// each fact the head of its chain of actions. 65,535 ends a chain, as an array of options would be twice as long (fixed memory). ALL is
+// room for the facts of 64 variables, FEW for those of 16.
 const PLACE: usize = 1024;
 
 const HEAD: usize = 2048;
@@ -101,7 +102,7 @@ pub fn wake(
 )
     requires { Loaded task.now × Headed task.now facts.now × Settled task.now order.now (sets_of sets.now) (has (facts_of facts.now)) work.old ready.old }
     ensures settled { Settled task.now order.now (sets_of sets.now) (has []) work.new ready.new }
-    ensures ready_unchanged { length facts.now ≤ 0 → ready.new ≡ ready.old }
+    ensures ready_unchanged { length facts.now ≡ 0 → ready.new ≡ ready.old }
 {
     for (k, f) in facts.iter().enumerate() {
         let f = usize::from(*f);

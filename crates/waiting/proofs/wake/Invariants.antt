@@ -1,6 +1,5 @@
 -- The chains of the facts from place k on are still owed; a turn takes one of them off and settles its actions.
 use mathlib.Core.Path.{◌≡◌}
-use Prim.Native.Nat.{◌≤◌}
 use lib.ListN.{length, drop}
 use Rattle.planning.specs.Runs.{has}
 use Rattle.task.specs.Task.{facts_of}
@@ -10,4 +9,4 @@ use Rattle.waiting.proofs.wake.Given as goal
 
 abbrev pub invariant-loop-k : goal.invariant-loop-k
 invariant-loop-k l =
-    Settled l.task l.order (sets_of l.sets) (has (facts_of (drop l.k l.facts))) l.work l.ready × (length l.facts ≤ 0 → l.ready ≡ l.initial.ready)
+    Settled l.task l.order (sets_of l.sets) (has (facts_of (drop l.k l.facts))) l.work l.ready × (length l.facts ≡ 0 → l.ready ≡ l.initial.ready)
