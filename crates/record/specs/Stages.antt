@@ -5,6 +5,7 @@ use Rattle.planning.specs.Basics.{Check, check, in_order, bits_at}
 use Rattle.planning.specs.Record.{variable_bit, variables_in, actions_in, count_in, preconditions_in, effects_in, effects_from}
 use Rattle.planning.specs.Record.{field_check, goal_fits, variables_checks, facts_checks, actions_checks, ends_at, record_end}
 use Rattle.bits.specs.Windows.{Leading}
+use denote.Ref.{Bor}
 
 -- the list holds the count of values of each of the first n variables, and 0 behind them
 pub record Counts (s counts : List ℕ) (n : ℕ) : Type 0 where
@@ -31,6 +32,11 @@ pub record Unsound (w n low : ℕ) (counts : List ℕ) : Type 0 where
   pub refuses :
       (s : List ℕ) (p m : ℕ) → Leading s p w → p + 12 * n ≤ 8 * length s → Counts s counts (variables_in s)
       → in_order (facts_checks s p low (n + m)) ≡ none → ⊥
+
+-- a function that gives the window at each place where four of the n facts from bit p on may start
+pub record Windows {W : Type 0} (pre : W → Bor (List ℕ) → ℕ → Type 0) (post : W → Bor (List ℕ) → ℕ → ℕ → Type 0) (window : W) (s : List ℕ) (p n : ℕ) : Type 0 where
+  pub callable : (b : Bor (List ℕ)) (at : ℕ) → b.now ≡ s → p ≤ at → at < p + 12 * n → pre window b at
+  pub leads : (b : Bor (List ℕ)) (at w : ℕ) → b.now ≡ s → p ≤ at → at < p + 12 * n → post window b at w → Leading s at w
 
 -- what the quick test of a header's 22 bits tests
 pub record SoundHeader (b : ℕ) : Type 0 where

@@ -11,7 +11,7 @@ ghost use Rattle.planning.specs.Basics.{answer, done, in_order, bits_at};
 ghost use Rattle.planning.specs.Record.{variables_in, actions_in, preconditions_in, effects_in, action_end, actions_end, record_end};
 ghost use Rattle.planning.specs.Record.{field_check, variable_checks, variables_checks, fact_checks, facts_checks, action_checks, actions_checks, record_check};
 ghost use Rattle.answers.specs.Answers.{check_of, value_of};
-ghost use Rattle.record.specs.Stages.{action_facts_checks, Counts, Known, Few, Unsound, SoundHeader, SoundVariable, Sound};
+ghost use Rattle.record.specs.Stages.{action_facts_checks, Counts, Windows, Known, Few, Unsound, SoundHeader, SoundVariable, Sound};
 ghost use Rattle.record.specs.Stages.{from_end, from_actions, from_variables, from_action_count, from_variable_count, goal_checks, initial_checks};
 
 use answers::{Reason, Refusal};
@@ -152,52 +152,48 @@ pub fn sound_few(w: u64, n: usize, low: u64, counts: &[u8; 64]) -> Option<u64>
     sound((w >> 16) % 4096, c, counts)
 }
 
-// Whether `count` facts from bit `from` on are sound, where eight bytes are left from where they end: four to a load, and each load six
-// bytes behind the one before.
-fn sound_inner(bytes: &[u8], from: usize, count: usize, counts: &[u8; 64]) -> bool
-    requires { (from ≤ 399000) × (count ≤ 15) × ((from + 12 * count) / 8 + 8 ≤ length bytes.now) × Counts bytes.now counts.now (variables_in bytes.now) }
+// Whether `count` facts from bit `from` on are sound: four to a window.
+fn sound_windows<W: Fn(&[u8], usize) -> u64>(
+    bytes: &[u8],
+    from: usize,
+    count: usize,
+    counts: &[u8; 64],
+    window: W,
+) -> bool
+    requires bounds { (from ≤ 399000) × (count ≤ 15) × (from + 12 * count ≤ 8 * length bytes.now) × Counts bytes.now counts.now (variables_in bytes.now) }
+    requires windows { Windows W.pre W.post window bytes.now from count }
     ensures { result ≡ true → in_order (facts_checks bytes.now from 0 count) ≡ none }
 {
-    let shift = from % 8;
-    let mut j = from / 8;
-    let mut left = count;
-    let mut low = 0;
-    // A `for` over the full windows was slower: most lists have none.
-    while 4 < left {
-        let Some(next) = sound_few(bits::window_from(bytes, j, shift), 4, low, counts) else {
-            return false;
-        };
-        low = next;
-        j += 6;
-        left -= 4;
-    }
-    left == 0 || sound_few(bits::window_from(bytes, j, shift), left, low, counts).is_some()
-}
-
-// Whether `count` facts from bit `from` on are there and sound: four to a load.
-fn sound_facts(bytes: &[u8], from: usize, count: usize, counts: &[u8; 64]) -> bool
-    requires { (8 ≤ length bytes.now) × (from ≤ 399000) × (count ≤ 15) × Counts bytes.now counts.now (variables_in bytes.now) }
-    ensures { result ≡ true → in_order (facts_checks bytes.now from 0 count) ≡ none }
-{
-    if (from + 12 * count) / 8 + 8 <= bytes.len() {
-        return sound_inner(bytes, from, count, counts);
-    }
-    if bytes.len() < (from + 12 * count + 7) / 8 {
-        return false;
-    }
     let mut at = from;
     let mut left = count;
     let mut low = 0;
     // A `for` over the full windows was slower: most lists have none.
     while 4 < left {
-        let Some(next) = sound_few(bits::window_at(bytes, at), 4, low, counts) else {
+        let Some(next) = sound_few(window(bytes, at), 4, low, counts) else {
             return false;
         };
         low = next;
         at += 48;
         left -= 4;
     }
-    left == 0 || sound_few(bits::window_at(bytes, at), left, low, counts).is_some()
+    left == 0 || sound_few(window(bytes, at), left, low, counts).is_some()
+}
+
+// Whether `count` facts from bit `from` on are there and sound. Where eight bytes are left from where they end, a window is at hand from
+// each byte on.
+fn sound_facts(bytes: &[u8], from: usize, count: usize, counts: &[u8; 64]) -> bool
+    requires { (8 ≤ length bytes.now) × (from ≤ 399000) × (count ≤ 15) × Counts bytes.now counts.now (variables_in bytes.now) }
+    ensures { result ≡ true → in_order (facts_checks bytes.now from 0 count) ≡ none }
+{
+    if (from + 12 * count) / 8 + 8 <= bytes.len() {
+        return sound_windows(bytes, from, count, counts, |bytes, at| {
+            bits::window_from(bytes, at / 8, at % 8)
+        });
+    }
+    if bytes.len() < (from + 12 * count + 7) / 8 {
+        return false;
+    }
+    sound_windows(bytes, from, count, counts, bits::window_at)
 }
 
 // The bit behind the action at bit `at`, if all of it is there and sound.
