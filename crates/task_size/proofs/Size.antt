@@ -75,18 +75,6 @@ module _ (s : List ℕ) (e : record_check s ≡ none) where
   unfolding task_size
   task_size_bits = omega (arith, fields_le)
 
--- a list of k numbers, where n are enough; one for each length
-room_in_lem : (s : List ℕ) (n k : ℕ) → (record_check s ≡ none → task_size s ≤ n) → n ≤ k → 1348 ≤ k → RoomIn s (replicate k 0)
-room_in_lem s n k h l b = let e = length-replicate {A = ℕ} k 0 in record { head = omega arith; enough = λ a. omega (arith, h a) }
-
-pub room_least : (s : List ℕ) (n : ℕ) → (record_check s ≡ none → task_size s ≤ n) → n ≤ 2048 → RoomIn s (replicate 2048 0)
-room_least s n h l = room_in_lem s n 2048 h l (omega arith)
-
-pub room_tiny : (s : List ℕ) (n : ℕ) → (record_check s ≡ none → task_size s ≤ n) → n ≤ 3072 → RoomIn s (replicate 3072 0)
-room_tiny s n h l = room_in_lem s n 3072 h l (omega arith)
-
-pub room_short : (s : List ℕ) (n : ℕ) → (record_check s ≡ none → task_size s ≤ n) → n ≤ 9280 → RoomIn s (replicate 9280 0)
-room_short s n h l = room_in_lem s n 9280 h l (omega arith)
-
+-- the longest list has room for every record
 pub room_long : (s : List ℕ) → RoomIn s (replicate 40260 0)
-room_long s = room_in_lem s 40260 40260 (task_size_max s) (omega arith) (omega arith)
+room_long s = let e = length-replicate {A = ℕ} 40260 0 in record { head = omega arith; enough = λ a. omega (arith, task_size_max s a) }
