@@ -18,7 +18,7 @@ ghost use Rattle.painting.specs.Answers.{lacks, Readied};
 
 use answers::{Reason, Refusal};
 use lacking::{KEPT, Memory};
-use returns::Last;
+use returns::{Last, NO_ACTION};
 
 // The move of action i, the first black fact that it sets and does not need.
 fn move_of(task: &[u16], i: usize, paint: u64) -> Option<usize>
@@ -81,7 +81,7 @@ fn lowest_by(task: &[u16], paint: u64, marks: &mut [u16]) -> Option<usize>
     let mut memory = Memory {
         kept: [None; KEPT],
         last: Last {
-            served: [65535; 1024],
+            served: [NO_ACTION; 1024],
             place: 0,
             tries: 32,
         },
@@ -99,7 +99,7 @@ fn lowest_in<const N: usize>(task: &[u16], paint: u64) -> Option<usize>
     requires { Acyclic task.now paint × Chained (task_in task.now) task.now × (64 * variables (task_in task.now) ≤ N) × (N ≤ 4096) }
     ensures { option_of result ≡ unreturned (task_in task.now) }
 {
-    // 65,535: no mark. An Option for each would double what is cleared
+    // 65,535: no mark. An Option for each doubles what is cleared, and was slower for the actions that served
     let mut marks = [65535u16; N];
     lowest_by(task, paint, &mut marks)
 }

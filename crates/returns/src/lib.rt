@@ -8,6 +8,9 @@ ghost use Rattle.task.specs.Task.{facts_of, task_in, Loaded};
 ghost use Rattle.task.specs.Links.{Changes};
 ghost use Rattle.returns.specs.Returns.{place, mark_all, marked, Spans, Markable, returns_by, returned, OnChain, InChain, FirstFrom, Finds};
 
+// For no action. With an Option for each the check of a painting was slower, by up to a tenth.
+pub const NO_ACTION: u16 = 65535;
+
 // What served last. Any numbers will do.
 #[derive(Drop)]
 pub struct Last {
@@ -83,7 +86,7 @@ fn first_return(m: Marked, f: usize, j: usize, last: &mut Last) -> Option<usize>
     ensures { FirstFrom (λ k. T (returns_by (task_in m.entry.task.now) (marked m.entry.own m.entry.marks.now) (f / 64) (f % 64) k)) j (actions (task_in m.entry.task.now)) result }
 {
     let mut k = j;
-    // 65,535: the loaded task, whose form stays, ends its chains with it
+    // a `while`, and 65,535 for no action: the walk goes along a chain of the loaded task, whose form stays
     while k != 65535 {
         if all_marked(m, k, last) {
             return Some(k);
@@ -124,8 +127,7 @@ pub fn is_returned(m: Marked, f: usize, last: &mut Last) -> bool
 {
     let h = usize::from(last.served[f % 1024]);
     let Some(j) = find_return(m, f, h, last) else {
-        // 65,535: no action. An Option for each would double what is cleared
-        last.served[f % 1024] = 65535;
+        last.served[f % 1024] = NO_ACTION;
         return false;
     };
     last.served[f % 1024] = j as u16;
