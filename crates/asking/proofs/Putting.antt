@@ -1,12 +1,10 @@
 -- Lists written into a list, one behind the other; the value that is asked.
 use mathlib.Core.Path.{◌≡◌, refl, sym, subst}
-use mathlib.Core.List.{List, [], ◌∷◌, ◌++◌, append_assoc, append-nil}
+use mathlib.Core.List.{List, [], append-nil}
 use mathlib.Core.Option as math
-use Prim.Native.Nat.{ℕ, ◌+◌, ◌<◌, ◌≤◌}
-use native.Mathlib.Numerals.{add-one}
+use Prim.Native.Nat.{ℕ, ◌<◌, ◌≤◌}
 use native.Mathlib.Omega.{arith}
-use lib.ListN.{length, set, take, length-append}
-use lib.Seq.{take-suc-set}
+use lib.ListN.{length, take}
 use mir.Val.{bool_byte}
 use Rattle.std.specs.Prelude.{Option, None, Some, unwrap_or, is_some}
 use Rattle.planning.specs.Record.{Fact, Task}
@@ -63,18 +61,6 @@ lead_same path c d e l at b = rw e (omega arith, b, sym (append-nil (take at l))
 pub lead_some : (path : ℕ → ℕ → List ℕ) (c d : ℕ) (l l' : List ℕ) (at : ℕ) (r : Option ℕ) → Put l l' at (path c d) r → Put l l' at (toward path c (math.some d)) r
 unfolding toward
 lead_some path c d l l' at r p = p
-
--- one entry more
-module _ (d₀ d : List ℕ) (a : ℕ) (l : List ℕ) (i : ℕ) (n : length d ≡ length d₀) where
-  pub push_long : Put d₀ d a l None → Put d₀ d a (l ++ (i ∷ [])) None
-  push_long p = omega (arith, p, length-append l (i ∷ []))
-
-  module _ (e : ℕ) (p : Put d₀ d a l (Some e)) where
-    pub push_full : length d ≤ e → Put d₀ d a (l ++ (i ∷ [])) None
-    push_full h = omega (arith, p.0, length-append l (i ∷ []))
-
-    pub push_more : e < length d → Put d₀ (set d e i) a (l ++ (i ∷ [])) (Some (e + 1))
-    push_more h = (omega (arith, p.0, length-append l (i ∷ [])), omega arith, rw (add-one, take-suc-set d e i h, p.2, append_assoc) refl)
 
 -- a path is asked for
 pub asked_for_is : (d : Option ℕ) → bool_byte (is_some d) ≡ asked_for (option_of d)

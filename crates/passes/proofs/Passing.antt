@@ -30,17 +30,10 @@ pub record Passing (t : Task) (K : State) (v : ℕ) (w : List Fact) (whole plan�
   pub so_far : whole ≡ take e plan ++ pass_of t K v c (drop j plan) w
   pub rows : Memo t K memo
 
-pub passing_start : (t : Task) (K : State) (v start : ℕ) (w : List Fact) (plan memo : List ℕ) (from : ℕ) → start < count t v → from ≤ length plan → Entries t (drop from plan)
-    → Memo t K memo → Passing t K v w (pass_of t K v start (drop from plan) w) plan plan memo start 0 from
-passing_start t K v start w plan memo from b h n M = record { within = omega arith; at = h; long = refl; inside = b; entries = n; so_far = refl; rows = M }
-
 -- the searches so far and those for the entries from j on are all
 pub record Tally (t : Task) (v : ℕ) (w : List Fact) (total : ℕ) (plan : List ℕ) (k j : ℕ) : Type 0 where
   pub sum : total ≡ k + pass_searches (act t) v (drop j plan) w
   pub few : k ≤ j
-
-pub tally_start : {t : Task} {v : ℕ} {w : List Fact} {plan : List ℕ} {from : ℕ} → Tally t v w (pass_searches (act t) v (drop from plan) w) plan 0 from
-tally_start = record { sum = omega arith; few = omega arith }
 
 module _ {t : Task} {K : State} {v : ℕ} {w : List Fact} {whole plan₀ plan memo : List ℕ} {c e j : ℕ} (P : Passing t K v w whole plan₀ plan memo c e j) where
   abbrev rest : List ℕ

@@ -387,33 +387,6 @@ module _ {t : Task} {l₀ plan₀ plan area memo sets : List ℕ} {f : Values} {
           ∙ sym (ap (λ (l : List ℕ). l ++ all_marks (left (slice c.steps x plan'))) em ∙ ap (λ (l : List Stage). (take a area ++ marks_for (ltb j (length l₀)) (x - a)) ++ all_marks l) left_is);
     }
 
--- the marks of the part from a up to x, in the mark area
-module _ (area : List ℕ) (a x : ℕ) (h : a ≤ x) (k : x ≤ length area) where
-  abbrev part : List ℕ
-  part = take (x - a) (drop a area)
-
-  pub part_length : length part ≡ x - a
-  part_length = length-take-le (x - a) (drop a area) (omega (arith, length-drop a area))
-
-  module _ (new : List ℕ) (n : length new ≡ length part) where
-    front : length (take a area ++ new) ≡ x
-    front = omega (arith, length-append (take a area) new, length-take-le a area (omega arith), n, part_length)
-
-    pub marked_length : length (take a area ++ (new ++ drop (x - a) (drop a area))) ≡ length area
-    marked_length = rw (← append_assoc) (omega (arith, length-append (take a area ++ new) (drop (x - a) (drop a area)), front, length-drop (x - a) (drop a area), length-drop a area))
-
-    pub marked_part : (b : Bool) → new ≡ marks_for b (length part) → take x (take a area ++ (new ++ drop (x - a) (drop a area))) ≡ take a area ++ marks_for b (x - a)
-    marked_part b e = rw (← append_assoc) (take_at (take a area ++ new) (drop (x - a) (drop a area)) x front ∙ ap (λ (l : List ℕ). take a area ++ l) (e ∙ ap (marks_for b) part_length))
-
--- stages left, and steps of the last one: each turn takes one of them
-pub stages_fewer : (n j p x k d : ℕ) → j ≤ n → x ≤ p → (n + 1 - (j + 1)) * (p + 1) + (x - k) < (n + 1 - j) * (p + 1) + d
-stages_fewer n j p x k d h b =
-    let e : n + 1 - j ≡ suc (n + 1 - (j + 1)) = omega arith in
-    rw e (omega arith)
-
-pub steps_fewer : (q a k k' : ℕ) → k < a → k < k' → q + (a - k') < q + (a - k)
-steps_fewer q a k k' h b = omega arith
-
 -- the part of the relaxed plan that is left
 module _ (l : List ℕ) (j : ℕ) (h : j ≤ length l) where
   pub rest_is : take (length l - j) (drop j l) ≡ drop j l

@@ -1,4 +1,4 @@
-use Rattle.std.proofs.Common.{◌≡◌, List, ℕ, ◌-◌, ◌<◌, ◌≤◌, T, length, take, drop, arith, refl, sym, ◌∙◌}
+use Rattle.std.proofs.Common.{◌≡◌, List, [], ℕ, ◌-◌, ◌<◌, ◌≤◌, T, length, take, drop, arith, refl, sym, ◌∙◌}
 use borrow.Author.Tests.{ltb-true}
 use lib.Seq.{length-take-le}
 use Rattle.planning.specs.Runs.{runs, actions, act, black, initial}
@@ -9,10 +9,11 @@ use Rattle.task.specs.Task.{task_in}
 use Rattle.sets.specs.Sets.{values_of}
 use Rattle.counts.specs.declared.Counts.{Counts}
 use Rattle.counts.specs.Counting.{no_counts}
+use Rattle.counts.proofs.Marking.{part_length, area_kept, marks_front}
 use Rattle.counts.proofs.Plainly.{plain_none, plain_held}
 use Rattle.repair.specs.Repairs.{Repairable}
 use Rattle.repair.proofs.Repairing.{repairing_start, repairing_within, repairing_few, repairing_searches, repairing_small, repairing_below, repairing_step}
-use Rattle.repair.proofs.Repairing.{Arranged, repairing_long, repairing_fits, repairing_modest, repairing_places, repairing_turn, part_length, marked_length, marked_part, rest_is, rest_entries}
+use Rattle.repair.proofs.Repairing.{Arranged, repairing_long, repairing_fits, repairing_modest, repairing_places, repairing_turn, rest_is, rest_entries}
 use Rattle.repair.proofs.Ending.{repairing_held, held_long}
 use Rattle.repair.proofs.Gliding.{repairing_glides}
 use Rattle.repair.proofs.walk.Goals as goal
@@ -66,7 +67,7 @@ pub mark-requires : goal.mark-requires
 mark-requires c =
     let k = goal.at.mark-requires c in
     let places = repairing_places (arranged k.After-stage (here_of k.Then-c-at-2)) _ _ c.in-Some.ensures.put c.in-Some.ensures.searched in
-    λ e. omega (arith, places.2 (ltb-true _ _ e), part_length c.loop-c.marks c.loop-c.at c.in-Some.w.end places.0 places.1)
+    λ e. omega (arith, places.2 (ltb-true _ _ e), part_length c.loop-c.marks [] c.loop-c.at c.in-Some.w.end places.0 places.1)
 
 pub overflow_add-searched : goal.overflow_add-searched
 overflow_add-searched c =
@@ -84,7 +85,7 @@ loop-c-preserved-then-c-at-2 c =
     let entries = rest_entries c.args.list.now c.loop-c.j here (task_in c.args.task.now) R.entries in
     let places = repairing_places (arranged k.After-stage here) _ _ c.in-Some.ensures.put c.in-Some.ensures.searched in (
       repairing_turn (arranged k.After-stage here) _ _ c.in-Some.ensures.put c.in-Some.ensures.searched R.prepared.loaded.formed entries _ _ c.in-Some.ensures.memo_2
-          (marked_length c.loop-c.marks _ _ places.0 places.1 c.mark.new.marks c.mark.auto.marks) (marked_part c.loop-c.marks _ _ places.0 places.1 c.mark.new.marks c.mark.auto.marks _ c.mark.ensures),
+          (area_kept c.loop-c.marks c.mark.new.marks _ _ places.0 places.1 c.mark.auto.marks) (marks_front c.loop-c.marks c.mark.new.marks _ _ places.0 places.1 _ (λ e. places.2 (ltb-true _ _ e)) c.mark.ensures),
       c.loop-c.invariant.1,
     )
 
