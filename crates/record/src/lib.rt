@@ -1,7 +1,6 @@
-// The check of a record: 1 to 6 in the order of clause 2.9. A whole variable, the two counts of an action and
-// four facts at a time are read in one load and tested quickly. Where such a test fails, the fields
-// are gone through one by one: a function for each field or kind of field takes the answer of the one below apart and hands on
-// the refusal with its place. The loader of the task uses the quick tests too.
+// The check of a record: 1 to 6 in the order of clause 2.9. A whole variable, the two counts of an action and four facts at a time are read in
+// one load and tested quickly. Where such a test fails, the fields are gone through one by one: a function for each field or kind of field
+// hands on the refusal of the one below, with its place. The loader of the task uses the quick tests too.
 #![tactic(auto)]
 
 ghost use Rattle.std.specs.Prelude.{◌≡◌, true, ◌+◌, ◌*◌, ◌/◌, ◌<◌, ◌≤◌, length, IfSome, MatchOption, OnOk};
@@ -43,13 +42,7 @@ pub fn check_end(bytes: &[u8], at: u32) -> Result<(), Refusal>
     ensures { check_of result ≡ in_order (from_end bytes.now) }
 {
     let size = (at as usize + 7) / 8;
-    if bytes.len() != size {
-        return Err(Refusal {
-            reason: Reason::End,
-            place: at,
-        });
-    }
-    if bits::read_bits(bytes, at as usize, size * 8 - at as usize) != 0 {
+    if bytes.len() != size || bits::read_bits(bytes, at as usize, size * 8 - at as usize) != 0 {
         return Err(Refusal {
             reason: Reason::End,
             place: at,
