@@ -14,19 +14,20 @@ use Rattle.planning.specs.Runs.{actions, is_plan}
 use Rattle.planning.specs.Relaxed.{reaches_goals, relaxed_plan}
 use Rattle.planning.specs.Painting.{acyclic_check, return_check}
 use Rattle.planning.specs.Repair.{repaired, marks}
-use Rattle.planning.specs.Calls.{capacity_of, room_check, goals_check, Planned as Result, length_check, relaxed_check, planned, plan_of, plan_call, repair_call}
+use Rattle.planning.specs.Calls.{capacity_of, room_check, goals_check, Planned, length_check, relaxed_check, planned, plan_of, plan_call, repair_call}
 use Rattle.laws.proofs.Plans.{is_plan_elim}
 use Rattle.laws.proofs.Checks.{check_none, and_then_last, and_then_assoc, in_order_pass, in_order-++}
 use Rattle.answers.specs.declared.Refusal.{Refusal}
-use Rattle.answers.proofs.Stages.{answer_done}
+use Rattle.answers.proofs.Stages.{refusal, answer_done}
 use Rattle.relax.specs.Kept.{Unfound}
 use Rattle.repair.specs.Answers.{Held}
 use Rattle.stages.proofs.Below.{all_entries}
 use Rattle.entries.specs.Entries.{Entries}
 use Rattle.callers.specs.Callers.{caller_check}
-use Rattle.answers.specs.declared.Planned.{Planned}
-use Rattle.answers.specs.declared.Planned.TheVariants.{Plan, Refused}
-use Rattle.answers.specs.Plans.{answer_of}
+use Rattle.std.specs.Prelude.{Result, Ok, Err}
+use Rattle.answers.specs.declared.Refusal.{Refusal}
+use Rattle.answers.specs.declared.Plan.{Plan}
+use Rattle.answers.specs.Plans.{planned_of, answer_of}
 use Rattle.planner.specs.Drafts.{source, source_check, painting_check, InFront, Drafted, Sourced, Painted, Called}
 
 -- entries of a plan are actions
@@ -35,7 +36,7 @@ plan_entries t m l p = all_entries (actions t) l (is_plan_elim t m l p).below
 
 module _ (t : Task) (k : List ℕ) (room : ℕ) (plan area : List ℕ) where
   -- a check that passed stands in front of the others
-  pub drafted_pass : (c : Check) (cs : List Check) (r : Planned) → c ≡ none → Drafted t cs k room plan area r → Drafted t (c ∷ cs) k room plan area r
+  pub drafted_pass : (c : Check) (cs : List Check) (r : Result Plan Refusal) → c ≡ none → Drafted t cs k room plan area r → Drafted t (c ∷ cs) k room plan area r
   drafted_pass c cs r e D = record {
     answer' = D.answer' ∙ ap (λ (x : Check). answer x (planned t k)) (sym (in_order_pass c (cs ++ (room_check (length (repaired t k)) room ∷ [])) e));
     front = D.front;
@@ -43,7 +44,7 @@ module _ (t : Task) (k : List ℕ) (room : ℕ) (plan area : List ℕ) where
   }
 
   -- one that refuses is the answer
-  pub drafted_stop : (c : Check) (cs : List Check) (f : Refusal) → c ≡ refuse f.number f.place → Drafted t (c ∷ cs) k room plan area (Refused f)
+  pub drafted_stop : (c : Check) (cs : List Check) (f : Refusal) → c ≡ refusal f → Drafted t (c ∷ cs) k room plan area (Err f)
   unfolding in_order and_then answer
   drafted_stop c cs f e = record { answer' = rw e refl; front = tt; marked = tt }
 
@@ -52,20 +53,20 @@ module _ (t : Task) (k : List ℕ) (room : ℕ) (plan area : List ℕ) where
   one = ap (λ (x : Check). answer x (planned t k)) (sym (and_then_last (room_check (length (repaired t k)) room)))
 
   -- the repair's own answer x, where no other check is left
-  pub drafted_repair : room ≤ length plan → room ≤ length area → (r : Planned) → Held t k plan area room r → Drafted t [] k room plan area r
+  pub drafted_repair : room ≤ length plan → room ≤ length area → (r : Result Plan Refusal) → Held t k plan area room r → Drafted t [] k room plan area r
   unfolding in_order room_check planned
-  drafted_repair h b (Plan n c s x v) H =
+  drafted_repair h b (Ok x) H =
       let l = repaired t k in
-      let told : done (record { steps = n; cost = c; real' = v; runs = s; searches' = x }) ≡ answer (room_check (length l) room) (planned t k) = H.says in
-      let p = answer_done (room_check (length l) room) (planned t k) (record { steps = n; cost = c; real' = v; runs = s; searches' = x }) (sym told) in
+      let told : done (planned_of x) ≡ answer (room_check (length l) room) (planned t k) = H.says in
+      let p = answer_done (room_check (length l) room) (planned t k) (planned_of x) (sym told) in
       let fits = leb→le (length l) room (check_none (leb (length l) room) 11 room p.0) in
-      let m : length l ≡ n = ap (λ (y : Result). y.steps) p.1 in
+      let m : length l ≡ x.steps = ap (λ (y : Planned). y.steps) p.1 in
       record {
         answer' = told ∙ one;
         front = (omega (arith, m, fits), subst (λ (y : ℕ). take y plan ≡ l) m (H.fills fits));
         marked = (omega (arith, m, fits), subst (λ (y : ℕ). take y area ≡ marks t k) m (H.marked fits));
       }
-  drafted_repair h b (Refused f) H = record { answer' = H.says ∙ one; front = tt; marked = tt }
+  drafted_repair h b (Err f) H = record { answer' = H.says ∙ one; front = tt; marked = tt }
 
 -- what is asked of the relaxed plan, and which it is
 module _ (t : Task) (l : List ℕ) where
@@ -85,12 +86,12 @@ module _ (t : Task) (l : List ℕ) where
   unfolding source
   own_source g e = rw e refl
 
-  pub sourced : (g : Bool) (k : List ℕ) (room : ℕ) (plan area : List ℕ) (r : Planned) → k ≡ source g t l → source_check g t l ≡ none → Drafted t [] k room plan area r
+  pub sourced : (g : Bool) (k : List ℕ) (room : ℕ) (plan area : List ℕ) (r : Result Plan Refusal) → k ≡ source g t l → source_check g t l ≡ none → Drafted t [] k room plan area r
       → Sourced g t l room plan area r
   sourced g k room plan area r e h D = drafted_pass t (source g t l) room plan area (source_check g t l) [] r h (subst (λ (x : List ℕ). Drafted t [] x room plan area r) e D)
 
 -- the task's own relaxed plan is found, or there is none
-pub unfound_check : (t : Task) (f : Refusal) → Unfound t f → goals_check t ≡ refuse f.number f.place
+pub unfound_check : (t : Task) (f : Refusal) → Unfound t f → goals_check t ≡ refusal f
 unfolding goals_check check
 unfound_check t f U = rw (U.unsolved, U.number', U.place') refl
 
@@ -99,11 +100,11 @@ unfolding goals_check check
 found_check t e = rw e refl
 
 -- the same task behind its painting, and behind its record
-module _ (g : Bool) (t u : Task) (e : u ≡ t) (l : List ℕ) (room : ℕ) (plan area : List ℕ) (r : Planned) where
+module _ (g : Bool) (t u : Task) (e : u ≡ t) (l : List ℕ) (room : ℕ) (plan area : List ℕ) (r : Result Plan Refusal) where
   pub painted : painting_check t ≡ none → Sourced g u l room plan area r → Painted g t l room plan area r
   painted h D = drafted_pass t (source g t l) room plan area (painting_check t) (source_check g t l ∷ []) r h (subst (λ (x : Task). Sourced g x l room plan area r) e D)
 
-pub called : (g : Bool) (s : List ℕ) (u : Task) → u ≡ task_of s → (l : List ℕ) (room : ℕ) (plan area : List ℕ) (r : Planned) → record_check s ≡ none → Painted g u l room plan area r
+pub called : (g : Bool) (s : List ℕ) (u : Task) → u ≡ task_of s → (l : List ℕ) (room : ℕ) (plan area : List ℕ) (r : Result Plan Refusal) → record_check s ≡ none → Painted g u l room plan area r
     → Called g s l room plan area r
 called g s u e l room plan area r h D =
     drafted_pass (task_of s) (source g (task_of s) l) room plan area (record_check s) (painting_check (task_of s) ∷ source_check g (task_of s) l ∷ []) r h
@@ -120,13 +121,13 @@ unfolding in_order
 list_apart t l c = sym (in_order-++ (length_check l ∷ relaxed_check t l ∷ []) (c ∷ []))
 
 -- a call as it ends before the lists are filled: its answer, the plan in front, and its marks
-pub record Ended (a : Answer Result) (l ms plan area : List ℕ) (r : Planned) : Type 0 where
+pub record Ended (a : Answer Planned) (l ms plan area : List ℕ) (r : Result Plan Refusal) : Type 0 where
   pub answer : answer_of r ≡ a
   pub front : InFront l plan r
   pub marked : InFront ms area r
 
 -- the two calls
-module _ (s l : List ℕ) (n w m : ℕ) (plan area : List ℕ) (r : Planned) where
+module _ (s l : List ℕ) (n w m : ℕ) (plan area : List ℕ) (r : Result Plan Refusal) where
   pub plan_called : Called false s l (capacity_of n w m) plan area r → Ended (plan_call s n w m) (plan_of (task_of s)) (marks (task_of s) (relaxed_plan (task_of s))) plan area r
   unfolding plan_call plan_of source source_check
   plan_called D =
