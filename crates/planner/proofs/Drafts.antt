@@ -8,7 +8,7 @@ use Prim.Native.Nat.{ℕ, ◌≤◌}
 use native.Mathlib.Omega.{arith}
 use lib.Dec.{leb, leb→le}
 use lib.ListN.{length, take}
-use Rattle.planning.specs.Basics.{Check, refuse, check, and_then, in_order, Answer, answer, done}
+use Rattle.planning.specs.Basics.{Check, check, and_then, in_order, Answer, answer, done}
 use Rattle.planning.specs.Record.{Task, task_of, record_check}
 use Rattle.planning.specs.Runs.{actions, is_plan}
 use Rattle.planning.specs.Relaxed.{reaches_goals, relaxed_plan}
@@ -19,8 +19,10 @@ use Rattle.laws.proofs.Plans.{is_plan_elim}
 use Rattle.laws.proofs.Checks.{check_none, and_then_last, and_then_assoc, in_order_pass, in_order-++}
 use Rattle.answers.specs.declared.Refusal.{Refusal}
 use Rattle.answers.proofs.Stages.{refusal, answer_done}
+use Rattle.loader.specs.Calls.{Stopped, Ran, Post}
+use Rattle.task.specs.Task.{task_in}
 use Rattle.relax.specs.Kept.{Unfound}
-use Rattle.repair.specs.Answers.{Held}
+use Rattle.repair.specs.Answers.{Held, room_in}
 use Rattle.stages.proofs.Below.{all_entries}
 use Rattle.entries.specs.Entries.{Entries}
 use Rattle.callers.specs.Callers.{caller_check}
@@ -93,7 +95,7 @@ module _ (t : Task) (l : List ℕ) where
 -- the task's own relaxed plan is found, or there is none
 pub unfound_check : (t : Task) (f : Refusal) → Unfound t f → goals_check t ≡ refusal f
 unfolding goals_check check
-unfound_check t f U = rw (U.unsolved, U.number', U.place') refl
+unfound_check t f U = rw (U.unsolved, U.reason, U.place') refl
 
 pub found_check : (t : Task) → reaches_goals t ≡ true → goals_check t ≡ none
 unfolding goals_check check
@@ -145,3 +147,14 @@ module _ (s l : List ℕ) (n w m : ℕ) (plan area : List ℕ) (r : Result Plan 
       let apart : in_order (record_check s ∷ acyclic_check t ∷ return_check t ∷ two ∷ room ∷ []) ≡ in_order (record_check s ∷ acyclic_check t ∷ return_check t ∷ length_check l ∷ relaxed_check t l ∷ room ∷ []) =
       ap (λ (x : Check). and_then (record_check s) (and_then (acyclic_check t) (and_then (return_check t) x))) (list_apart t l room) in
       record { answer = D.answer' ∙ ap (λ (c : Check). answer c (planned t l)) (painting_apart s (two ∷ room ∷ []) ∙ apart); front = D.front; marked = D.marked }
+
+-- a call as `with_task` leaves it: the record is refused, or what is called on its task tells the rest
+pub called_stopped : (g : Bool) (s l : List ℕ) (room : ℕ) (plan area : List ℕ) (r : Result Plan Refusal) (plan' area' : List ℕ)
+    → Stopped s plan area r plan' area' → Called g s l room plan' area' r
+called_stopped g s l room plan area r plan' area' S = rw S.answer' (drafted_stop (task_of s) _ _ _ _ _ _ _ S.check)
+
+module _ {F : Type 0} (post : Post F Plan) (f : F) (g : Bool) (s l w plan area : List ℕ) (r : Result Plan Refusal) (plan' area' : List ℕ) where
+  pub called_ran : (R : Ran post f s plan area r plan' area') → Painted g (task_in R.task.now) l (room_in R.list.now w R.marks.now) R.list'.now R.marks'.now r
+      → Called g s l (room_in plan w area) plan' area' r
+  called_ran R P =
+      rw (← R.list_new, ← R.marks_new, ← R.list_is, ← R.marks_is) (called g s _ R.read.same l _ _ _ r R.accepted P)

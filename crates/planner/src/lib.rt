@@ -3,7 +3,7 @@
 // that of the mark area, and what is behind them is blanked at the end.
 #![tactic(auto)]
 
-ghost use Rattle.std.specs.Prelude.{◌≡◌, true, [], ◌≤◌, length};
+ghost use Rattle.std.specs.Prelude.{◌≡◌, true, false, [], ◌≤◌, length};
 ghost use Rattle.planning.specs.Record.{task_of};
 ghost use Rattle.planning.specs.Runs.{relaxed, is_plan};
 ghost use Rattle.planning.specs.Relaxed.{relaxed_plan};
@@ -18,7 +18,13 @@ ghost use Rattle.planner.specs.Drafts.{Drafted, Sourced, Painted, Called};
 use answers::{Plan, Refusal};
 
 // The repair of a relaxed plan in the front of the plan list, its marks in that of the mark area; 11 if it is longer than the capacity.
-fn draft(task: &[u16], list: &[u16], plan: &mut [u16], work: &[u16], marks: &mut [u8]) -> Result<Plan, Refusal>
+fn draft(
+    task: &[u16],
+    list: &[u16],
+    plan: &mut [u16],
+    work: &[u16],
+    marks: &mut [u8],
+) -> Result<Plan, Refusal>
     requires { Prepared task.now × (is_plan (task_in task.now) relaxed list.now ≡ true) }
     ensures { Drafted (task_in task.now) [] list.now (room_in plan.old work.now marks.old) plan.new marks.new result }
 {
@@ -89,7 +95,12 @@ fn repair_loaded(
 }
 
 // The planner: from a record to a repaired plan and its marks. Checks 1 to 8, 10, 11.
-pub fn plan(bytes: &[u8], plan: &mut [u16], work: &mut [u16], marks: &mut [u8]) -> Result<Plan, Refusal>
+pub fn plan(
+    bytes: &[u8],
+    plan: &mut [u16],
+    work: &mut [u16],
+    marks: &mut [u8],
+) -> Result<Plan, Refusal>
     ensures result_value { answer_of result ≡ plan_call bytes.now (length plan.old) (length work.old) (length marks.old) }
     ensures plan_after { plan.new ≡ plan_list bytes.now (length plan.old) (length work.old) (length marks.old) }
     ensures work_after { work.new ≡ work_list (length work.old) }
