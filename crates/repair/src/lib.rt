@@ -34,12 +34,9 @@ fn walk(
     // Stages and steps are taken in turn, so that no range tells the turns.
     while c.steps < at || j <= list.len() {
         if c.steps == at {
-            let arcs = Arcs {
-                task,
-                ever: &s.sets,
-            };
-            let left = &list[j..];
-            let Some(w) = stages::stage(&arcs, &s.newest.values, memo, left, plan, at) else {
+            let ever = &s.sets;
+            let arcs = Arcs { task, ever };
+            let Some(w) = stages::stage(&arcs, &s.newest.values, memo, &list[j..], plan, at) else {
                 return Err(counts::too_long(plan.len()));
             };
             counts::mark(&mut marks[at..w.end], j < list.len());
@@ -56,17 +53,15 @@ fn walk(
             continue;
         }
         c = counts::counted(task, &s.newest.values, i, c);
-        let arcs = Arcs {
-            task,
-            ever: &s.sets,
-        };
+        let ever = &s.sets;
+        let arcs = Arcs { task, ever };
         leads::refresh(&arcs, memo, i, needs);
         s = s.step(task, i);
     }
     Ok(counts::verdict(task, &s.newest.values, c, searched))
 }
 
-// The same with a memo of its own, which is small where no variable has many values.
+// The same with a memo of its own, which is small where no variable has many values: two lengths in two lines each, as in `forward`.
 fn repair_in(
     task: &[u16],
     list: &[u16],
