@@ -29,7 +29,33 @@ use Rattle.std.proofs.lemmas.Result.{err_from_is_err_and}
 use Rattle.answers.specs.declared.Refusal.{Refusal}
 use Rattle.answers.specs.Answers.{number_of, check_of, answer_by}
 use Rattle.record.specs.Stages.{Counts, Sound, Few, Unsound, SoundHeader, SoundVariable}
-use Rattle.record.specs.Stages.{from_end, from_actions, from_variables, from_action_count, from_variable_count, action_facts_checks, initial_checks, goal_checks}
+use Rattle.record.specs.Stages.{from_end}
+
+-- the checks of a record from its actions on, from its variables on, and from either count on
+unfoldable pub from_actions : List ℕ → List Check
+from_actions s = actions_checks s (variable_bit (variables_in s)) (actions_in s) ++ from_end s
+
+unfoldable pub from_variables : List ℕ → List Check
+from_variables s = variables_checks s 22 (variables_in s) ++ from_actions s
+
+unfoldable pub from_action_count : List ℕ → List Check
+from_action_count s = field_check s 11 11 ∷ check (leb (actions_in s) 1024) 3 11 ∷ from_variables s
+
+unfoldable pub from_variable_count : List ℕ → List Check
+from_variable_count s = field_check s 4 7 ∷ check (leb 1 (variables_in s) && leb (variables_in s) 64) 3 4 ∷ from_action_count s
+
+-- the checks of a variable at bit p from its goal on, and from its initial value on, last being its greatest value
+unfoldable pub goal_checks : List ℕ → ℕ → ℕ → List Check
+goal_checks s p last =
+    field_check s (p + 13) 1
+    ∷ field_check s (p + 14) 6 ∷ check (goal_fits (bits_at s (p + 13) 1) (bits_at s (p + 14) 6) (last + 1)) 4 (p + 14) ∷ []
+
+unfoldable pub initial_checks : List ℕ → ℕ → ℕ → List Check
+initial_checks s p last = field_check s (p + 7) 6 ∷ check (ltb (bits_at s (p + 7) 6) (last + 1)) 4 (p + 7) ∷ goal_checks s p last
+
+-- the checks of the facts of the action at bit p
+unfoldable pub action_facts_checks : List ℕ → ℕ → List Check
+action_facts_checks s p = facts_checks s (p + 24) 0 (preconditions_in s p) ++ facts_checks s (effects_from s p) 0 (effects_in s p)
 
 -- what a call gave where it passed, and where it refused
 pub there : {A : Type 0} (c : Check) (a b : A) → done b ≡ answer c a → (c ≡ none) × (a ≡ b)
@@ -609,6 +635,24 @@ edition_right a b n p e h = rw (e, eq-eqb a 1 h) refl
 pub record_check_is : (s : List ℕ) → record_check s ≡ in_order (field_check s 0 4 ∷ check (eqb (bits_at s 0 4) 1) 2 0 ∷ from_variable_count s)
 unfolding record_check record_checks header_checks from_variable_count from_action_count from_variables from_actions from_end
 record_check_is s = refl
+
+-- what passed of the header leaves the rest to say
+pub past_edition : (s : List ℕ) (e : ℕ) (x : Check) → done e ≡ answer (field_check s 0 4) (bits_at s 0 4) → e ≡ 1 → x ≡ in_order (from_variable_count s) → x ≡ record_check s
+past_edition s e x h k r =
+    let p = there _ _ _ h in
+    rw record_check_is (over _ _ _ p.0 (over _ _ _ (edition_right _ _ _ _ p.1 k) r))
+
+pub past_count : (s : List ℕ) (n : ℕ) (x : Check) → done n ≡ answer (field_check s 4 7) (bits_at s 4 7) → 1 ≤ n → n ≤ 64 → x ≡ in_order (from_action_count s) → x ≡ in_order (from_variable_count s)
+unfolding from_variable_count variables_in
+past_count s n x h l k r =
+    let p = there _ _ _ h in
+    over _ _ _ p.0 (over _ _ _ (range_right _ _ _ _ p.1 l k) r)
+
+pub past_actions : (s : List ℕ) (a : ℕ) (x : Check) → done a ≡ answer (field_check s 11 11) (bits_at s 11 11) → a ≤ 1024 → x ≡ in_order (from_variables s) → x ≡ in_order (from_action_count s)
+unfolding from_action_count actions_in
+past_actions s a x h k r =
+    let p = there _ _ _ h in
+    over _ _ _ p.0 (over _ _ _ (count_right _ _ _ _ p.1 k) r)
 
 -- a header whose 22 bits are sound passes, and the other way round
 module _ (s : List ℕ) (b : ℕ) (e : b ≡ bits_at s 0 22) where

@@ -1,9 +1,9 @@
--- The checks of a record from a place on, as the functions of the check take them up, and what their answers say.
-use Rattle.std.specs.Prelude.{◌≡◌, ◌&&◌, List, [], ◌∷◌, ◌++◌, ℕ, ◌+◌, ◌*◌, ◌/◌, ◌%◌, ◌≤◌, ◌<◌, leb, ltb, length, get_or}
+-- What the functions of the check ask of the counts of values and of a window, and what their answers say.
+use Rattle.std.specs.Prelude.{◌≡◌, List, [], ◌∷◌, ℕ, ◌+◌, ◌*◌, ◌/◌, ◌%◌, ◌≤◌, ◌<◌, length, get_or}
 use Rattle.std.proofs.Math.Option.{none}
-use Rattle.planning.specs.Basics.{Check, check, in_order, bits_at}
-use Rattle.planning.specs.Record.{variable_bit, variables_in, actions_in, count_in, preconditions_in, effects_in, effects_from}
-use Rattle.planning.specs.Record.{field_check, goal_fits, variables_checks, facts_checks, actions_checks, ends_at, record_end}
+use Rattle.planning.specs.Basics.{Check, check, in_order}
+use Rattle.planning.specs.Record.{variables_in, count_in}
+use Rattle.planning.specs.Record.{facts_checks, ends_at, record_end}
 use Rattle.bits.specs.Windows.{Leading}
 use denote.Ref.{Bor}
 
@@ -52,28 +52,3 @@ pub record SoundVariable (b : ℕ) : Type 0 where
 
 unfoldable pub from_end : List ℕ → List Check
 from_end s = check (ends_at s (record_end s)) 6 (record_end s) ∷ []
-
-unfoldable pub from_actions : List ℕ → List Check
-from_actions s = actions_checks s (variable_bit (variables_in s)) (actions_in s) ++ from_end s
-
-unfoldable pub from_variables : List ℕ → List Check
-from_variables s = variables_checks s 22 (variables_in s) ++ from_actions s
-
-unfoldable pub from_action_count : List ℕ → List Check
-from_action_count s = field_check s 11 11 ∷ check (leb (actions_in s) 1024) 3 11 ∷ from_variables s
-
-unfoldable pub from_variable_count : List ℕ → List Check
-from_variable_count s = field_check s 4 7 ∷ check (leb 1 (variables_in s) && leb (variables_in s) 64) 3 4 ∷ from_action_count s
-
--- the checks of a variable at bit p from its goal on, and from its initial value on, last being its greatest value
-unfoldable pub goal_checks : List ℕ → ℕ → ℕ → List Check
-goal_checks s p last =
-    field_check s (p + 13) 1
-    ∷ field_check s (p + 14) 6 ∷ check (goal_fits (bits_at s (p + 13) 1) (bits_at s (p + 14) 6) (last + 1)) 4 (p + 14) ∷ []
-
-unfoldable pub initial_checks : List ℕ → ℕ → ℕ → List Check
-initial_checks s p last = field_check s (p + 7) 6 ∷ check (ltb (bits_at s (p + 7) 6) (last + 1)) 4 (p + 7) ∷ goal_checks s p last
-
--- the checks of the facts of the action at bit p
-unfoldable pub action_facts_checks : List ℕ → ℕ → List Check
-action_facts_checks s p = facts_checks s (p + 24) 0 (preconditions_in s p) ++ facts_checks s (effects_from s p) 0 (effects_in s p)

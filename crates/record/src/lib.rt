@@ -1,17 +1,16 @@
 // The check of a record: 1 to 6 in the order of clause 2.9. A whole variable, the two counts of an action and four facts at a time are read in
-// one load and tested quickly. Where such a test fails, the fields are gone through one by one: a function for each field or kind of field
-// hands on the refusal of the one below, with its place. The loader of the task uses the quick tests too.
+// one load and tested quickly. Where such a test fails, the fields are gone through one by one, and the first refusal is handed on with its
+// place. The loader of the task uses the quick tests too.
 #![tactic(auto)]
 
 ghost use Rattle.std.specs.Prelude.{◌≡◌, true, ◌+◌, ◌*◌, ◌/◌, ◌<◌, ◌≤◌, length, IfSome, MatchOption, OnOk};
 ghost use Rattle.std.specs.Bool.{Decides};
 ghost use Rattle.std.proofs.Math.Option.{none};
 ghost use Rattle.planning.specs.Basics.{answer, done, in_order, bits_at};
-ghost use Rattle.planning.specs.Record.{variables_in, actions_in, preconditions_in, effects_in, action_end, actions_end, record_end};
+ghost use Rattle.planning.specs.Record.{variables_in, action_end, actions_end, record_end};
 ghost use Rattle.planning.specs.Record.{field_check, variable_checks, variables_checks, fact_checks, facts_checks, action_checks, actions_checks, record_check};
 ghost use Rattle.answers.specs.Answers.{check_of, value_of};
-ghost use Rattle.record.specs.Stages.{action_facts_checks, Counts, Windows, Known, Few, Unsound, SoundHeader, SoundVariable, Sound};
-ghost use Rattle.record.specs.Stages.{from_end, from_actions, from_variables, from_action_count, from_variable_count, goal_checks, initial_checks};
+ghost use Rattle.record.specs.Stages.{from_end, Counts, Windows, Known, Few, Unsound, SoundHeader, SoundVariable, Sound};
 
 use answers::{Reason, Refusal};
 
@@ -86,21 +85,6 @@ fn check_facts(bytes: &[u8], from: u32, count: u32, variables: &Variables) -> Re
     Ok(from + 12 * count)
 }
 
-// The facts of the action at bit `at`, whose counts are known: the bit behind it.
-fn check_action_facts(
-    bytes: &[u8],
-    at: u32,
-    pre: u32,
-    eff: u32,
-    variables: &Variables,
-) -> Result<u32, Refusal>
-    requires { (at ≤ 398000) × (pre ≡ preconditions_in bytes.now at) × (eff ≡ effects_in bytes.now at) × (pre ≤ 15) × (eff ≤ 15) × Known bytes.now variables.now.count variables.now.values }
-    ensures { value_of result ≡ answer (in_order (action_facts_checks bytes.now at)) (action_end bytes.now at) }
-{
-    let mid = check_facts(bytes, at + 24, pre, variables)?;
-    check_facts(bytes, mid, eff, variables)
-}
-
 // The action at bit `at`, field by field: the bit behind it.
 fn check_action_fields(bytes: &[u8], at: u32, variables: &Variables) -> Result<u32, Refusal>
     requires { (at ≤ 398000) × Known bytes.now variables.now.count variables.now.values }
@@ -109,7 +93,8 @@ fn check_action_fields(bytes: &[u8], at: u32, variables: &Variables) -> Result<u
     take(bytes, at, 16)?;
     let pre = take(bytes, at + 16, 4)?;
     let eff = take(bytes, at + 20, 4)?;
-    check_action_facts(bytes, at, pre, eff, variables)
+    let mid = check_facts(bytes, at + 24, pre, variables)?;
+    check_facts(bytes, mid, eff, variables)
 }
 
 // The least variable that may follow a fact of 12 bits, if it is sound: its variable at least `low`, its value below that variable's
@@ -231,11 +216,20 @@ fn check_actions(bytes: &[u8], count: u32, variables: &Variables) -> Result<u32,
     Ok(at)
 }
 
-// The goal of the variable at bit `at`, whose greatest value is `last`.
-fn check_goal(bytes: &[u8], at: u32, last: u32) -> Result<(), Refusal>
-    requires { (at ≤ 2000) × (last ≤ 63) }
-    ensures { check_of result ≡ in_order (goal_checks bytes.now at last) }
+// The variable at bit `at`, field by field: its greatest value.
+fn check_variable_fields(bytes: &[u8], at: u32) -> Result<u32, Refusal>
+    requires { at ≤ 2000 }
+    ensures { value_of result ≡ answer (in_order (variable_checks bytes.now at)) (bits_at bytes.now at 6) }
 {
+    let last = take(bytes, at, 6)?;
+    take(bytes, at + 6, 1)?;
+    let initial = take(bytes, at + 7, 6)?;
+    if last < initial {
+        return Err(Refusal {
+            reason: Reason::Value,
+            place: at + 7,
+        });
+    }
     let present = take(bytes, at + 13, 1)?;
     let goal = take(bytes, at + 14, 6)?;
     if last * present < goal {
@@ -244,32 +238,6 @@ fn check_goal(bytes: &[u8], at: u32, last: u32) -> Result<(), Refusal>
             place: at + 14,
         });
     }
-    Ok(())
-}
-
-// The initial value and the goal of the variable at bit `at`.
-fn check_initial(bytes: &[u8], at: u32, last: u32) -> Result<(), Refusal>
-    requires { (at ≤ 2000) × (last ≤ 63) }
-    ensures { check_of result ≡ in_order (initial_checks bytes.now at last) }
-{
-    let init = take(bytes, at + 7, 6)?;
-    if last < init {
-        return Err(Refusal {
-            reason: Reason::Value,
-            place: at + 7,
-        });
-    }
-    check_goal(bytes, at, last)
-}
-
-// The variable at bit `at`, field by field: its greatest value.
-fn check_variable_fields(bytes: &[u8], at: u32) -> Result<u32, Refusal>
-    requires { at ≤ 2000 }
-    ensures { value_of result ≡ answer (in_order (variable_checks bytes.now at)) (bits_at bytes.now at 6) }
-{
-    let last = take(bytes, at, 6)?;
-    take(bytes, at + 6, 1)?;
-    check_initial(bytes, at, last)?;
     Ok(last)
 }
 
@@ -330,61 +298,6 @@ fn check_variables(bytes: &[u8], count: u32, counts: &mut [u8; 64]) -> Result<()
     Ok(())
 }
 
-// The record from its actions on.
-fn check_from_actions(bytes: &[u8], actions: u32, variables: &Variables) -> Result<(), Refusal>
-    requires { (actions ≡ actions_in bytes.now) × (actions ≤ 1024) × Known bytes.now variables.now.count variables.now.values }
-    ensures { check_of result ≡ in_order (from_actions bytes.now) }
-{
-    let end = check_actions(bytes, actions, variables)?;
-    check_end(bytes, end)
-}
-
-// The record from its variables on.
-fn check_from_variables(bytes: &[u8], actions: u32, variables: u32) -> Result<(), Refusal>
-    requires { (actions ≡ actions_in bytes.now) × (actions ≤ 1024) × (variables ≡ variables_in bytes.now) × (variables ≤ 64) }
-    ensures { check_of result ≡ in_order (from_variables bytes.now) }
-{
-    let mut values = [0u8; 64];
-    check_variables(bytes, variables, &mut values)?;
-    check_from_actions(
-        bytes,
-        actions,
-        &Variables {
-            count: variables,
-            values,
-        },
-    )
-}
-
-// The record from its count of actions on.
-fn check_from_action_count(bytes: &[u8], variables: u32) -> Result<(), Refusal>
-    requires { (variables ≡ variables_in bytes.now) × (variables ≤ 64) }
-    ensures { check_of result ≡ in_order (from_action_count bytes.now) }
-{
-    let actions = take(bytes, 11, 11)?;
-    if 1024 < actions {
-        return Err(Refusal {
-            reason: Reason::Size,
-            place: 11,
-        });
-    }
-    check_from_variables(bytes, actions, variables)
-}
-
-// The record from its count of variables on.
-fn check_from_variable_count(bytes: &[u8]) -> Result<(), Refusal>
-    ensures { check_of result ≡ in_order (from_variable_count bytes.now) }
-{
-    let variables = take(bytes, 4, 7)?;
-    if variables < 1 || 64 < variables {
-        return Err(Refusal {
-            reason: Reason::Size,
-            place: 4,
-        });
-    }
-    check_from_action_count(bytes, variables)
-}
-
 // The check of a record: accepted, or its refusal with its place.
 pub fn check(bytes: &[u8]) -> Result<(), Refusal>
     ensures { check_of result ≡ record_check bytes.now }
@@ -396,5 +309,22 @@ pub fn check(bytes: &[u8]) -> Result<(), Refusal>
             place: 0,
         });
     }
-    check_from_variable_count(bytes)
+    let count = take(bytes, 4, 7)?;
+    if count < 1 || 64 < count {
+        return Err(Refusal {
+            reason: Reason::Size,
+            place: 4,
+        });
+    }
+    let actions = take(bytes, 11, 11)?;
+    if 1024 < actions {
+        return Err(Refusal {
+            reason: Reason::Size,
+            place: 11,
+        });
+    }
+    let mut values = [0u8; 64];
+    check_variables(bytes, count, &mut values)?;
+    let end = check_actions(bytes, actions, &Variables { count, values })?;
+    check_end(bytes, end)
 }
