@@ -9,24 +9,19 @@ ghost use Rattle.std.specs.Prelude.{◌≡◌};
 ghost use Rattle.planning.specs.Calls.{check_code, judge_call};
 ghost use Rattle.mardiskos.specs.Flat.{flat_of};
 
-use answers::Checked;
-use judge::Judging;
+use codes::code;
 
 // The check of a record: 0 for accepted, else 32 times the place and the number.
 #[unsafe(no_mangle)]
 pub extern "C" fn mardiskos_check(bytes: &[u8]) -> u64
     ensures { result ≡ check_code bytes.now }
 {
-    let c = record::check(bytes);
-    let Checked::Refused(f) = c else {
-        return 0;
-    };
-    codes::code_of(f)
+    code(record::check(bytes))
 }
 
 // After a refusal every field but the code is zero.
 #[repr(C)]
-#[derive(Clone, Copy)]
+#[derive(Clone, Copy, Default)]
 pub struct Judgement {
     pub code: u64,
     pub relaxed_steps: u32,
@@ -42,16 +37,11 @@ pub struct Judgement {
 pub extern "C" fn mardiskos_judge(bytes: &[u8], list: &[u16]) -> Judgement
     ensures { result ≡ flat_of (judge_call bytes.now list.now) }
 {
-    let j = judge::judge(bytes, list);
-    let Judging::Judged(v) = j else {
+    let answer = judge::judge(bytes, list);
+    let Ok(v) = answer else {
         return Judgement {
-            code: codes::code_of(judge::refusal_of(j)),
-            relaxed_steps: 0,
-            red_black_steps: 0,
-            real_steps: 0,
-            relaxed_plan: false,
-            red_black_plan: false,
-            real_plan: false,
+            code: code(answer),
+            ..Judgement::default()
         };
     };
     Judgement {

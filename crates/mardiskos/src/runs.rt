@@ -1,19 +1,13 @@
 // The forward run, the relaxed plan and the newest values of a list as C calls them. The code is 0, or 32 times the place and the number; after a refusal
 // the other fields are 0.
 ghost use Rattle.std.specs.Prelude.{◌≡◌, length};
-ghost use Rattle.planning.specs.Basics.{code};
 ghost use Rattle.planning.specs.Calls.{forward_call, forward_list, relax_call, relax_list, newest_call, newest_list};
-ghost use Rattle.forward.specs.Answers.{found_of};
-ghost use Rattle.newest.specs.Answers.{answer_of};
 ghost use Rattle.mardiskos.specs.Runs.{forward_run_of, relaxed_plan_of, newest_values_of};
 
-use answers::Number;
-use codes::{code_of, number_code};
-use forward::Found;
-use newest::Progress;
+use codes::code;
 
 #[repr(C)]
-#[derive(Clone, Copy)]
+#[derive(Clone, Copy, Default)]
 pub struct ForwardRun {
     pub code: u64,
     pub steps: u32,
@@ -21,19 +15,10 @@ pub struct ForwardRun {
 }
 
 #[repr(C)]
-#[derive(Clone, Copy)]
+#[derive(Clone, Copy, Default)]
 pub struct RelaxedPlan {
     pub code: u64,
     pub steps: u32,
-}
-
-fn found_code(a: Found) -> u64
-    ensures { result ≡ code (found_of a) }
-{
-    let Found::Refused(f) = a else {
-        return 0;
-    };
-    code_of(f)
 }
 
 // The forward run of a record in the front of the list, or the refusal by 1 to 6, 10, 11.
@@ -41,18 +26,17 @@ fn found_code(a: Found) -> u64
 pub extern "C" fn mardiskos_forward(bytes: &[u8], plan: &mut [u16]) -> ForwardRun
     ensures { (result ≡ forward_run_of (forward_call bytes.now (length plan.old))) × (plan.new ≡ forward_list bytes.now (length plan.old)) }
 {
-    let a = forward::forward(bytes, plan);
-    let Found::Run { steps, reached } = a else {
+    let answer = forward::forward(bytes, plan);
+    let Ok(run) = answer else {
         return ForwardRun {
-            code: found_code(a),
-            steps: 0,
-            reached: 0,
+            code: code(answer),
+            ..ForwardRun::default()
         };
     };
     ForwardRun {
         code: 0,
-        steps,
-        reached,
+        steps: run.steps,
+        reached: run.reached,
     }
 }
 
@@ -61,31 +45,22 @@ pub extern "C" fn mardiskos_forward(bytes: &[u8], plan: &mut [u16]) -> ForwardRu
 pub extern "C" fn mardiskos_relax(bytes: &[u8], plan: &mut [u16]) -> RelaxedPlan
     ensures { (result ≡ relaxed_plan_of (relax_call bytes.now (length plan.old))) × (plan.new ≡ relax_list bytes.now (length plan.old)) }
 {
-    let a = relax::relax(bytes, plan);
-    let Number::Value(steps) = a else {
+    let answer = relax::relax(bytes, plan);
+    let Ok(steps) = answer else {
         return RelaxedPlan {
-            code: number_code(a),
-            steps: 0,
+            code: code(answer),
+            ..RelaxedPlan::default()
         };
     };
     RelaxedPlan { code: 0, steps }
 }
 
 #[repr(C)]
-#[derive(Clone, Copy)]
+#[derive(Clone, Copy, Default)]
 pub struct NewestValues {
     pub code: u64,
     pub steps: u32,
     pub runs: u32,
-}
-
-fn progress_code(a: Progress) -> u64
-    ensures { result ≡ code (answer_of a) }
-{
-    let Progress::Refused(f) = a else {
-        return 0;
-    };
-    code_of(f)
 }
 
 // The newest value of each variable, where the red-black run of the list stops, in the front of the list lent for the values, or the refusal
@@ -95,17 +70,16 @@ pub extern "C" fn mardiskos_newest(bytes: &[u8], list: &[u16], values: &mut [u16
     ensures value { result ≡ newest_values_of (newest_call bytes.now list.now (length values.old)) }
     ensures values_after { values.new ≡ newest_list bytes.now list.now (length values.old) }
 {
-    let a = newest::newest(bytes, list, values);
-    let Progress::Run { steps, runs } = a else {
+    let answer = newest::newest(bytes, list, values);
+    let Ok(progress) = answer else {
         return NewestValues {
-            code: progress_code(a),
-            steps: 0,
-            runs: 0,
+            code: code(answer),
+            ..NewestValues::default()
         };
     };
     NewestValues {
         code: 0,
-        steps,
-        runs,
+        steps: progress.steps,
+        runs: progress.runs,
     }
 }

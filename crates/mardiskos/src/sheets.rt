@@ -2,17 +2,15 @@
 ghost use Rattle.std.specs.Prelude.{◌≡◌, length, take};
 ghost use Rattle.planning.specs.Basics.{code};
 ghost use Rattle.planning.specs.Calls.{write_call, write_bytes, read_call, read_list, read_marks};
-ghost use Rattle.sheet.specs.Answers.{sheet, reading_as};
+ghost use Rattle.sheet.specs.Answers.{sheet};
 ghost use Rattle.sheet.specs.Again.{ReadsAs, WritesAs};
 ghost use Rattle.mardiskos.specs.Results.{size_in, sheet_read_of};
 
-use answers::Number;
-use codes::{code_of, number_code};
-use sheet::Reading;
+use codes::code;
 
 // Writing a sheet: 0 and the count of bytes, or 32 times the place and the number.
 #[repr(C)]
-#[derive(Clone, Copy)]
+#[derive(Clone, Copy, Default)]
 pub struct SheetSize {
     pub code: u64,
     pub bytes: u32,
@@ -34,28 +32,19 @@ pub extern "C" fn mardiskos_write_sheet(
     ensures bytes_after { bytes.new ≡ write_bytes (sheet edition list.now marks.now cost real) (length bytes.old) }
     ensures reads_as { result.code ≡ 0 → ReadsAs (take result.bytes bytes.new) (sheet edition list.now marks.now cost real) }
 {
-    let a = writer::write(list, marks, edition, cost, real, bytes);
-    let Number::Value(n) = a else {
+    let answer = writer::write(list, marks, edition, cost, real, bytes);
+    let Ok(n) = answer else {
         return SheetSize {
-            code: number_code(a),
-            bytes: 0,
+            code: code(answer),
+            ..SheetSize::default()
         };
     };
     SheetSize { code: 0, bytes: n }
 }
 
-fn reading_code(a: Reading) -> u64
-    ensures { result ≡ code (reading_as a) }
-{
-    let Reading::Refused(f) = a else {
-        return 0;
-    };
-    code_of(f)
-}
-
 // Reading a sheet: 0 with the steps, the cost, the edition and the verdict, or 32 times the place and the number.
 #[repr(C)]
-#[derive(Clone, Copy)]
+#[derive(Clone, Copy, Default)]
 pub struct SheetRead {
     pub code: u64,
     pub steps: u32,
@@ -76,27 +65,18 @@ pub extern "C" fn mardiskos_read_sheet(
     ensures marks_after { marks.new ≡ read_marks bytes.now (length list.old) (length marks.old) }
     ensures writes_as { result.code ≡ 0 → WritesAs (sheet result.edition (take result.steps list.new) (take result.steps marks.new) result.cost result.real) bytes.now }
 {
-    let a = reader::read(bytes, list, marks);
-    let Reading::Plan {
-        steps,
-        cost,
-        edition,
-        real,
-    } = a
-    else {
+    let answer = reader::read(bytes, list, marks);
+    let Ok(heading) = answer else {
         return SheetRead {
-            code: reading_code(a),
-            steps: 0,
-            cost: 0,
-            edition: 0,
-            real: false,
+            code: code(answer),
+            ..SheetRead::default()
         };
     };
     SheetRead {
         code: 0,
-        steps,
-        cost,
-        edition,
-        real,
+        steps: heading.steps,
+        cost: heading.cost,
+        edition: heading.edition,
+        real: heading.real,
     }
 }
