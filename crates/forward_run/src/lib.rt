@@ -8,6 +8,7 @@ ghost use Rattle.waiting.specs.Waiting.{Free, ByCost};
 ghost use Rattle.forward_run.specs.Running.{RanOf};
 
 use state::{Goals, Relaxed};
+use waiting::Waits;
 
 // What a forward run comes to: its steps, whether it reaches the goals, its last state.
 #[derive(Clone, Copy)]
@@ -26,13 +27,17 @@ pub fn run_by(task: &[u16], order: &[u16; 1024], work: &mut [u16], plan: &mut [u
     let found = Goals::load(task);
     let goals = found.listed();
     let mut s = Relaxed::initial(task);
-    let mut ready = [0u64; ready::SETS];
-    waiting::settle_each(&s.sets, task, order, work, &mut ready);
+    let mut waits = Waits {
+        order,
+        work,
+        ready: [0; ready::SETS],
+    };
+    waits.settle_each(&s.sets, task);
     let mut steps: usize = 0;
     let mut g: usize = 0;
     let mut reached: &[u16] = &[];
     loop {
-        waiting::wake(&s.sets, task, order, work, &mut ready, reached);
+        waits.wake(&s.sets, task, reached);
         reached = &[];
         g = waiting::unmet(&s.sets, goals, g);
         if g == goals.len() {
@@ -42,14 +47,14 @@ pub fn run_by(task: &[u16], order: &[u16; 1024], work: &mut [u16], plan: &mut [u
                 state: s,
             };
         }
-        let Some(rank) = ready::lowest(&ready) else {
+        let Some(rank) = ready::lowest(&waits.ready) else {
             return Ran {
                 steps,
                 solved: false,
                 state: s,
             };
         };
-        ready::unmark(&mut ready, rank);
+        ready::unmark(&mut waits.ready, rank);
         let i = usize::from(order[rank]);
         if !applying::has_effects(&s.sets, task, i) {
             plan[steps] = i as u16;

@@ -12,7 +12,7 @@ use native.Mathlib.Decide.{ℕ_discrete, dec_lt}
 use borrow.Author.Tests.{ne_eqb, eq-eqb}
 use Rattle.std.specs.Prelude.{Some, None}
 use lib.Dec.{T, T_not, not_T, eqb, eqb→eq, eqb_refl}
-use lib.ListN.{length, get_or, set, length-set, replicate, length-replicate, get_or-replicate}
+use lib.ListN.{length, get_or, set, length-set, replicate, get_or-replicate}
 use lib.Seq.{get_or-set_same, get_or-set_other}
 use Rattle.planning.specs.Basics.{tally}
 use Rattle.planning.specs.Runs.{State, has, holds, actions, act}
@@ -493,10 +493,6 @@ sites_settled {task} {order} {A} {s} {owed} {work} {ready} {h} {n} S b work' rea
     rw (e, ← noted_link S h k b (λ _. P) h b) (settled_goes (sites_noted S h k b (λ _. P)) b ready' p W)
 sites_settled {task} {order} {A} {s} {owed} {work} {ready} {h} {n} S b work' ready' (waits k P f g p u e er) =
     rw (e, er, ← noted_link S h k b (λ _. P) h b) (settled_waits (sites_noted S h k b (λ _. P)) b f g p u)
-
--- nothing waits in a new list
-pub free_new : (task : List ℕ) (n : ℕ) → 2048 + facts_end task ≤ n → Free task (replicate n 65535)
-free_new task n h = let e = length-replicate {A = ℕ} n 65535 in (rw e h, rw e refl)
 
 -- the actions of ranks below j are settled, and no link is set from rank j on
 pub record Entered (task order : List ℕ) (s owed : State) (work ready : List ℕ) (j : ℕ) : Type 0 where

@@ -5,8 +5,9 @@ use Rattle.planning.specs.Runs.{has}
 use Rattle.task.specs.Task.{facts_of}
 use Rattle.sets.specs.Sets.{sets_of}
 use Rattle.waiting.specs.Waiting.{Settled}
-use Rattle.waiting.proofs.wake.Given as goal
+use Rattle.waiting.proofs.Waits.wake.Given as goal
 
 abbrev pub invariant-loop-k : goal.invariant-loop-k
 invariant-loop-k l =
-    Settled l.task l.order (sets_of l.sets) (has (facts_of (drop l.k l.facts))) l.work l.ready × (length l.facts ≡ 0 → l.ready ≡ l.initial.ready)
+    Settled l.task l.initial.self.order.now (sets_of l.sets) (has (facts_of (drop l.k l.facts))) l.self.work.now l.self.ready
+    × (length l.facts ≡ 0 → l.self.ready ≡ l.initial.self.ready) × (l.self.order.now ≡ l.initial.self.order.now)
