@@ -2,15 +2,7 @@
 // two bytes, the most significant first. rust/generate/src/bin/write-listings.rs writes what stands in `stdin` and `stdout`.
 #![tactic(auto)]
 
-ghost use Rattle.std.specs.Prelude.{◌≡◌, ◌<◌};
-
 use std::io;
-
-fn wide(x: u8) -> usize
-    ensures { (result ≡ x) × (result < 256) }
-{
-    x as usize
-}
 
 // The count in front of a record; none if the input ends there.
 fn read_count<R: io::Read>(reader: &mut R) -> io::Result<Option<usize>> {
@@ -19,7 +11,7 @@ fn read_count<R: io::Read>(reader: &mut R) -> io::Result<Option<usize>> {
     if n < 2 {
         return Ok(None);
     }
-    Ok(Some(256 * wide(count[0]) + wide(count[1])))
+    Ok(Some(usize::from(u16::from_be_bytes(count))))
 }
 
 // Whether there was one more record, whole, and its listing is written.

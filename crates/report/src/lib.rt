@@ -8,11 +8,11 @@ ghost use Rattle.planning.specs.Listing.{listing_of};
 ghost use Rattle.answers.specs.Plans.{answer_of};
 ghost use Rattle.text.specs.Put.{Put};
 
-use answers::Planned;
+use answers::{Plan, Refusal};
 use std::io;
 
 // How many steps of the planner's list run.
-fn running(answer: Planned, plan: &[u16]) -> u32
+fn running(answer: Result<Plan, Refusal>, plan: &[u16]) -> u32
     requires { length plan.now ≤ 16384 }
     ensures { result ≡ length (runnable (answer_of answer) plan.now) }
 {
@@ -29,19 +29,15 @@ fn write(bytes: &[u8], out: &mut [u8]) -> usize
     let mut work = [0u16; 16384];
     let mut marks = [0u8; 16384];
     let answer = planner::plan(bytes, &mut plan, &mut work, &mut marks);
-    let Planned::Plan {
-        steps,
-        cost,
-        runs: _,
-        searches: _,
-        real,
-    } = answer
-    else {
-        return text::put_refusal(out, lines::refusal_of(answer));
-    };
-    let end = lines::put_runs(bytes, &mut work, out);
-    let runs = running(answer, &plan);
-    text::put_result(out, end, cost, lines::front(&plan, steps), real, runs)
+    match answer {
+        Err(f) => text::put_refusal(out, f),
+        Ok(told) => {
+            let end = lines::put_runs(bytes, &mut work, out);
+            let runs = running(answer, &plan);
+            let steps = lines::front(&plan, told.steps);
+            text::put_result(out, end, told.cost, steps, told.real, runs)
+        }
+    }
 }
 
 // The bytes that every listing fits in: 6 for each of at most 16,384 steps of a plan and 4,032 of a relaxed plan, and 83 more.
