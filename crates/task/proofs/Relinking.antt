@@ -5,11 +5,10 @@ use mathlib.Core.List.{List}
 use Prim.Native.Nat.{ℕ, zero, suc, ◌+◌, ◌-◌, ◌*◌, ◌<◌, ◌≤◌}
 use native.Mathlib.Omega.{arith}
 use lib.ListN.{length, get_or, set, length-set}
-use native.Mathlib.Decide.{ℕ_discrete}
 use lib.Seq.{slice, slice-cons, slice_empty, get_or-set_same, get_or-set_other}
 use Rattle.planning.specs.Runs.{variables, actions}
 use Rattle.task.specs.Task.{links_end, cell, heads_at, facts_in, variable_in, action_in, each, task_in, pre_at, eff_at, end_at, Row, Heads, Loaded, order_from, nexts_from, action_rows}
-use Rattle.task.specs.Links.{head_at, next_at, Link, Relinked, Unlinked, linked}
+use Rattle.task.specs.Links.{head_at, next_at, Link, Relinked, linked}
 use Rattle.task.proofs.Reading.{task_in_variables, task_in_actions}
 
 -- the place of the heads is kept
@@ -75,31 +74,6 @@ module _ (task : List ℕ) (f i : ℕ) (c : i < 1024) (H : Heads (f + 1) task) w
 
   pub next_old : (j : ℕ) → j < 1024 → (j ≡ i → ⊥) → next_at (linked f i task) j ≡ next_at task j
   next_old j l d = next_kept j l ∙ get_or-set_other task (nexts_from + i) (nexts_from + j) (head_at task f) 0 (λ q. d (omega arith))
-
--- heads one after the other
-pub unlinked_none : (task : List ℕ) → Unlinked 0 task task
-unlinked_none task = record { relinked = relinked_none task; heads = λ f l. absurd (omega arith) }
-
-pub unlinked_more : (before after : List ℕ) (f h : ℕ) → h ≡ heads_at before → Heads (f + 1) before → Unlinked f before after → Unlinked (f + 1) before (set after (h + f) 65535)
-unlinked_more before after f h e H U = record { relinked = R; heads = λ g l. go g l (ℕ_discrete g f) }
-  where
-    R : Relinked before (set after (h + f) 65535)
-    R = relinked_set before after (h + f) 65535 (inr (omega (arith, H.behind), inr (omega arith))) U.relinked
-
-    same : heads_at (set after (h + f) 65535) ≡ h
-    same = relinked_heads before (set after (h + f) 65535) R ∙ sym e
-
-    old : heads_at after ≡ h
-    old = relinked_heads before after U.relinked ∙ sym e
-
-    go : (g : ℕ) → g < f + 1 → Dec (g ≡ f) → head_at (set after (h + f) 65535) g ≡ 65535
-    go g l (yes q) = rw (same, q) (get_or-set_same after (h + f) 65535 0 (omega (arith, H.room, U.relinked.long)))
-    go g l (no q) =
-        rw same
-        (get_or-set_other after (h + f) (h + g) 65535 0 (λ p. q (omega arith)) ∙ ap (λ (x : ℕ). get_or after (x + g) 0) (sym old) ∙ U.heads g (omega arith))
-
-pub unlinked_all : (before after : List ℕ) (f n : ℕ) → f ≡ n → Unlinked f before after → Unlinked n before after
-unlinked_all before after f n e U = subst (λ (x : ℕ). Unlinked x before after) e U
 
 -- equal numbers from f up to t make equal parts
 pub slice_same : (n f t : ℕ) (a b : List ℕ) → t ≡ f + n → t ≤ length a → t ≤ length b → ((k : ℕ) → f ≤ k → k < t → get_or a k 0 ≡ get_or b k 0) → slice f t a ≡ slice f t b

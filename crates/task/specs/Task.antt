@@ -36,11 +36,11 @@ heads_at task = cell task 0 3
 unfoldable pub fact_of : ℕ → Fact
 fact_of w = record { var = w / 64; val = w % 64 }
 
--- the facts in the numbers from place a up to place b
 -- the facts in a list of numbers
 unfoldable pub facts_of : List ℕ → List Fact
 facts_of facts = map fact_of facts
 
+-- the facts in the numbers from place a up to place b
 unfoldable pub facts_in : List ℕ → ℕ → ℕ → List Fact
 facts_in task a b = map fact_of (slice a b task)
 

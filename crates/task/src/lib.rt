@@ -116,7 +116,7 @@ pub fn effects<'a>(task: &'a [u16], i: usize) -> &'a [u16]
     &task[eff_start(task, i)..eff_end(task, i)]
 }
 
-// The first action that changes a black variable to fact f, as it was linked.
+// The first action that changes a black variable to fact f, as it was linked; 65,535 for none, as a link has 16 bits (fixed memory).
 pub fn first_mover(task: &[u16], f: usize) -> usize
     requires { Loaded task.now × (f < 64 * variables (task_in task.now)) }
     ensures { result ≡ head_at task.now f }
@@ -125,7 +125,7 @@ pub fn first_mover(task: &[u16], f: usize) -> usize
     usize::from(task[heads + f])
 }
 
-// The next action that changes it to the same fact as action i, as it was linked.
+// The next action that changes it to the same fact as action i, as it was linked; 65,535 for none likewise.
 pub fn next_mover(task: &[u16], i: usize) -> usize
     requires { Loaded task.now × (i < 1024) }
     ensures { result ≡ next_at task.now i }

@@ -9,7 +9,8 @@ ghost use Rattle.sets.specs.Sets.{sets_of};
 ghost use Rattle.ready.specs.Ready.{Ready};
 ghost use Rattle.waiting.specs.Waiting.{Unmet, hung, place_at, Looked, Settles, Sites, Settled, Headed, Room, Free, ByCost};
 
-// The first place from `from` on whose fact is not in the state; the one behind them all if each is.
+// The first place from `from` on whose fact is not in the state; the one behind them all if each is. `position` over the rest would need
+// both ends added to its answer: no plainer.
 pub fn unmet(sets: &[u64; 64], facts: &[u16], from: usize) -> usize
     requires { (from ≤ length facts.now) × ((k : ℕ) → from ≤ k → k < length facts.now → get_or facts.now k 0 < 4096) }
     ensures { Unmet (sets_of sets.now) facts.now from (length facts.now) result }
@@ -79,7 +80,8 @@ impl<'a, 'b> Waits<'a, 'b> {
         ensures same { self.new.order.now ≡ self.old.order.now }
     {
         let mut j = h;
-        for _left in (0..1024usize).rev() {
+        // No range tells how long a chain is: 1,024 actions at most, so that a `for` ends where a `while` would need a measure.
+        for _ in 0..1024usize {
             if 1024 <= j {
                 return;
             }
