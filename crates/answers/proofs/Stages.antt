@@ -34,10 +34,6 @@ pub answer_refusing : {A : Type 0} (c : Check) (b : A) (n p : ℕ) → c ≡ ref
 unfolding answer
 answer_refusing c b n p e = rw e refl
 
--- an answer whose checks pass
-pub answer_passes : {A : Type 0} (x : Answer A) (c : Check) (b : A) → x ≡ answer c b → c ≡ none → x ≡ done b
-answer_passes x c b h e = h ∙ sym (answer_passing c b e)
-
 -- what a layer below answered, taken apart: it passed with a value, or its refusal is handed on
 module _ {A B : Type 0} (g : A → B) where
   pub passed : (r : Result A Refusal) (v : A) (c : Check) (b : B) → r ≡ Ok v → answer_by g r ≡ answer c b → (c ≡ none) × (b ≡ g v)

@@ -52,11 +52,3 @@ further_steps t F l f runs steps i ef er es = go (ℕ_discrete runs steps) (hold
     go (no h) b d =
         let less : steps_run (act t) real l (initial t) < length l = omega (arith, h, es, er, steps_by_le tests next l (initial t)) in
         omega (arith, further_stopped runs steps b h, er, steps_by_stopped tests next l (i ∷ []) (initial t) less)
-
-pub newest_is : (ns : List ℕ) (f : ℕ) → get_or ns (f / 64) 0 ≡ f % 64 → alone (values_of ns) (f / 64) (f % 64) ≡ true
-unfolding alone values_of
-newest_is ns f e = rw e (eq-eqb (f % 64) (f % 64) refl)
-
-pub newest_not : (ns : List ℕ) (f : ℕ) → (get_or ns (f / 64) 0 ≡ f % 64 → ⊥) → alone (values_of ns) (f / 64) (f % 64) ≡ false
-unfolding alone values_of
-newest_not ns f h = ne_eqb (f % 64) (get_or ns (f / 64) 0) (λ e. h (sym e))

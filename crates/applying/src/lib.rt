@@ -2,7 +2,7 @@
 // real one; in the red-black state, which has the newest value of a black variable and the set of a red one.
 #![tactic(auto)]
 
-ghost use Rattle.std.specs.Prelude.{◌≡◌, ℕ, ◌/◌, ◌%◌, ◌<◌, ◌≤◌};
+ghost use Rattle.std.specs.Prelude.{◌≡◌, ◌/◌, ◌%◌, ◌<◌, ◌≤◌};
 ghost use Rattle.planning.specs.Runs.{State, actions, act, holds, step, relaxed};
 ghost use Rattle.planning.specs.Newest.{alone};
 ghost use Rattle.task.specs.Task.{facts_of, task_in, AllFacts, Loaded};

@@ -3,7 +3,7 @@
 // actions, where their effects are held too, are counted without a look at the values.
 #![tactic(auto)]
 
-ghost use Rattle.std.specs.Prelude.{◌≡◌, true, Ok, Err, ◌++◌, ◌-◌, ◌*◌, ◌<◌, ◌≤◌, length, take};
+ghost use Rattle.std.specs.Prelude.{◌≡◌, true, Ok, Err, ◌-◌, ◌*◌, ◌<◌, ◌≤◌, length};
 ghost use Rattle.planning.specs.Basics.{done, refused};
 ghost use Rattle.planning.specs.Runs.{holds, step, relaxed, actions, act, black, goals};
 ghost use Rattle.planning.specs.Newest.{alone};

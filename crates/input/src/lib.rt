@@ -15,6 +15,7 @@ pub fn read<R: io::Read>(reader: &mut R, bytes: &mut [u8]) -> io::Result<usize>
     ensures whole { IfOk result (λ n. n < length bytes.new → IsAtEnd (R.remaining reader.new)) }
 {
     let mut done = 0;
+    // A `while`: how much a read gives is the reader's, so that no range tells the turns.
     while done < bytes.len() {
         let more = reader.read(&mut bytes[done..])?;
         if more == 0 {

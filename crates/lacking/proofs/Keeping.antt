@@ -24,9 +24,6 @@ ready_start t marks U = record {
   };
 }
 
-pub ready_more : (t : Task) (own k : ℕ) (marks : List ℕ) (kept : List (Option Allowing)) → Ready t own marks kept → own ≤ k → Ready t k marks kept
-ready_more t own k marks kept R l = record { unmarked = unmarked_more t own k marks R.unmarked l; complete = R.complete }
-
 -- what stands at s
 pub kept_at : (t : Task) (kept : List (Option Allowing)) → Kept t kept → (s : ℕ) (a : Allowing) → s < length kept → get_or kept s None ≡ Some a
     → (w v j : ℕ) → w ≡ a.variable → w ≡ v → j ≡ a.action → Complete t v j

@@ -6,7 +6,7 @@ use native.Mathlib.Omega.{arith}
 use borrow.Author.Tests.{le-leb, lt-leb}
 use mathlib.Core.Option.{none}
 use lib.ListN.{length, take, drop, replicate, length-append, length-drop}
-use lib.Seq.{take_at}
+use lib.Seq.{take_at, length-take-le}
 use Rattle.planning.specs.Basics.{check, refuse, answer}
 use Rattle.planning.specs.Calls.{lent, capacity, room_check}
 use Rattle.lists.specs.Lent.{laid}
@@ -14,6 +14,10 @@ use Rattle.lists.specs.Lent.{laid}
 pub capacity_le : (n : ℕ) → (capacity n ≤ n) × (capacity n ≤ 32768)
 unfolding capacity
 capacity_le n = (omega arith, omega arith)
+
+-- a result within the capacity has its place in front
+pub front_long : (n m : ℕ) (d : List ℕ) → m ≡ capacity (length d) → n ≤ m → length (take n d) ≡ n
+front_long n m d e h = length-take-le n d (omega (arith, e, capacity_le (length d)))
 
 -- the room check decided, and the list that follows from it
 module _ (n : ℕ) where

@@ -1,20 +1,13 @@
 // Lists and areas that the caller lends: a result in the front, and behind it 65,535 in lists, 0 in bytes; entries moved in them.
 #![tactic(auto)]
 
-ghost use Rattle.std.specs.Prelude.{◌≡◌, ◌++◌, ◌+◌, ◌-◌, ◌≤◌, min, length, take, drop, replicate};
+ghost use Rattle.std.specs.Prelude.{◌≡◌, ◌++◌, ◌+◌, ◌-◌, ◌≤◌, length, take, drop, replicate};
 ghost use Rattle.planning.specs.Calls.{capacity, room_check};
 ghost use Rattle.answers.specs.Answers.{check_of};
 ghost use Rattle.lists.specs.Lent.{laid};
 ghost use Rattle.lists.specs.Four.{with_four};
 
 use answers::{Reason, Refusal};
-
-// A 16-bit number as an index.
-pub fn wide(x: u16) -> usize
-    ensures { result ≡ x }
-{
-    x as usize
-}
 
 // Four entries out of one number, the first one lowest, as they lie in a list: a function of its own, so that the compiler makes one
 // store of it.
@@ -67,26 +60,11 @@ pub fn clear(d: &mut [u8])
     d.fill(0);
 }
 
-// The lesser of two numbers.
-pub fn lesser(a: usize, b: usize) -> usize
-    ensures { result ≡ min a b }
-{
-    a.min(b)
-}
-
 // The capacity of a plan list of n entries.
 pub fn capacity(n: usize) -> usize
     ensures { result ≡ capacity n }
 {
     n.min(32768)
-}
-
-// The whole list in the front of another.
-pub fn copy(from: &[u16], to: &mut [u16])
-    requires { length from.now ≤ length to.old }
-    ensures { to.new ≡ from.now ++ drop (length from.now) to.old }
-{
-    to[..from.len()].copy_from_slice(from);
 }
 
 // The first n entries at the very end, where both places may overlap; the answer is where they start.
@@ -112,7 +90,7 @@ pub fn lay(list: &[u16], plan: &mut [u16]) -> Result<(), Refusal>
             place: room as u32,
         });
     }
-    copy(list, plan);
+    plan[..n].copy_from_slice(list);
     blank_from(plan, n);
     Ok(())
 }

@@ -46,7 +46,7 @@ module _ (task : List ℕ) (f : ℕ) (O : OnChain task f) where
     -- whether one is found is whether there is one
     pub finds : (j : ℕ) → FirstFrom (λ k. T (returns_by (task_in task) m (f / 64) (f % 64) k)) h (actions (task_in task)) (Some j) → Finds (task_in task) m (f / 64) (f % 64) (Some j)
     unfolding returned
-    finds j N = (N.1, some_true (actions (task_in task)) (returns_by (task_in task) m (f / 64) (f % 64)) j N.1 (T→true (returns_by (task_in task) m (f / 64) (f % 64) j) N.2))
+    finds j N = (N.1, N.2, some_true (actions (task_in task)) (returns_by (task_in task) m (f / 64) (f % 64)) j N.1 (T→true (returns_by (task_in task) m (f / 64) (f % 64) j) N.2))
 
     pub finds_from_head : (r : Option ℕ) → h ≡ head_at task f → FirstFrom (λ k. T (returns_by (task_in task) m (f / 64) (f % 64) k)) h (actions (task_in task)) r → Finds (task_in task) m (f / 64) (f % 64) r
     unfolding returned

@@ -56,6 +56,6 @@ InChain t v d j = (j ≡ 65535) ⊎ ((j < actions t) × Changes t v d j)
 abbrev pub FirstFrom : (ℕ → Type 0) → ℕ → ℕ → Option ℕ → Type 0
 FirstFrom P a n r = MatchOption r ((k : ℕ) → a ≤ k → k < n → P k → ⊥) (λ x. (a ≤ x) × (x < n) × P x × ((k : ℕ) → a ≤ k → k < x → P k → ⊥))
 
--- an action, if there is one, that changes v to d and needs marked facts only
+-- an action that changes v to d and needs marked facts only; none if there is none
 abbrev pub Finds : Task → State → ℕ → ℕ → Option ℕ → Type 0
-Finds t m v d r = MatchOption r (returned t m v d ≡ false) (λ j. (j < actions t) × (returned t m v d ≡ true))
+Finds t m v d r = MatchOption r (returned t m v d ≡ false) (λ j. (j < actions t) × T (returns_by t m v d j) × (returned t m v d ≡ true))

@@ -2,7 +2,7 @@
 // that change its variable to it: the first one that needs marked facts alone is enough. What served last is tried first.
 #![tactic(auto)]
 
-ghost use Rattle.std.specs.Prelude.{◌≡◌, true, false, ℕ, MatchOption, ◌/◌, ◌%◌, ◌<◌, T, length, get_or};
+ghost use Rattle.std.specs.Prelude.{◌≡◌, ◌≢◌, true, false, ℕ, MatchOption, ◌/◌, ◌%◌, ◌<◌, T, length, get_or};
 ghost use Rattle.planning.specs.Runs.{holds, actions, act};
 ghost use Rattle.task.specs.Task.{facts_of, task_in, Loaded};
 ghost use Rattle.task.specs.Links.{Changes};
@@ -50,10 +50,10 @@ pub fn mark(facts: &[u16], f: Option<usize>, own: u16, marks: &mut [u16])
     }
 }
 
-// Where the first of the facts stands that is not marked `own`.
+// Where a fact stands that is not marked `own`; none where all are.
 fn first_unmarked(facts: &[u16], marks: &[u16], own: u16) -> Option<usize>
     requires { (k : ℕ) → k < length facts.now → get_or facts.now k 0 < length marks.now }
-    ensures { MatchOption result (holds (marked own marks.now) (facts_of facts.now) ≡ true) (λ k. holds (marked own marks.now) (facts_of facts.now) ≡ false) }
+    ensures { MatchOption result (holds (marked own marks.now) (facts_of facts.now) ≡ true) (λ k. (k < length facts.now) × (get_or marks.now (get_or facts.now k 0) 0 ≢ own) × (holds (marked own marks.now) (facts_of facts.now) ≡ false)) }
 {
     for (k, f) in facts.iter().enumerate() {
         if marks[usize::from(*f)] != own {
@@ -86,7 +86,7 @@ fn first_return(m: Marked, f: usize, j: usize, last: &mut Last) -> Option<usize>
     ensures { FirstFrom (λ k. T (returns_by (task_in m.entry.task.now) (marked m.entry.own m.entry.marks.now) (f / 64) (f % 64) k)) j (actions (task_in m.entry.task.now)) result }
 {
     let mut k = j;
-    // a `while`, and 65,535 for no action: the walk goes along a chain of the loaded task, whose form stays
+    // A `while`: the walk goes along a chain of the loaded task, and no range tells its turns. It ends with 65,535, as the chain does.
     while k != 65535 {
         if all_marked(m, k, last) {
             return Some(k);

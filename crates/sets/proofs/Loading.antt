@@ -56,9 +56,6 @@ starting_start t n F e = record {
   filled = λ w d. rw (get_d_zeros 64 w, in_set_empty d, le-ltb w 0 (omega arith)) refl;
 }
 
-pub init_small : (t : Task) (v x : ℕ) → Formed t → x ≡ (variable t v).init → x < 64
-init_small t v x F e = omega (arith, F.init_below v, F.count_max v)
-
 module _ (t : Task) (n : ℕ) (ms : List ℕ) (v : ℕ) (p : Starting t n ms v) where
   pub starting_turn : v < n → (x w : ℕ) → x ≡ (variable t v).init → w ≡ 2 ^ x → Starting t n (set ms v w) (v + 1)
   unfolding sets_of

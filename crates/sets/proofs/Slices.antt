@@ -59,9 +59,6 @@ pub record Putting (facts ms₀ ms : List ℕ) (k : ℕ) : Type 0 where
   pub long : length ms ≡ 64
   pub so_far : put_all (facts_of facts) ms₀ ≡ put_all (facts_of (drop k facts)) ms
 
-pub putting_start : (facts ms : List ℕ) → length ms ≡ 64 → Putting facts ms ms 0
-putting_start facts ms n = record { long₀ = n; long = n; so_far = refl }
-
 module _ (facts : List ℕ) (k : ℕ) (ms₀ ms : List ℕ) (p : Putting facts ms₀ ms k) where
   pub putting_turn : k < length facts → (f v x y : ℕ) → f ≡ get_or facts k 0 → v ≡ f / 64 → x ≡ f % 64 → y ≡ 2 ^ x → Putting facts ms₀ (set ms v (bit_or (get_or ms v 0) y)) (k + 1)
   unfolding put_all put fact_of

@@ -32,9 +32,6 @@ pub record Filled (f : ℕ → ℕ) (r : List ℕ) (k : ℕ) : Type 0 where
   pub most : k ≤ 64
   pub below : (j : ℕ) → j < k → get_or r j 0 ≡ f j
 
-pub filled_start : (f : ℕ → ℕ) (r : List ℕ) → length r ≡ 64 → Filled f r 0
-filled_start f r n = record { long = n; most = omega arith; below = λ j h. absurd (omega arith) }
-
 module _ (f : ℕ → ℕ) (r : List ℕ) (k : ℕ) (p : Filled f r k) where
   pub filled_turn : k < 64 → (y : ℕ) → y ≡ f k → Filled f (set r k y) (k + 1)
   filled_turn h y e = record {

@@ -61,9 +61,6 @@ pub record Renewing (facts ns₀ ns : List ℕ) (k : ℕ) : Type 0 where
   pub long : length ns ≡ 64
   pub so_far : set_all (facts_of facts) ns₀ ≡ set_all (facts_of (drop k facts)) ns
 
-pub renewing_start : (facts ns : List ℕ) → length ns ≡ 64 → Renewing facts ns ns 0
-renewing_start facts ns n = record { long₀ = n; long = n; so_far = refl }
-
 module _ (facts : List ℕ) (k : ℕ) (ns₀ ns : List ℕ) (p : Renewing facts ns₀ ns k) where
   pub renewing_turn : k < length facts → (f : ℕ) (r : List ℕ) → f ≡ get_or facts k 0 → r ≡ set ns (f / 64) (f % 64) → Renewing facts ns₀ r (k + 1)
   unfolding set_all fact_of

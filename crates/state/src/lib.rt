@@ -2,7 +2,7 @@
 // and hands the next one back whole. The goals of a task stand here too, as facts.
 #![tactic(auto)]
 
-ghost use Rattle.std.specs.Prelude.{◌≡◌, ◌/◌, ◌%◌, ◌<◌, ◌≤◌, length, set, take};
+ghost use Rattle.std.specs.Prelude.{◌≡◌, ◌/◌, ◌%◌, ◌<◌, ◌≤◌, set, take};
 ghost use Rattle.planning.specs.Runs.{actions, act, step, initial, relaxed, size};
 ghost use Rattle.planning.specs.Newest.{initial_values, newer};
 ghost use Rattle.task.specs.Task.{task_in, Loaded};
