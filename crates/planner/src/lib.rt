@@ -42,8 +42,12 @@ fn plan_prepared(
     ensures { Sourced false (task_in task.now) [] (room_in plan.old work.now marks.old) plan.new marks.new result }
 {
     let mut relaxed = [65535u16; 1024];
-    let count = relax::relaxed_plan(task, &mut relaxed)? as usize;
-    draft(task, &relaxed[..count], plan, work, marks)
+    let found = relax::relaxed_plan(task, &mut relaxed);
+    let Err(f) = found else {
+        let count = found.unwrap_or(0) as usize;
+        return draft(task, &relaxed[..count], plan, work, marks);
+    };
+    Err(f)
 }
 
 // The repair of the caller's list, checked by 13 and 9.
@@ -57,8 +61,10 @@ fn repair_prepared(
     requires { Prepared task.now }
     ensures { Sourced true (task_in task.now) list.now (room_in plan.old work.now marks.old) plan.new marks.new result }
 {
-    callers::check_relaxed(task, list)?;
-    draft(task, list, plan, work, marks)
+    let Err(f) = callers::check_relaxed(task, list) else {
+        return draft(task, list, plan, work, marks);
+    };
+    Err(f)
 }
 
 // Checks 7 and 8 of a loaded task, then its plan.
