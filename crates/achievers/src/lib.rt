@@ -24,8 +24,8 @@ pub fn note_run(task: &[u16], run: &[u16], first: &mut [u16; 4096])
     requires { Loaded task.now × (run.now ≡ forward_run (task_in task.now)) × (first.old ≡ replicate 4096 65535) }
     ensures { (length first.new ≡ 4096) × Setters (task_in task.now) (forward_run (task_in task.now)) first.new }
 {
-    for k in (0..run.len()).rev() {
-        note(task, usize::from(run[k]), first);
+    for i in run.iter().rev() {
+        note(task, usize::from(*i), first);
     }
 }
 
