@@ -10,7 +10,8 @@ ghost use Rattle.forward_run.specs.Running.{RanOf};
 use state::{Goals, Relaxed};
 use waiting::Waits;
 
-// What a forward run comes to: its steps, whether it reaches the goals, its last state.
+// What a forward run comes to: its steps, whether it reaches the goals, its last state. The steps and the state stand either way, as a
+// refusal counts the facts of the state: no Option or Result would say more.
 #[derive(Clone, Copy)]
 pub struct Ran {
     pub steps: usize,
@@ -36,23 +37,16 @@ pub fn run_by(task: &[u16], order: &[u16; 1024], work: &mut [u16], plan: &mut [u
     let mut steps: usize = 0;
     let mut g: usize = 0;
     let mut reached: &[u16] = &[];
-    loop {
+    // What the state says ends the turns: no range tells them.
+    let solved = loop {
         waits.wake(&s.sets, task, reached);
         reached = &[];
         g = waiting::unmet(&s.sets, goals, g);
         if g == goals.len() {
-            return Ran {
-                steps,
-                solved: true,
-                state: s,
-            };
+            break true;
         }
         let Some(rank) = ready::lowest(&waits.ready) else {
-            return Ran {
-                steps,
-                solved: false,
-                state: s,
-            };
+            break false;
         };
         ready::unmark(&mut waits.ready, rank);
         let i = usize::from(order[rank]);
@@ -62,5 +56,10 @@ pub fn run_by(task: &[u16], order: &[u16; 1024], work: &mut [u16], plan: &mut [u
             reached = task::effects(task, i);
             s = s.step(task, i);
         }
+    };
+    Ran {
+        steps,
+        solved,
+        state: s,
     }
 }
