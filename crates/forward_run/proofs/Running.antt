@@ -9,7 +9,7 @@ use native.Mathlib.Numerals.{add-one}
 use native.Mathlib.Omega.{arith}
 use lib.Dec.{T}
 use lib.ListN.{length, get_or, set, take, length-set, length-append}
-use lib.Seq.{take-suc-set, length-take-le, get_or-take, take_all}
+use lib.Seq.{take-suc-set, length-take-le, get_or-take}
 use Rattle.planning.specs.Basics.{total, tally}
 use Rattle.planning.specs.Record.{Task}
 use Rattle.planning.specs.Runs.{State, holds, step, relaxed, run, variables, actions, act, count, variable, initial, goals, size, run_by}
@@ -19,7 +19,7 @@ use Rattle.laws.proofs.Below.{total_le, total_pred, total_one, tally_pos}
 use Rattle.laws.proofs.Steps.{All, run_append}
 use Rattle.laws.proofs.Formed.{Formed, initial_holds}
 use Rattle.laws.proofs.Forward.{Once, forward_take, forward_goal, forward_none, forward_run_ran, forward_run_once, eff_ranged}
-use Rattle.task.specs.Task.{facts_of, facts_in, States}
+use Rattle.task.specs.Task.{facts_of, States}
 use Rattle.task.proofs.Slices.{part_facts}
 use Rattle.state.specs.declared.Goals.{Goals}
 use Rattle.state.specs.Goals.{GoalsOf}
@@ -137,14 +137,8 @@ goals_listed t g list G n e =
     })
 
 module _ (t : Task) {s : State} {list : List ℕ} {r : ℕ} (e : facts_of list ≡ goals t) (P : Passing s list 0 (length list) r) where
-  whole : facts_in list 0 (length list) ≡ goals t
-  whole = sym (part_facts list 0 (length list) (omega arith)) ∙ ap facts_of (take_all (length list - 0) list (omega arith)) ∙ e
-
   pub goals_met : r ≡ length list → holds s (goals t) ≡ true
-  goals_met z =
-      rw (← whole) (T→true (holds s (facts_in list 0 (length list))) (each_holds list 0 (length list) (omega arith) (omega arith) s (λ x p l. P.passed x p (omega arith))))
+  goals_met z = rw (← e) (T→true (holds s (facts_of list)) (each_holds s list (λ x l. P.passed x (omega arith) (omega arith))))
 
   pub goals_open : r ≢ length list → reaches s (get_or list r 0) ≡ false → holds s (goals t) ≡ false
-  goals_open z u =
-      rw (← whole)
-      (F→false (holds s (facts_in list 0 (length list))) (λ h. subst T u (holds_each list 0 (length list) (omega arith) (omega arith) s h r (omega arith) (omega (arith, P.to)))))
+  goals_open z u = rw (← e) (F→false (holds s (facts_of list)) (λ h. subst T u (holds_each s list h r (omega (arith, P.to)))))

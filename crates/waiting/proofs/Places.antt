@@ -1,81 +1,67 @@
 -- Facts by their places in a list of numbers: a list of facts has exactly those at its places, so that a test of it is a test at each
 -- place. The loops over facts stand on this.
-use mathlib.Core.Path.{◌≡◌, sym, ap, subst}
-use mathlib.Core.Logic.{◌⊎◌, inl, inr, ◌≢◌}
-use mathlib.Core.Bool.{true, false, ◌&&◌, ◌||◌}
-use mathlib.Core.List.{List}
+use mathlib.Core.Path.{◌≡◌, sym, ap, ◌∙◌, subst}
+use mathlib.Core.Logic.{inl, inr, ◌≢◌}
+use mathlib.Core.Bool.{true, false, ◌&&◌}
+use mathlib.Core.List.{List, [], ◌∷◌}
 use Prim.Native.Nat.{ℕ, zero, suc, ◌+◌, ◌-◌, ◌/◌, ◌%◌, ◌<◌, ◌≤◌}
 use native.Mathlib.Omega.{arith}
 use native.Mathlib.Decide.{ℕ_discrete, dec_lt}
 use lib.Dec.{T, eqb, eqb→eq, eqb_refl}
 use lib.ListN.{length, get_or, take, drop, length-drop}
-use lib.Seq.{get_or-take, length-take-le, take_all}
+use lib.Seq.{get_or-take, get_or-drop, length-take-le, take_all}
 use Rattle.planning.specs.Runs.{State, has, holds, variables, count, act}
 use Rattle.laws.proofs.Tests.{and_l, and_r, and_i, or_l, or_r, or_cases}
-use Rattle.laws.proofs.Facts.{holds→sub, sub→holds}
+use Rattle.laws.proofs.Facts.{holds→sub}
 use Rattle.planning.specs.Record.{Action}
 use Rattle.laws.proofs.Formed.{Sorted, sorted_has}
 use Rattle.task.specs.Task.{fact_of, facts_of, facts_in, pre_at, eff_at, action_in, task_in, Loaded}
 use Rattle.sets.proofs.Listed.{Listed}
-use Rattle.task.proofs.Slices.{sorted_inside}
+use Rattle.task.proofs.Slices.{sorted_inside, part_facts}
 use Rattle.sets.proofs.Slices.{facts_of_drop}
-use Rattle.sets.proofs.Effects.{facts_in_cons, facts_in_none}
 use Rattle.waiting.specs.Waiting.{reaches, Passing, Unmet, facts_end, Headed, Looked}
 
-module _ (l : List ℕ) where
-  at_has' : (n a b v d : ℕ) → a + n ≡ b → b ≤ length l → T (has (facts_in l a b) v d) → (x : ℕ) × (a ≤ x) × (x < b) × (v ≡ get_or l x 0 / 64) × (d ≡ get_or l x 0 % 64)
-  unfolding has fact_of
-  at_has' zero a b v d e h t = absurd (rw (facts_in_none l a b (omega arith)) at t)
-  at_has' (suc n) a b v d e h t =
-      go (or_cases (eqb v (get_or l a 0 / 64) && eqb d (get_or l a 0 % 64)) (has (facts_in l (a + 1) b) v d) (rw (facts_in_cons l a b (omega arith) h) at t))
-      (at_has' n (a + 1) b v d (omega arith) h)
-    where
-      go : T (eqb v (get_or l a 0 / 64) && eqb d (get_or l a 0 % 64)) ⊎ T (has (facts_in l (a + 1) b) v d)
-          → (T (has (facts_in l (a + 1) b) v d) → (x : ℕ) × (a + 1 ≤ x) × (x < b) × (v ≡ get_or l x 0 / 64) × (d ≡ get_or l x 0 % 64))
-          → (x : ℕ) × (a ≤ x) × (x < b) × (v ≡ get_or l x 0 / 64) × (d ≡ get_or l x 0 % 64)
-      go (inl k) f = (
-        a,
-        omega arith,
-        omega arith,
-        eqb→eq v (get_or l a 0 / 64) (and_l (eqb v (get_or l a 0 / 64)) (eqb d (get_or l a 0 % 64)) k),
-        eqb→eq d (get_or l a 0 % 64) (and_r (eqb v (get_or l a 0 / 64)) (eqb d (get_or l a 0 % 64)) k),
-      )
-      go (inr k) f = let r = f k in (r.0, omega (arith, r.1), r.2, r.3, r.4)
+-- the fact at place x is one of them
+has_here : (l : List ℕ) (x : ℕ) → x < length l → T (has (facts_of l) (get_or l x 0 / 64) (get_or l x 0 % 64))
+unfolding has facts_of fact_of
+has_here [] x h = absurd (omega arith)
+has_here (y ∷ l) zero h =
+    or_l (eqb (y / 64) (y / 64) && eqb (y % 64) (y % 64)) (has (facts_of l) (y / 64) (y % 64))
+    (and_i (eqb (y / 64) (y / 64)) (eqb (y % 64) (y % 64)) (eqb_refl (y / 64)) (eqb_refl (y % 64)))
+has_here (y ∷ l) (suc x) h =
+    let z = get_or l x 0 in
+    or_r (eqb (z / 64) (y / 64) && eqb (z % 64) (y % 64)) (has (facts_of l) (z / 64) (z % 64)) (has_here l x (omega arith))
 
-  has_at' : (n a b x : ℕ) → a + n ≡ b → b ≤ length l → a ≤ x → x < b → T (has (facts_in l a b) (get_or l x 0 / 64) (get_or l x 0 % 64))
-  unfolding has fact_of
-  has_at' zero a b x e h p q = absurd (omega arith)
-  has_at' (suc n) a b x e h p q = rw (facts_in_cons l a b (omega arith) h) (go (ℕ_discrete x a) (has_at' n (a + 1) b x (omega arith) h))
-    where
-      v : ℕ
-      v = get_or l x 0 / 64
+pub holds_each : (s : State) (l : List ℕ) → T (holds s (facts_of l)) → (x : ℕ) → x < length l → T (reaches s (get_or l x 0))
+unfolding reaches
+holds_each s l t x h = holds→sub s (facts_of l) t (get_or l x 0 / 64) (get_or l x 0 % 64) (has_here l x h)
 
-      d : ℕ
-      d = get_or l x 0 % 64
+pub each_holds : (s : State) (l : List ℕ) → ((x : ℕ) → x < length l → T (reaches s (get_or l x 0))) → T (holds s (facts_of l))
+unfolding reaches holds facts_of fact_of
+each_holds s [] f = tt
+each_holds s (y ∷ l) f = and_i (s (y / 64) (y % 64)) (holds s (facts_of l)) (f 0 (omega arith)) (each_holds s l (λ x h. f (suc x) (omega arith)))
 
-      go : Dec (x ≡ a) → (a + 1 ≤ x → x < b → T (has (facts_in l (a + 1) b) v d)) → T ((eqb v (get_or l a 0 / 64) && eqb d (get_or l a 0 % 64)) || has (facts_in l (a + 1) b) v d)
-      go (yes i) f =
-          let w = get_or l a 0 in
-          or_l (eqb v (w / 64) && eqb d (w % 64)) (has (facts_in l (a + 1) b) v d) (rw i (and_i (eqb (w / 64) (w / 64)) (eqb (w % 64) (w % 64)) (eqb_refl (w / 64)) (eqb_refl (w % 64))))
-      go (no i) f = or_r (eqb v (get_or l a 0 / 64) && eqb d (get_or l a 0 % 64)) (has (facts_in l (a + 1) b) v d) (f (omega arith) q)
+-- the numbers from place a up to place b
+module _ (l : List ℕ) (a b : ℕ) (p : a ≤ b) (q : b ≤ length l) where
+  abbrev part : List ℕ
+  part = take (b - a) (drop a l)
 
-  module _ (a b : ℕ) (p : a ≤ b) (q : b ≤ length l) where
-    at_has : (v d : ℕ) → T (has (facts_in l a b) v d) → (x : ℕ) × (a ≤ x) × (x < b) × (v ≡ get_or l x 0 / 64) × (d ≡ get_or l x 0 % 64)
-    at_has v d t = at_has' (b - a) a b v d (omega arith) q t
+  part_length : length part ≡ b - a
+  part_length = length-take-le (b - a) (drop a l) (omega (arith, length-drop a l))
 
-    has_at : (x : ℕ) → a ≤ x → x < b → T (has (facts_in l a b) (get_or l x 0 / 64) (get_or l x 0 % 64))
-    has_at x h g = has_at' (b - a) a b x (omega arith) q h g
+  part_at : (x : ℕ) → x < b - a → get_or part x 0 ≡ get_or l (a + x) 0
+  part_at x h = get_or-take (b - a) (drop a l) x 0 h ∙ get_or-drop a l x 0
 
-    pub holds_each : (s : State) → T (holds s (facts_in l a b)) → (x : ℕ) → a ≤ x → x < b → T (reaches s (get_or l x 0))
-    unfolding reaches
-    holds_each s t x h g = holds→sub s (facts_in l a b) t (get_or l x 0 / 64) (get_or l x 0 % 64) (has_at x h g)
+  has_at : (x : ℕ) → a ≤ x → x < b → T (has (facts_in l a b) (get_or l x 0 / 64) (get_or l x 0 % 64))
+  has_at x h g =
+      let e : a + (x - a) ≡ x = omega arith in
+      let z : get_or part (x - a) 0 ≡ get_or l x 0 = part_at (x - a) (omega arith) ∙ ap (λ y. get_or l y 0) e in
+      rw (← part_facts l a b p, ← z) (has_here part (x - a) (omega (arith, part_length)))
 
-    pub each_holds : (s : State) → ((x : ℕ) → a ≤ x → x < b → T (reaches s (get_or l x 0))) → T (holds s (facts_in l a b))
-    unfolding reaches
-    each_holds s f = sub→holds s (facts_in l a b) (λ v d t. let r = at_has v d t in go (get_or l r.0 0) v d r.3 r.4 (f r.0 r.1 r.2))
-      where
-        go : (y v d : ℕ) → v ≡ y / 64 → d ≡ y % 64 → T (s (y / 64) (y % 64)) → T (s v d)
-        go y v d p q t = rw (p, q) t
+  all_hold : (s : State) → ((x : ℕ) → a ≤ x → x < b → T (reaches s (get_or l x 0))) → T (holds s (facts_in l a b))
+  all_hold s f =
+      rw (← part_facts l a b p)
+      (each_holds s part (λ x h. let c : x < b - a = omega (arith, part_length) in rw (part_at x c) (f (a + x) (omega arith) (omega arith))))
 
 -- the facts from place k on, but for the one there
 pub has_less : (l : List ℕ) (k f : ℕ) → k < length l → f ≡ get_or l k 0 → (y : ℕ) → y ≢ f → T (reaches (has (facts_of (drop k l))) y) → T (reaches (has (facts_of (drop (k + 1) l))) y)
@@ -150,4 +136,4 @@ module _ (s : State) (task : List ℕ) (i k : ℕ) (D : Loaded task) (L : Listed
   unfolding action_in
   unmet_goes h =
       subst (λ (a : Action). T (holds s a.pre)) L.states
-      (each_holds task (pre_at task i) (eff_at task i) L.pre_below (omega (arith, L.eff_below, L.end_below)) s (λ x p q. P.passed x p (omega arith)))
+      (all_hold task (pre_at task i) (eff_at task i) L.pre_below (omega (arith, L.eff_below, L.end_below)) s (λ x p q. P.passed x p (omega arith)))
