@@ -124,10 +124,6 @@ module _ (s : List ℕ) (from count first : ℕ) (before task : List ℕ) (at lo
   filling_turn after r q m p h em ep R M =
       record { run = R; place = omega (arith, F.place, F.run.within); loaded = rw em (filling_more 4 after (omega arith) M) }
 
-  -- the same places as other terms
-  pub filling_at : (q m p : ℕ) → q ≡ at → m ≡ left → p ≡ to → Filling s from count first before task q low m p
-  filling_at q m p eq em ep = rw (eq, em, ep) F
-
   pub filling_last : (after : List ℕ) → FactsLoaded s at left to task after → FactsLoaded s from count first before after
   filling_last after M = let e : count - (left - left) ≡ count = omega arith in rw e at (filling_more left after (omega arith) M)
 

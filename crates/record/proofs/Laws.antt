@@ -96,15 +96,15 @@ pub false_not : false ≡ true → ⊥
 false_not e = let z : ◌≡◌ {A = ℕ} 0 1 = cc in absurd (omega arith)
 
 -- a field that is there, and one that is not
-pub field_there : (s : List ℕ) (p w : ℕ) → p + w ≤ 8 * length s → field_check s p w ≡ none
+field_there : (s : List ℕ) (p w : ℕ) → p + w ≤ 8 * length s → field_check s p w ≡ none
 unfolding field_check holds_field check
 field_there s p w h = rw (le-leb (p + w) (8 * length s) h) refl
 
-pub field_short : (s : List ℕ) (p w : ℕ) → 8 * length s < p + w → field_check s p w ≡ refuse 1 p
+field_short : (s : List ℕ) (p w : ℕ) → 8 * length s < p + w → field_check s p w ≡ refuse 1 p
 unfolding field_check holds_field check
 field_short s p w h = rw (lt-leb (p + w) (8 * length s) h) refl
 
-pub field_fits : (s : List ℕ) (p w : ℕ) → field_check s p w ≡ none → p + w ≤ 8 * length s
+field_fits : (s : List ℕ) (p w : ℕ) → field_check s p w ≡ none → p + w ≤ 8 * length s
 unfolding field_check holds_field
 field_fits s p w e = leb-true (p + w) (8 * length s) (check_true (leb (p + w) (8 * length s)) 1 p e)
 
@@ -601,7 +601,7 @@ pub count_above : (a b n p : ℕ) → b ≡ a → 1024 < a → check (leb b 1024
 unfolding check
 count_above a b n p e h = rw (e, lt-leb a 1024 h) refl
 
-pub count_right : (a b n p : ℕ) → b ≡ a → a ≤ 1024 → check (leb b 1024) n p ≡ none
+count_right : (a b n p : ℕ) → b ≡ a → a ≤ 1024 → check (leb b 1024) n p ≡ none
 unfolding check
 count_right a b n p e h = rw (e, le-leb a 1024 h) refl
 
@@ -619,7 +619,7 @@ range_wrong a b n p e h = elim h [
   | inr k ↦ range_high a b n p e k.0 k.1
 ]
 
-pub range_right : (a b n p : ℕ) → b ≡ a → 1 ≤ a → a ≤ 64 → check (leb 1 b && leb b 64) n p ≡ none
+range_right : (a b n p : ℕ) → b ≡ a → 1 ≤ a → a ≤ 64 → check (leb 1 b && leb b 64) n p ≡ none
 unfolding check
 range_right a b n p e l h = rw (e, le-leb 1 a l, le-leb a 64 h) refl
 
@@ -627,7 +627,7 @@ pub edition_wrong : (a b n p : ℕ) → b ≡ a → (a ≡ 1 → ⊥) → check 
 unfolding check
 edition_wrong a b n p e h = rw (e, ne_eqb a 1 h) refl
 
-pub edition_right : (a b n p : ℕ) → b ≡ a → a ≡ 1 → check (eqb b 1) n p ≡ none
+edition_right : (a b n p : ℕ) → b ≡ a → a ≡ 1 → check (eqb b 1) n p ≡ none
 unfolding check
 edition_right a b n p e h = rw (e, eq-eqb a 1 h) refl
 

@@ -15,7 +15,7 @@ use Rattle.laws.proofs.Fields.{bits_at_below, task_of_variables, task_of_actions
 use Rattle.laws.proofs.Formed.{parts, formed_of}
 use Rattle.task_size.specs.Size.{facts_of, facts_from, task_size, RoomIn}
 
-pub facts_of_le : (s : List ℕ) (p : ℕ) → facts_of s p ≤ 30
+facts_of_le : (s : List ℕ) (p : ℕ) → facts_of s p ≤ 30
 unfolding facts_of preconditions_in effects_in
 facts_of_le s p = omega (arith, bits_at_below s (p + 16) 4, bits_at_below s (p + 20) 4)
 
