@@ -89,7 +89,7 @@ fn idle(task: &[u16], v: usize, list: &[u16]) -> bool
 
 // The pass for the variable of fact f, its present one, over the list in front of place e. Where no entry needs the variable, the path
 // is written behind the list, asked for here as well so that `lead_to` stays small; else the list is moved to the end of the plan, and
-// the pass goes over it there.
+// the pass goes over it there. The plan is lent with the place, as what is behind it is written too.
 pub fn serve(
     arcs: &Arcs,
     memo: &mut [u16],

@@ -1,7 +1,7 @@
 -- Which variables moves need, and why leads stay right while nothing new of these is held: a path depends on the facts
 -- known by the usable arcs alone, and an arc of a black variable is given by an action that sets it.
 use mathlib.Core.Path.{◌≡◌, refl, sym, ap, ◌∙◌, subst, fun_ext}
-use mathlib.Core.Logic.{◌⊎◌, inl, inr, ◌≢◌}
+use mathlib.Core.Logic.{inl, inr, ◌≢◌}
 use mathlib.Core.Bool.{Bool, true, false, ◌&&◌, ◌||◌, or-false, or_assoc, and-false}
 use mathlib.Core.List.{List, [], ◌∷◌}
 use mathlib.Core.Option.{Option, none, some}
@@ -18,7 +18,7 @@ use Rattle.planning.specs.Repair.{usable_arc, best_below, behind, best_in, best_
 use Rattle.laws.proofs.Facts.{◌⊆◌, has_nil, has→touches, look_some, holds→sub, sub→holds}
 use Rattle.laws.proofs.Arcs.{reduced_elim}
 use Rattle.laws.proofs.Fields.{act_past}
-use Rattle.laws.proofs.Tests.{bool_same, or_l, or_r, or_cases, and_l, and_r, and_i}
+use Rattle.laws.proofs.Tests.{bool_same, or_l, or_r, or_cases, and_i}
 use Rattle.task.specs.Task.{fact_of, facts_of}
 use Rattle.sets.specs.Sets.{in_set}
 use Rattle.sets.proofs.Slices.{facts_of_drop, facts_of_end}
@@ -55,27 +55,6 @@ module _ (l : List ℕ) (k : ℕ) (h : length l ≤ k) where
   pub joined_end : (m v : ℕ) → (in_set m v || touches (facts_of (drop k l)) v) ≡ in_set m v
   unfolding touches
   joined_end m v = rw (facts_of_end l k h) (or-false (in_set m v))
-
--- one action more is covered
-module _ (t : Task) (i m r : ℕ) (C : Covers t i m) where
-  below : (j : ℕ) → j < i + 1 → Dec (j < i) → (j < i) ⊎ (j ≡ i)
-  below j h (yes l) = inl l
-  below j h (no l) = inr (omega arith)
-
-  abbrev asks : ℕ → ℕ → Bool
-  asks j v = any_black t (act t j).eff && touches (act t j).pre v
-
-  pub covers_black : ((v : ℕ) → in_set r v ≡ (in_set m v || touches (act t i).pre v)) → Covers t (i + 1) r
-  covers_black e j v h q = rw (e v) (elim (below j h (dec_lt j i)) [
-    | inl l ↦ or_l (in_set m v) (touches (act t i).pre v) (C j v l q)
-    | inr l ↦ or_r (in_set m v) (touches (act t i).pre v) (and_r (any_black t (act t i).eff) (touches (act t i).pre v) (subst (λ (x : ℕ). T (asks x v)) l q))
-  ])
-
-  pub covers_red : any_black t (act t i).eff ≡ false → Covers t (i + 1) m
-  covers_red e j v h q = elim (below j h (dec_lt j i)) [
-    | inl l ↦ C j v l q
-    | inr l ↦ absurd (subst T e (and_l (any_black t (act t i).eff) (touches (act t i).pre v) (subst (λ (x : ℕ). T (asks x v)) l q)))
-  ]
 
 -- paths with the same arcs
 module _ (act : ℕ → Action) (A : ℕ) (K L : State) (v n : ℕ) (same : (c i : ℕ) → usable_arc act K v c i ≡ usable_arc act L v c i) where

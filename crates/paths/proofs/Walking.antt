@@ -88,9 +88,6 @@ module _ (t : Task) (F : Formed t) (K : State) (v d : ℕ) where
           let z : l % 64 ≡ target (act t) v i = omega (arith, e, F.count_max v) in
           record { below = rw a o.below; there = rw z m; rest = q ∙ rw (a, z) (ap (λ (r : List ℕ). i ∷ r) (sym o.rest)) }
 
-  pub walking_start : (c at : ℕ) (d₀ : List ℕ) (l : ℕ) → at ≤ length d₀ → c < n → l ≡ lead_to t K v d c → Walking t K v d c at d₀ d₀ c at l
-  walking_start c at d₀ l w b e = record { within = w; long = refl; inside = b; is_lead = e; so_far = refl; counts = refl }
-
   module _ (c at : ℕ) (d₀ dd : List ℕ) (x e l : ℕ) (W : Walking t K v d c at d₀ dd x e l) where
     pub walking_end : l % 64 ≡ x → Put d₀ dd at (Path' c) (Some e)
     walking_end q =

@@ -14,7 +14,7 @@ ghost use Rattle.paths.specs.Paths.{paths_of, lead_by, few_values, slot, Memo, L
 use search::Arcs;
 
 // The memo has a mark for each of 64 slots, and behind them 64 leads for each value, one a slot: for 15 values where no variable has more, else
-// for 64. The leads of a variable to one value are in one slot.
+// for 64. The leads of a variable to one value are in one slot. A mark is a variable + 1, 0 for none: fixed memory, with no room for options.
 pub const SMALL: usize = 1024;
 
 pub const LARGE: usize = 4160;
@@ -32,10 +32,10 @@ pub fn has_few_values(task: &[u16]) -> bool
     true
 }
 
-// The label of a value that no path was found from.
+// The label of a value that no path was found from: a number, as labels lie in one array and the lesser one is the better.
 const UNREACHED: u64 = 18446744073709551615;
 
-// The lead of c by its label, unknown if c is open.
+// The lead of c by its label, unknown if c is open: a number of the memo, where an option has no room.
 fn lead(l: u64, c: usize, rest: u64) -> u16
     requires { c < 64 }
     ensures { result ≡ lead_by (in_set rest c) l c }
@@ -86,7 +86,7 @@ fn prepare(arcs: &Arcs, memo: &mut [u16], v: usize, c: usize, d: usize, k: usize
     towards(arcs, memo, v, c, d, k, begun);
 }
 
-// The path of v from c to d (6.7), written into the list from place `at` on.
+// The path of v from c to d (6.7), written into the list from place `at` on. v, c and d stay apart: a pass has them so.
 pub fn path(
     arcs: &Arcs,
     memo: &mut [u16],

@@ -12,15 +12,12 @@ use counts::Counts;
 use search::Arcs;
 use state::State;
 
+// A plan, or why there is none.
+type Planned = Result<Plan, Refusal>;
+
 // The repair from the initial state in one pass: where every step placed is taken the next stage is placed behind them, else the next
 // step is taken. Where the effects of its action are held the next states have the same sets, and plain steps behind it are taken too.
-fn walk(
-    task: &[u16],
-    list: &[u16],
-    plan: &mut [u16],
-    marks: &mut [u8],
-    memo: &mut [u16],
-) -> Result<Plan, Refusal>
+fn walk(task: &[u16], list: &[u16], plan: &mut [u16], marks: &mut [u8], memo: &mut [u16]) -> Planned
     requires { Repairable task.now list.now × (length plan.old ≤ 32768) × (length marks.old ≡ length plan.old) × EmptyMemo (task_in task.now) memo.old }
     ensures { Held (task_in task.now) list.now plan.new marks.new (length plan.old) result }
 {
@@ -33,9 +30,9 @@ fn walk(
     let mut j: usize = 0;
     // Stages and steps are taken in turn, so that no range tells the turns.
     while c.steps < at || j <= list.len() {
+        let ever = &s.sets;
+        let arcs = Arcs { task, ever };
         if c.steps == at {
-            let ever = &s.sets;
-            let arcs = Arcs { task, ever };
             let Some(w) = stages::stage(&arcs, &s.newest.values, memo, &list[j..], plan, at) else {
                 return Err(counts::too_long(plan.len()));
             };
@@ -53,8 +50,6 @@ fn walk(
             continue;
         }
         c = counts::counted(task, &s.newest.values, i, c);
-        let ever = &s.sets;
-        let arcs = Arcs { task, ever };
         leads::refresh(&arcs, memo, i, needs);
         s = s.step(task, i);
     }
@@ -62,12 +57,7 @@ fn walk(
 }
 
 // The same with a memo of its own, which is small where no variable has many values: two lengths in two lines each, as in `forward`.
-fn repair_in(
-    task: &[u16],
-    list: &[u16],
-    plan: &mut [u16],
-    marks: &mut [u8],
-) -> Result<Plan, Refusal>
+fn repair_in(task: &[u16], list: &[u16], plan: &mut [u16], marks: &mut [u8]) -> Planned
     requires { Repairable task.now list.now × (length plan.old ≤ 32768) × (length marks.old ≡ length plan.old) }
     ensures { Held (task_in task.now) list.now plan.new marks.new (length plan.old) result }
 {
@@ -87,7 +77,7 @@ pub fn repair(
     plan: &mut [u16],
     work: &[u16],
     marks: &mut [u8],
-) -> Result<Plan, Refusal>
+) -> Planned
     requires { Repairable task.now relaxed.now }
     ensures { Held (task_in task.now) relaxed.now plan.new marks.new (room_in plan.old work.now marks.old) result }
 {

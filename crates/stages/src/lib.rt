@@ -53,7 +53,8 @@ fn black_met(task: &[u16], newest: &[u8; 64], facts: &[u16]) -> bool
     true
 }
 
-// The passes of the black variables in their order: moves for the wanted facts, in the front of a list.
+// The passes of the black variables in their order: moves for the wanted facts, in the front of a list. The newest values stay beside the
+// arcs, as a pass takes these alone.
 fn fill(
     arcs: &Arcs,
     newest: &[u8; 64],

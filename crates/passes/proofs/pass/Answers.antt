@@ -3,12 +3,12 @@ use Rattle.std.specs.Prelude.{None, Some}
 use lib.ListN.{drop}
 use lib.Seq.{length-take-le}
 use Rattle.laws.proofs.Fill.{asked_for_one}
-use Rattle.task.specs.Goals.{option_of}
 use Rattle.task.specs.Task.{facts_of, task_in}
 use Rattle.sets.specs.Sets.{sets_of}
 use Rattle.asking.proofs.Putting.{asked_as, asked_fits, pre_fitting}
 use Rattle.passes.specs.Passes.{served}
 use Rattle.passes.proofs.Passing.{passing_entry, passing_end, tally_end, Led, led_long, led_turn, led_tally}
+use Rattle.task.specs.Goals.{option_of}
 use Rattle.passes.proofs.pass.Goals as goal
 use Rattle.passes.proofs.pass.Goals.{After-lead_to}
 

@@ -1,17 +1,17 @@
 -- Where no entry needs the variable, the pass is the list and the path behind it; else it is the pass over the same list at the end.
-use Rattle.std.proofs.Common.{◌≡◌, List, ℕ, ◌/◌, ◌%◌, true, take, arith, sym, ◌∙◌, subst}
+use Rattle.std.proofs.Common.{◌≡◌, List, ℕ, ◌/◌, ◌%◌, true, take, sym, ◌∙◌}
 use Rattle.std.specs.Prelude.{Option, None, Some}
 use Rattle.planning.specs.Runs.{act}
 use Rattle.planning.specs.Repair.{toward, pass_searches}
-use Rattle.task.specs.Goals.{option_of}
 use Rattle.task.specs.Task.{facts_of, task_in}
 use Rattle.sets.specs.Sets.{sets_of}
 use Rattle.paths.specs.Paths.{paths_of}
 use Rattle.paths.proofs.Walking.{path_none}
-use Rattle.asking.specs.Asking.{written_in, Searched, Put}
-use Rattle.asking.proofs.Putting.{asked_fits, lead_none, lead_same, lead_some}
+use Rattle.asking.specs.Asking.{Put}
+use Rattle.asking.proofs.Putting.{lead_none, lead_same, lead_some}
 use Rattle.passes.specs.Passes.{served_in, unasked}
-use Rattle.passes.proofs.Serving.{served_behind, served_counts, served_moved}
+use Rattle.passes.proofs.Serving.{served_behind, served_counts}
+use Rattle.task.specs.Goals.{option_of}
 use Rattle.passes.proofs.serve.Goals as goal
 use Rattle.passes.proofs.serve.Goals.{After-asked_for-searches}
 
@@ -31,10 +31,6 @@ counts_behind : (k : After-asked_for-searches) → let a = k.args in k.asked_for
 counts_behind k =
     let a = k.args in
     k.asked_for-searches.ensures ∙ served_counts (task_in a.arcs.now.task.now) (a.f / 64) _ (facts_of a.want.now) (idle_there k) _ k.asked-d.ensures
-
-pub path-requires-clause-c_bound : goal.path-requires-clause-c_bound
-path-requires-clause-c_bound c =
-    (c.requires.f_bound.0, rw c.in-Some.is at (asked_fits _ _ c.requires.f_bound.1 _ _ c.asked-d.ensures), c.requires.e_in_bounds.0)
 
 pub returns-in_err-end-in-Some-clause-put : goal.returns-in_err-end-in-Some-clause-put
 returns-in_err-end-in-Some-clause-put c =
@@ -71,17 +67,3 @@ returns-in_default-2-clause-put c =
 
 pub returns-in_default-2-clause-searched : goal.returns-in_default-2-clause-searched
 returns-in_default-2-clause-searched c = counts_behind (goal.at.returns-in_default-2-clause-searched c).After-asked_for-searches
-
-pub pass-requires-clause-at_in_bounds : goal.pass-requires-clause-at_in_bounds
-pass-requires-clause-at_in_bounds c = let m = c.to_end-at.ensures in (omega (arith, m.0, c.to_end-at.auto.d), rw m.1 c.requires.e_in_bounds.1)
-
-pub returns-clause-put : goal.returns-clause-put
-returns-clause-put c =
-    let a = c.args in
-    served_moved (task_in a.arcs.now.task.now) (sets_of a.arcs.now.ever.now) (a.f / 64) (a.f % 64) a.plan.now a.e (facts_of a.want.now) _ c.to_end-at.result c.to_end-at.auto.d
-    c.to_end-at.ensures.1 _ (written_in c.pass.result) c.pass.ensures.put
-
-pub returns-clause-searched : goal.returns-clause-searched
-returns-clause-searched c =
-    let a = c.args in
-    subst (λ l. Searched (pass_searches (act (task_in a.arcs.now.task.now)) (a.f / 64) l (facts_of a.want.now)) c.pass.result) c.to_end-at.ensures.1 c.pass.ensures.searched

@@ -7,7 +7,7 @@ use Rattle.task.specs.Links.{Prepared}
 use Rattle.sets.specs.Sets.{sets_of}
 use Rattle.paths.specs.Paths.{slot, unknown, Leads, lead_in, lead_to, Memo, Leading}
 use Rattle.paths.proofs.Memos.{memo_lead, slot_below, leading_leads}
-use Rattle.paths.proofs.Walking.{walking_start, walking_move, walking_long, walking_less, walking_turn, walking_end}
+use Rattle.paths.proofs.Walking.{walking_move, walking_long, walking_less, walking_turn, walking_end}
 use Rattle.paths.proofs.path.Goals as goal
 use Rattle.paths.proofs.path.Goals.{After-prepare}
 
@@ -56,22 +56,10 @@ slot-k-requires c =
 pub bounds-memo-x : goal.bounds-memo-x
 bounds-memo-x c = inside (ready (goal.at.bounds-memo-x c).After-prepare) c.args.c c.requires.c_bound.0
 
-pub loop-l-init : goal.loop-l-init
-loop-l-init c =
-    let R = ready (goal.at.loop-l-init c).After-prepare in
-    let p = c.requires.c_bound in
-    (walking_start _ (formed R) _ _ _ _ _ _ _ p.2 p.0 (c.from-l.ensures ∙ ((leads R).0 c.args.c p.0 (leads R).1).0), (leads R).1)
-
 pub returns-then-e-list-clause-put : goal.returns-then-e-list-clause-put
 returns-then-e-list-clause-put c =
     let R = ready (goal.at.returns-then-e-list-clause-put c).After-prepare in
     walking_long _ (formed R) _ _ _ _ _ _ _ _ _ _ c.loop-l.invariant.0 (λ q. omega (arith, q)) (omega (arith, c.loop-l.invariant.0.long))
-
-pub overflow_cast-list : goal.overflow_cast-list
-overflow_cast-list c =
-    let R = ready (goal.at.overflow_cast-list c).After-prepare in
-    let m = (walking_move _ (formed R) _ _ _ _ _ _ _ _ _ _ c.loop-l.invariant.0 (λ q. omega (arith, q))).below in
-    record { fits = omega (arith, m, (formed R).actions_max) }
 
 pub bounds-memo-x-in-loop-l : goal.bounds-memo-x-in-loop-l
 bounds-memo-x-in-loop-l c =

@@ -57,6 +57,12 @@ loop-c-init c =
     let z = c.default-c.ensures in
     (rw (none_counted _ _ _ z.0 z.1.0 z.1.1) (repairing_start _ _ _ _ _ _ _ (p.3 _) e.sets_value e.values_after p.2), plain_none _ _ _ refl)
 
+pub stage-requires-clause-prepared : goal.stage-requires-clause-prepared
+stage-requires-clause-prepared c =
+    let G = c.loop-c.invariant.0 in
+    let entries = rest_entries c.args.list.now c.loop-c.j (here_of (goal.at.stage-requires-clause-prepared c).Then-c-at-2) (task_in c.args.task.now) c.requires.0.entries in
+    (c.requires.0.prepared, entries, repairing_within G, omega (arith, G.long, c.requires.1))
+
 pub returns-in_default : goal.returns-in_default
 returns-in_default c =
     let k = goal.at.returns-in_default c in

@@ -2,9 +2,6 @@ use Rattle.std.proofs.Common.{sym, ◌∙◌}
 use Rattle.leads.proofs.Holding.{met_fails, met_passes, met_end}
 use Rattle.stages.proofs.black_met.Goals as goal
 
-pub unmet-requires : goal.unmet-requires
-unmet-requires c = (c.requires.0, rw c.from.ensures (c.requires.1.inside c.loop-f.f-index c.loop-f-test.true))
-
 pub returns-then-unmet : goal.returns-then-unmet
 returns-then-unmet c = sym (c.loop-f.invariant ∙ met_fails _ _ c.loop-f-test.true _ _ _ c.from.ensures (sym c.unmet.ensures ∙ c.if-unmet.true))
 
