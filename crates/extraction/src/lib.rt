@@ -30,7 +30,7 @@ fn want(wanted: &mut [u64; 16], first: &[u16; 4096], facts: &[u16])
 }
 
 // The kept actions of the run, which stands in the front of `plan`, in their old order, in the same list from the answer on: they come
-// from its end, and no place is written before it is read. The facts are the goals.
+// from its end, and no place is written before it is read: one list for both (fixed memory). The facts are the goals.
 pub fn keep_back(
     task: &[u16],
     first: &[u16; 4096],

@@ -18,7 +18,7 @@ pub fn run_forward(task: &[u16], plan: &mut [u16; 1024]) -> Ran
 {
     let mut order = [0u16; 1024];
     ranking::by_cost(task, &mut order);
-    // A function of the length would be longer than the two lines of either list.
+    // Two lists, each in its branch, as their lengths differ: a function of the length would be longer than the two lines of either.
     if task::variables(task) <= 16 {
         let mut work = [65535u16; waiting::FEW];
         return forward_run::run_by(task, &order, &mut work, plan);
@@ -60,7 +60,8 @@ fn forward_loaded(task: &[u16], plan: &mut [u16]) -> Result<Run, Refusal>
     Err(f)
 }
 
-// The forward run of a record, in the plan list.
+// The forward run of a record, in the plan list. `relax::relax` has the same lines: one function for both would take the closure and say
+// in its clauses what either closure promises, which is longer.
 pub fn forward(bytes: &[u8], plan: &mut [u16]) -> Result<Run, Refusal>
     ensures { (found_of result ≡ forward_call bytes.now (length plan.old)) × (plan.new ≡ forward_list bytes.now (length plan.old)) }
 {

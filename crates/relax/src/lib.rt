@@ -13,7 +13,8 @@ ghost use Rattle.relax.specs.Answers.{relax_of, relax_in};
 use answers::{Reason, Refusal};
 use state::Goals;
 
-// The relaxed plan in the front of `plan`, where the forward run stands before; `first` holds 65,535 before.
+// The relaxed plan in the front of `plan`, where the forward run stands before: one list for both (fixed memory). `first` holds 65,535
+// before.
 fn keep_run(task: &[u16], first: &mut [u16; 4096], n: usize, plan: &mut [u16; 1024]) -> u32
     requires { Replay task.now plan.old n × (first.old ≡ replicate 4096 65535) }
     ensures { Front (task_in task.now) plan.new result }
