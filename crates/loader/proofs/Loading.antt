@@ -120,9 +120,9 @@ module _ (s : List ℕ) (from count first : ℕ) (before task : List ℕ) (at lo
       let M' = rw (p, F.place) at M in
       facts_more s from (count - left) m (count - (left - m)) first before task after F.loaded M' (omega arith)
 
-  pub filling_turn : (after : List ℕ) (r q m p : ℕ) → 4 < left → m ≡ left - 4 → p ≡ to + 4 → Run s from count q r m → FactsLoaded s at 4 to task after → Filling s from count first before after q r m p
-  filling_turn after r q m p h em ep R M =
-      record { run = R; place = omega (arith, F.place, F.run.within); loaded = rw em (filling_more 4 after (omega arith) M) }
+  pub filling_turn : (after : List ℕ) (r : ℕ) → 4 < left → Run s from count (at + 48) r (left - 4) → FactsLoaded s at 4 to task after
+      → Filling s from count first before after (at + 48) r (left - 4) (to + 4)
+  filling_turn after r h R M = record { run = R; place = omega (arith, F.place, F.run.within); loaded = filling_more 4 after (omega arith) M }
 
   pub filling_last : (after : List ℕ) → FactsLoaded s at left to task after → FactsLoaded s from count first before after
   filling_last after M = let e : count - (left - left) ≡ count = omega arith in rw e at (filling_more left after (omega arith) M)

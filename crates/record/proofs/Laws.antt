@@ -286,10 +286,10 @@ run_start s from count = record { within = omega arith; place = refl; checks = r
 
 module _ (s : List ℕ) (from count at low left w : ℕ) (counts : List ℕ) (I : Run s from count at low left) (L : Leading s at w)
     (there : from + 12 * count ≤ 8 * length s) (C : Counts s counts (variables_in s)) where
-  pub run_turn : (r q m : ℕ) → 4 < left → q ≡ at + 48 → m ≡ left - 4 → Few w 4 low counts r → Run s from count q r m
-  run_turn r q m h eq em F =
+  pub run_turn : (r : ℕ) → 4 < left → Few w 4 low counts r → Run s from count (at + 48) r (left - 4)
+  run_turn r h F =
       let e : left ≡ 4 + (left - 4) = omega arith in
-      rw (eq, em) record {
+      record {
         within = omega (arith, I.within);
         place = omega (arith, I.place);
         checks = I.checks ∙ (ap (λ (x : ℕ). in_order (facts_checks s at low x)) e ∙ F.passes s at (left - 4) L (omega (arith, I.place)) C);
@@ -309,9 +309,6 @@ module _ (s : List ℕ) (from count at low left w : ℕ) (counts : List ℕ) (I 
   run_stop n h U e =
       let q : n + (left - n) ≡ left = omega arith in
       U.refuses s at (left - n) L (omega (arith, I.place)) C (ap (λ (x : ℕ). in_order (facts_checks s at low x)) q ∙ (sym I.checks ∙ e))
-
-pub run_at : (s : List ℕ) (from count p low left q m : ℕ) → Run s from count p low left → q ≡ p → m ≡ left → Run s from count q low m
-run_at s from count p low left q m I eq em = rw (eq, em) I
 
 pub run_none : (s : List ℕ) (from count at low left : ℕ) → Run s from count at low left → left ≡ 0 → in_order (facts_checks s from 0 count) ≡ none
 unfolding facts_checks in_order

@@ -1,7 +1,6 @@
 -- Where the test of a window fails, one of its facts does not pass.
 use Rattle.record.proofs.Laws.{run_turn, run_last, run_none, run_stop}
 use Rattle.loader.proofs.Loading.{filling_turn, filling_last, filling_done, facts_few}
-use mathlib.Core.Path.{refl}
 use native.Mathlib.Omega.{arith}
 use Rattle.loader.proofs.load_facts.Goals as goal
 
@@ -18,8 +17,7 @@ loop-left-preserved c =
     let n = F.loaded.long in
     let w = c.window_at-window.ensures in
     let e = c.spread.ensures in
-    filling_turn _ _ _ _ _ _ _ _ _ _ F _ _ _ _ _ (omega arith) refl refl
-    (run_turn _ _ _ _ _ _ _ _ F.run w P.0.bits P.1 _ _ _ (omega arith) refl refl c.in_ok-low.ensures)
+    filling_turn _ _ _ _ _ _ _ _ _ _ F _ _ (omega arith) (run_turn _ _ _ _ _ _ _ _ F.run w P.0.bits P.1 _ (omega arith) c.in_ok-low.ensures)
     (rw c.put_four.ensures (facts_few _ _ 4 _ _ _ _ _ _ _ w (omega arith) (omega (arith, P.0.bits)) (omega (arith, P.0.room, F.place, F.run.within)) e.0 e.1 e.2 e.3))
 
 pub returns-then-left-eq0 : goal.returns-then-left-eq0
