@@ -60,6 +60,7 @@ pub fn all_hold<S: Holding>(state: &S, facts: &[u16]) -> bool
     requires { AllFacts facts.now }
     ensures { result ≡ holds (S.state state.now) (facts_of facts.now) }
 {
+    // A `for`: the closure of `all` would need a clause that its fact is below 4,096.
     for f in facts {
         if !state.holds(usize::from(*f)) {
             return false;

@@ -49,6 +49,7 @@ pub fn judge_relaxed(task: &[u16], list: &[u16], start: State, from: usize) -> V
     ensures { judged_of result ≡ judged (task_in task.now) relaxed list.now }
 {
     let mut s = start;
+    // By index: k is the step, for which the proof has no name where an iterator skips the first ones.
     for k in from..list.len() {
         let i = usize::from(list[k]);
         if !applying::applies(&s.sets, task, i) {
