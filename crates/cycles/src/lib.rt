@@ -2,7 +2,7 @@
 // if it has a way to itself.
 #![tactic(auto)]
 
-ghost use Rattle.std.specs.Prelude.{◌≡◌, ◌||◌, ◌&&◌, ◌<◌, ◌≤◌, length};
+ghost use Rattle.std.specs.Prelude.{◌≡◌, ◌||◌, ◌&&◌, ◌<◌, ◌≤◌};
 ghost use Rattle.planning.specs.Basics.{first};
 ghost use Rattle.planning.specs.Painting.{black_arc, cyclic};
 ghost use Rattle.task.specs.Task.{task_in, Loaded};
@@ -25,7 +25,7 @@ fn extended(row: u64, k: usize, onward: u64) -> u64
 
 // Ways through k.
 fn join_at(rows: &mut [u64; 64], n: usize, k: usize)
-    requires { (n ≤ 64) × (k < n) × (length rows.old ≡ 64) × StartBelow n (sets_of rows.old) }
+    requires { (n ≤ 64) × (k < n) × StartBelow n (sets_of rows.old) }
     ensures { Rows rows.new (through k (sets_of rows.old)) }
 {
     let onward = rows[k];

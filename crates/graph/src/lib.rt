@@ -1,7 +1,7 @@
 // The black causal graph as 64 sets, one a variable: bit v of row u is the arc from u to v.
 #![tactic(auto)]
 
-ghost use Rattle.std.specs.Prelude.{◌≡◌, ◌||◌, ◌&&◌, not, ℕ, ◌/◌, ◌%◌, ◌<◌, eqb, length};
+ghost use Rattle.std.specs.Prelude.{◌≡◌, ◌||◌, ◌&&◌, not, ℕ, ◌/◌, ◌%◌, ◌<◌, eqb};
 ghost use Rattle.planning.specs.Runs.{has, touches, actions, act, black};
 ghost use Rattle.planning.specs.Painting.{reduced_effects, black_arc};
 ghost use Rattle.task.specs.Task.{facts_of, task_in, AllFacts, Loaded};
@@ -47,7 +47,7 @@ fn joined(row: u64, targets: u64, u: usize, paint: u64) -> u64
 
 // Arcs from each black variable of the facts.
 fn add_arcs(rows: &mut [u64; 64], facts: &[u16], targets: u64, paint: u64)
-    requires { AllFacts facts.now × (length rows.old ≡ 64) }
+    requires { AllFacts facts.now }
     ensures { Rows rows.new (λ u v. sets_of rows.old u v || (touches (facts_of facts.now) u && ((in_set paint u && not (eqb u v)) && in_set targets v))) }
 {
     for f in facts {
@@ -58,7 +58,7 @@ fn add_arcs(rows: &mut [u64; 64], facts: &[u16], targets: u64, paint: u64)
 
 // The arcs of action i: from the black variables that it mentions to those that it changes.
 fn add_action(rows: &mut [u64; 64], task: &[u16], i: usize, paint: u64)
-    requires { Loaded task.now × (i < actions (task_in task.now)) × (length rows.old ≡ 64) }
+    requires { Loaded task.now × (i < actions (task_in task.now)) }
     ensures { Rows rows.new (with_action (mode_of paint) (act (task_in task.now) i) (sets_of rows.old)) }
 {
     let targets = changed(task, i, paint);

@@ -6,7 +6,7 @@ use Rattle.graph.proofs.add_arcs.Goals as goal
 
 pub loop-f-preserved : goal.loop-f-preserved
 loop-f-preserved c =
-    let small : c.from-u.result < 4096 = omega (arith, c.requires.0 c.loop-f.f-index) in
+    let small : c.from-u.result < 4096 = omega (arith, c.requires c.loop-f.f-index) in
     adding_turn _ _ _ _ _ _ c.loop-f.invariant c.loop-f-test.true _ _ _ c.from-u.ensures small refl c.joined.ensures
 
 pub returns : goal.returns
