@@ -1,4 +1,3 @@
-mod Rows
 pub mod Reading
 pub mod Relinking
 pub mod Slices
