@@ -4,19 +4,19 @@ use mathlib.Core.Path.{◌≡◌, refl, sym, ap, ◌∙◌}
 use mathlib.Core.Logic.{◌≢◌}
 use mathlib.Core.Bool.{Bool, true, false, and-false}
 use mathlib.Core.List.{List, [], ◌∷◌, ◌++◌}
-use Prim.Native.Nat.{ℕ, ◌+◌, ◌/◌, ◌%◌, ◌<◌}
+use Prim.Native.Nat.{ℕ, ◌+◌, ◌<◌}
 use native.Mathlib.Omega.{arith}
 use native.Mathlib.Decide.{ℕ_discrete}
 use borrow.Author.Tests.{eq-eqb, ne_eqb}
 use lib.Dec.{eqb}
-use lib.ListN.{length, get_or}
+use lib.ListN.{length}
 use Rattle.planning.specs.Record.{Task}
 use Rattle.planning.specs.Runs.{State, holds, step, real, act, initial, run, steps_run, steps_by}
 use Rattle.planning.specs.Newest.{Values, alone}
 use Rattle.laws.proofs.Formed.{Formed}
 use Rattle.laws.proofs.Prefixes.{steps_by_le, steps_by_on, steps_by_fails, steps_by_stopped}
 use Rattle.laws.proofs.Newest.{newest_after, real_applies}
-use Rattle.sets.specs.Sets.{values_of, further}
+use Rattle.sets.specs.Sets.{further}
 
 module _ (n k : ℕ) where
   pub further_stopped : (b : Bool) → n ≢ k → n ≡ further b n k
