@@ -7,7 +7,7 @@ ghost use Rattle.planning.specs.Runs.{relaxed, step, actions, act};
 ghost use Rattle.planning.specs.Repair.{black_met};
 ghost use Rattle.task.specs.Task.{task_in, Loaded};
 ghost use Rattle.sets.specs.Sets.{sets_of, mode_of};
-ghost use Rattle.paths.specs.Paths.{Memo, Covers};
+ghost use Rattle.paths.specs.Paths.{Memo, MemoOf, Covers};
 ghost use Rattle.leads.specs.Leads.{Blank};
 
 use search::Arcs;
@@ -44,7 +44,7 @@ fn adds_none(arcs: &Arcs, i: usize, set: u64) -> bool
 // Before action i is applied to the facts held ever: the leads are forgotten if a move may become usable by it.
 pub fn refresh(arcs: &Arcs, memo: &mut [u16], i: usize, needs: u64)
     requires loaded { Loaded arcs.now.task.now × (i < actions (task_in arcs.now.task.now)) × Covers (task_in arcs.now.task.now) (actions (task_in arcs.now.task.now)) needs }
-    requires memo { Memo (task_in arcs.now.task.now) (sets_of arcs.now.ever.now) memo.old }
+    requires memo { MemoOf arcs.now memo.old }
     ensures { Memo (task_in arcs.now.task.now) (step relaxed (act (task_in arcs.now.task.now) i) (sets_of arcs.now.ever.now)) memo.new }
 {
     if !adds_none(arcs, i, needs) {

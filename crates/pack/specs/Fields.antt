@@ -2,6 +2,10 @@
 use Rattle.std.specs.Prelude.{◌≡◌, ℕ, suc, ◌+◌, ◌*◌, ◌/◌, ◌%◌, ◌^◌, ◌<◌, List, [], ◌∷◌, ◌++◌, get_or, drop}
 use Rattle.planning.specs.Sheet.{bits_of, mark_of}
 
+-- each is a step that a sheet can hold
+abbrev pub AllSteps : List ℕ → Type 0
+AllSteps l = (k : ℕ) → get_or l k 0 < 1024
+
 -- the steps of l, each behind its mark in a sheet of edition e
 unfoldable pub entries : ℕ → List ℕ → List ℕ → List ℕ
 entries e [] ms = []

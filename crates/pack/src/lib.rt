@@ -5,7 +5,7 @@
 ghost use Rattle.std.specs.Prelude.{◌≡◌, List, ◌++◌, ℕ, suc, ◌+◌, ◌-◌, ◌*◌, ◌/◌, ◌%◌, ◌^◌, ◌<◌, ◌≤◌, length, get_or};
 ghost use Rattle.planning.specs.Basics.{one_if};
 ghost use Rattle.planning.specs.Sheet.{bits_of, mark_of};
-ghost use Rattle.pack.specs.Fields.{entries, four_of, FourAt, halves_of, FourTops};
+ghost use Rattle.pack.specs.Fields.{AllSteps, entries, four_of, FourAt, halves_of, FourTops};
 
 // The 53 bits before the steps as one number.
 pub fn front(mark: usize, count: u16, cost: u32, real: bool) -> u64
@@ -29,7 +29,7 @@ fn mark_at<const MARK: usize>(marks: &[u8], i: usize) -> u64
 
 // Step i behind its mark as one number, 0 behind the list.
 fn entry_at<const MARK: usize>(list: &[u16], marks: &[u8], i: usize) -> u64
-    requires { (MARK ≤ 1) × ((k : ℕ) → get_or list.now k 0 < 1024) }
+    requires { (MARK ≤ 1) × AllSteps list.now }
     ensures value { result ≡ get_or (entries (suc MARK) list.now marks.now) i 0 }
     ensures upper_bound { result < 1024 * (MARK + 1) }
 {
@@ -49,7 +49,7 @@ fn four(a: u64, b: u64, c: u64, d: u64, width: usize) -> u64
 
 // Four entries from i on as one number, wherever list and marks end.
 fn any_four<const MARK: usize>(list: &[u16], marks: &[u8], i: usize) -> u64
-    requires { (MARK ≤ 1) × (i ≤ 40000) × ((k : ℕ) → get_or list.now k 0 < 1024) }
+    requires { (MARK ≤ 1) × (i ≤ 40000) × AllSteps list.now }
     ensures { FourAt MARK list.now marks.now i result }
 {
     four(
@@ -70,7 +70,7 @@ pub struct Eight {
 
 // The eight entries from i on, wherever list and marks end.
 pub fn any_eight<const MARK: usize>(list: &[u16], marks: &[u8], i: usize) -> Eight
-    requires { (MARK ≤ 1) × (i ≤ 32768) × ((k : ℕ) → get_or list.now k 0 < 1024) }
+    requires { (MARK ≤ 1) × (i ≤ 32768) × AllSteps list.now }
     ensures { FourAt MARK list.now marks.now i result.first × FourAt MARK list.now marks.now (i + 4) result.second }
 {
     Eight {
@@ -81,7 +81,7 @@ pub fn any_eight<const MARK: usize>(list: &[u16], marks: &[u8], i: usize) -> Eig
 
 // Four steps from i on as one number, without their marks.
 fn steps_at(list: &[u16], i: usize, width: usize) -> u64
-    requires { (10 ≤ width) × (width ≤ 11) × (i + 4 ≤ length list.now) × ((k : ℕ) → get_or list.now k 0 < 1024) }
+    requires { (10 ≤ width) × (width ≤ 11) × (i + 4 ≤ length list.now) × AllSteps list.now }
     ensures { (result ≡ four_of width list.now i) × (result < 2 ^ (4 * width)) }
 {
     four(
@@ -127,7 +127,7 @@ fn moved(x: u64) -> u64
 
 // The eight entries from i on of a list that has them, quickly where no mark is missing.
 pub fn eight_at<const MARK: usize>(list: &[u16], marks: &[u8], i: usize) -> Eight
-    requires { (MARK ≤ 1) × (i + 8 ≤ length list.now) × (length list.now ≤ 32768) × ((k : ℕ) → get_or list.now k 0 < 1024) }
+    requires { (MARK ≤ 1) × (i + 8 ≤ length list.now) × (length list.now ≤ 32768) × AllSteps list.now }
     ensures { FourAt MARK list.now marks.now i result.first × FourAt MARK list.now marks.now (i + 4) result.second }
 {
     if MARK == 0 {

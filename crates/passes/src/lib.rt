@@ -9,7 +9,7 @@ ghost use Rattle.task.specs.Goals.{option_of};
 ghost use Rattle.task.specs.Task.{facts_of, task_in, Loaded};
 ghost use Rattle.task.specs.Links.{Prepared};
 ghost use Rattle.sets.specs.Sets.{sets_of};
-ghost use Rattle.paths.specs.Paths.{paths_of, Memo};
+ghost use Rattle.paths.specs.Paths.{paths_of, MemoOf};
 ghost use Rattle.entries.specs.Entries.{Entries};
 ghost use Rattle.asking.specs.Asking.{Fitting, Fits, written_in, Searched, Put};
 ghost use Rattle.passes.specs.Passes.{served_in, served_searches_in, unasked};
@@ -27,10 +27,10 @@ fn lead_to(
     list: &mut [u16],
     at: usize,
 ) -> Option<usize>
-    requires prepared { Prepared arcs.now.task.now × T (black (task_in arcs.now.task.now) v) × Memo (task_in arcs.now.task.now) (sets_of arcs.now.ever.now) memo.old }
+    requires prepared { Prepared arcs.now.task.now × T (black (task_in arcs.now.task.now) v) × MemoOf arcs.now memo.old }
     requires c_bound { (c < count (task_in arcs.now.task.now) v) × Fits (count (task_in arcs.now.task.now) v) d × (at ≤ length list.old) }
     ensures put { Put list.old list.new at (toward (paths_of (task_in arcs.now.task.now) (sets_of arcs.now.ever.now) v) c (option_of d)) result }
-    ensures memo { Memo (task_in arcs.now.task.now) (sets_of arcs.now.ever.now) memo.new }
+    ensures memo { MemoOf arcs.now memo.new }
 {
     match d {
         Some(d) if d != c => paths::path(arcs, memo, v, c, d, list, at),
@@ -48,11 +48,11 @@ fn pass(
     plan: &mut [u16],
     at: usize,
 ) -> Option<Inserted>
-    requires prepared { Prepared arcs.now.task.now × T (black (task_in arcs.now.task.now) (f / 64)) × Memo (task_in arcs.now.task.now) (sets_of arcs.now.ever.now) memo.old }
+    requires prepared { Prepared arcs.now.task.now × T (black (task_in arcs.now.task.now) (f / 64)) × MemoOf arcs.now memo.old }
     requires f_bound { (f % 64 < count (task_in arcs.now.task.now) (f / 64)) × Fitting (task_in arcs.now.task.now) (facts_of want.now) }
     requires at_in_bounds { (at ≤ length plan.old) × Entries (task_in arcs.now.task.now) (drop at plan.old) }
     ensures put { Put plan.old plan.new 0 (served_in arcs.now.task.now arcs.now.ever.now f (drop at plan.old) want.now) (written_in result) }
-    ensures memo { Memo (task_in arcs.now.task.now) (sets_of arcs.now.ever.now) memo.new }
+    ensures memo { MemoOf arcs.now memo.new }
     ensures searched { Searched (served_searches_in arcs.now.task.now f (drop at plan.old) want.now) result }
 {
     let v = f / 64;
@@ -98,11 +98,11 @@ pub fn serve(
     plan: &mut [u16],
     e: usize,
 ) -> Option<Inserted>
-    requires prepared { Prepared arcs.now.task.now × T (black (task_in arcs.now.task.now) (f / 64)) × Memo (task_in arcs.now.task.now) (sets_of arcs.now.ever.now) memo.old }
+    requires prepared { Prepared arcs.now.task.now × T (black (task_in arcs.now.task.now) (f / 64)) × MemoOf arcs.now memo.old }
     requires f_bound { (f % 64 < count (task_in arcs.now.task.now) (f / 64)) × Fitting (task_in arcs.now.task.now) (facts_of want.now) }
     requires e_in_bounds { (e ≤ length plan.old) × Entries (task_in arcs.now.task.now) (take e plan.old) }
     ensures put { Put plan.old plan.new 0 (served_in arcs.now.task.now arcs.now.ever.now f (take e plan.old) want.now) (written_in result) }
-    ensures memo { Memo (task_in arcs.now.task.now) (sets_of arcs.now.ever.now) memo.new }
+    ensures memo { MemoOf arcs.now memo.new }
     ensures searched { Searched (served_searches_in arcs.now.task.now f (take e plan.old) want.now) result }
 {
     let v = f / 64;

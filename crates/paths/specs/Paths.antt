@@ -5,8 +5,10 @@ use Rattle.planning.specs.Record.{Fact, Action, Task}
 use Rattle.planning.specs.Runs.{State, touches, variables, actions, count, act, black}
 use Rattle.planning.specs.Painting.{target}
 use Rattle.planning.specs.Repair.{best_path}
-use Rattle.sets.specs.Sets.{in_set}
+use Rattle.task.specs.Task.{task_in}
+use Rattle.sets.specs.Sets.{in_set, sets_of}
 use Rattle.search.specs.Search.{unreached}
+use Rattle.search.specs.declared.Arcs.{Arcs}
 
 -- the best paths of v along usable arcs
 abbrev pub paths_of : Task → State → ℕ → ℕ → ℕ → List ℕ
@@ -52,6 +54,10 @@ lead_in memo k c = get_or memo (64 * (c + 1) + k) 0
 pub record Memo (t : Task) (K : State) (memo : List ℕ) : Type 0 where
   pub long : length memo ≡ memo_for t
   pub leads : (v d : ℕ) → T (black t v) → d < 64 → get_or memo (slot v d) 0 ≡ v + 1 → Leads t K v d (lead_in memo (slot v d))
+
+-- the same of the arcs that are usable
+abbrev pub MemoOf : Arcs → List ℕ → Type 0
+MemoOf arcs memo = Memo (task_in arcs.task.now) (sets_of arcs.ever.now) memo
 
 -- the lead of v from c to d is known
 abbrev pub Leading : List ℕ → ℕ → ℕ → ℕ → Type 0

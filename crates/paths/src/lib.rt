@@ -9,7 +9,7 @@ ghost use Rattle.task.specs.Task.{task_in, Loaded};
 ghost use Rattle.task.specs.Links.{Prepared};
 ghost use Rattle.sets.specs.Sets.{in_set, sets_of};
 ghost use Rattle.asking.specs.Asking.{Put};
-ghost use Rattle.paths.specs.Paths.{paths_of, lead_by, few_values, slot, Memo, Leading, any_black, Covers};
+ghost use Rattle.paths.specs.Paths.{paths_of, lead_by, few_values, slot, MemoOf, Leading, any_black, Covers};
 
 use search::Arcs;
 
@@ -61,8 +61,8 @@ fn slot(v: usize, d: usize) -> usize
 // The leads of v to d go to slot k. That of c is known then; where the whole is asked for, the search goes to its end.
 fn towards(arcs: &Arcs, memo: &mut [u16], v: usize, c: usize, d: usize, k: usize, whole: bool)
     requires prepared { Prepared arcs.now.task.now × T (black (task_in arcs.now.task.now) v) × (c < count (task_in arcs.now.task.now) v) × (d < count (task_in arcs.now.task.now) v) }
-    requires k_value { (k ≡ slot v d) × Memo (task_in arcs.now.task.now) (sets_of arcs.now.ever.now) memo.old }
-    ensures { Memo (task_in arcs.now.task.now) (sets_of arcs.now.ever.now) memo.new × Leading memo.new v c d }
+    requires k_value { (k ≡ slot v d) × MemoOf arcs.now memo.old }
+    ensures { MemoOf arcs.now memo.new × Leading memo.new v c d }
 {
     let mut labels = [UNREACHED; 64];
     let rest = search::settle(arcs, &mut labels, v, c, d, whole);
@@ -76,8 +76,8 @@ fn towards(arcs: &Arcs, memo: &mut [u16], v: usize, c: usize, d: usize, k: usize
 // leads to d already.
 fn prepare(arcs: &Arcs, memo: &mut [u16], v: usize, c: usize, d: usize, k: usize)
     requires prepared { Prepared arcs.now.task.now × T (black (task_in arcs.now.task.now) v) × (c < count (task_in arcs.now.task.now) v) × (d < count (task_in arcs.now.task.now) v) }
-    requires k_value { (k ≡ slot v d) × Memo (task_in arcs.now.task.now) (sets_of arcs.now.ever.now) memo.old }
-    ensures { Memo (task_in arcs.now.task.now) (sets_of arcs.now.ever.now) memo.new × Leading memo.new v c d }
+    requires k_value { (k ≡ slot v d) × MemoOf arcs.now memo.old }
+    ensures { MemoOf arcs.now memo.new × Leading memo.new v c d }
 {
     let begun = usize::from(memo[k]) == v + 1;
     if begun && usize::from(memo[64 * (c + 1) + k]) != 64 + c {
@@ -96,10 +96,10 @@ pub fn path(
     list: &mut [u16],
     at: usize,
 ) -> Option<usize>
-    requires prepared { Prepared arcs.now.task.now × T (black (task_in arcs.now.task.now) v) × Memo (task_in arcs.now.task.now) (sets_of arcs.now.ever.now) memo.old }
+    requires prepared { Prepared arcs.now.task.now × T (black (task_in arcs.now.task.now) v) × MemoOf arcs.now memo.old }
     requires c_bound { (c < count (task_in arcs.now.task.now) v) × (d < count (task_in arcs.now.task.now) v) × (at ≤ length list.old) }
     ensures put { Put list.old list.new at (paths_of (task_in arcs.now.task.now) (sets_of arcs.now.ever.now) v c d) result }
-    ensures memo { Memo (task_in arcs.now.task.now) (sets_of arcs.now.ever.now) memo.new }
+    ensures memo { MemoOf arcs.now memo.new }
 {
     let k = slot(v, d);
     prepare(arcs, memo, v, c, d, k);

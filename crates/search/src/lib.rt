@@ -84,7 +84,8 @@ fn arrive(arcs: &Arcs, labels: &mut [u64; 64], v: usize, x: usize, rest: u64, fr
 }
 
 // The labels towards d where there is none yet: of the values that have one the nearest is settled next, until c is, or each where the whole
-// is asked for. The answer is the set of values still open; none at the end of the search, as what has no label then has no path.
+// is asked for: one bit of the test that ends a turn, where two functions would say all else twice. The answer is the set of values still
+// open; none at the end of the search, as what has no label then has no path.
 pub fn settle(arcs: &Arcs, labels: &mut [u64; 64], v: usize, c: usize, d: usize, whole: bool) -> u64
     requires { Prepared arcs.now.task.now × T (black (task_in arcs.now.task.now) v) × (d < count (task_in arcs.now.task.now) v) × (labels.old ≡ replicate 64 unreached) }
     ensures { Settled (task_in arcs.now.task.now) (sets_of arcs.now.ever.now) v d labels.new result × Done result c }
@@ -93,6 +94,7 @@ pub fn settle(arcs: &Arcs, labels: &mut [u64; 64], v: usize, c: usize, d: usize,
     let mut rest = ALL >> (64 - task::count(arcs.task, v));
     let mut front = sets::single(d);
     let mut near = Some(d);
+    // No count: what is nearest is asked for in each turn.
     while let Some(x) = near {
         let one = sets::single(x);
         rest = rest ^ one;

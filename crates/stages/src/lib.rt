@@ -9,7 +9,7 @@ ghost use Rattle.planning.specs.Repair.{black_met};
 ghost use Rattle.task.specs.Task.{facts_of, task_in, Loaded};
 ghost use Rattle.task.specs.Links.{Prepared};
 ghost use Rattle.sets.specs.Sets.{sets_of, values_of};
-ghost use Rattle.paths.specs.Paths.{Memo};
+ghost use Rattle.paths.specs.Paths.{MemoOf};
 ghost use Rattle.entries.specs.Entries.{Entries};
 ghost use Rattle.asking.specs.Asking.{written_in, Searched, Put};
 ghost use Rattle.stages.specs.Stages.{Present, Wanted, filled_in, moved_in, steps_in, last_in, stage_in};
@@ -40,7 +40,8 @@ fn unmet(task: &[u16], newest: &[u8; 64], f: usize) -> bool
     task::is_black(task, f / 64) && (f % 64) as u8 != newest[f / 64]
 }
 
-// The black facts of the list are newest values.
+// The black facts of the list are newest values. `leads::adds_none` asks the like of other sets: one function for both would take the black
+// variables as a set, which would be made anew for each entry.
 fn black_met(task: &[u16], newest: &[u8; 64], facts: &[u16]) -> bool
     requires { Loaded task.now × Wanted (task_in task.now) facts.now }
     ensures { result ≡ black_met (black (task_in task.now)) (alone (values_of newest.now)) (facts_of facts.now) }
@@ -63,9 +64,9 @@ fn fill(
     plan: &mut [u16],
 ) -> Option<Inserted>
     requires prepared { Prepared arcs.now.task.now × Wanted (task_in arcs.now.task.now) wanted.now × (length plan.old ≤ 32768) }
-    requires memo { Memo (task_in arcs.now.task.now) (sets_of arcs.now.ever.now) memo.old }
+    requires memo { MemoOf arcs.now memo.old }
     ensures put { Put plan.old plan.new 0 (filled_in arcs.now.task.now arcs.now.ever.now newest.now wanted.now) (written_in result) }
-    ensures memo_2 { Memo (task_in arcs.now.task.now) (sets_of arcs.now.ever.now) memo.new }
+    ensures memo_2 { MemoOf arcs.now memo.new }
     ensures searched { Searched (filled_searches_in arcs.now.task.now arcs.now.ever.now newest.now wanted.now) result }
 {
     let mut end: usize = 0;
@@ -90,9 +91,9 @@ fn moves(
     at: usize,
 ) -> Option<Inserted>
     requires prepared { Prepared arcs.now.task.now × Wanted (task_in arcs.now.task.now) wanted.now × (at ≤ length plan.old) × (length plan.old ≤ 32768) }
-    requires memo { Memo (task_in arcs.now.task.now) (sets_of arcs.now.ever.now) memo.old }
+    requires memo { MemoOf arcs.now memo.old }
     ensures put { Put plan.old plan.new at (moved_in arcs.now.task.now arcs.now.ever.now newest.now wanted.now) (written_in result) }
-    ensures memo_2 { Memo (task_in arcs.now.task.now) (sets_of arcs.now.ever.now) memo.new }
+    ensures memo_2 { MemoOf arcs.now memo.new }
     ensures searched { Searched (moved_searches_in arcs.now.task.now arcs.now.ever.now newest.now wanted.now) result }
 {
     if black_met(arcs.task, newest, wanted) {
@@ -118,9 +119,9 @@ fn arrange(
     at: usize,
 ) -> Option<Inserted>
     requires prepared { Prepared arcs.now.task.now × (i < actions (task_in arcs.now.task.now)) × (at ≤ length plan.old) × (length plan.old ≤ 32768) }
-    requires memo { Memo (task_in arcs.now.task.now) (sets_of arcs.now.ever.now) memo.old }
+    requires memo { MemoOf arcs.now memo.old }
     ensures put { Put plan.old plan.new at (steps_in arcs.now.task.now arcs.now.ever.now newest.now i) (written_in result) }
-    ensures memo_2 { Memo (task_in arcs.now.task.now) (sets_of arcs.now.ever.now) memo.new }
+    ensures memo_2 { MemoOf arcs.now memo.new }
     ensures searched { Searched (steps_searches_in arcs.now.task.now arcs.now.ever.now newest.now i) result }
 {
     let needs = task::preconditions(arcs.task, usize::from(i));
@@ -144,9 +145,9 @@ fn finish(
     at: usize,
 ) -> Option<Inserted>
     requires prepared { Prepared arcs.now.task.now × (at ≤ length plan.old) × (length plan.old ≤ 32768) }
-    requires memo { Memo (task_in arcs.now.task.now) (sets_of arcs.now.ever.now) memo.old }
+    requires memo { MemoOf arcs.now memo.old }
     ensures put { Put plan.old plan.new at (last_in arcs.now.task.now arcs.now.ever.now newest.now) (written_in result) }
-    ensures memo_2 { Memo (task_in arcs.now.task.now) (sets_of arcs.now.ever.now) memo.new }
+    ensures memo_2 { MemoOf arcs.now memo.new }
     ensures searched { Searched (last_searches_in arcs.now.task.now arcs.now.ever.now newest.now) result }
 {
     let goals = Goals::load(arcs.task);
@@ -163,9 +164,9 @@ pub fn stage(
     at: usize,
 ) -> Option<Inserted>
     requires prepared { Prepared arcs.now.task.now × Entries (task_in arcs.now.task.now) left.now × (at ≤ length plan.old) × (length plan.old ≤ 32768) }
-    requires memo { Memo (task_in arcs.now.task.now) (sets_of arcs.now.ever.now) memo.old }
+    requires memo { MemoOf arcs.now memo.old }
     ensures put { Put plan.old plan.new at (stage_in arcs.now.task.now arcs.now.ever.now newest.now left.now) (written_in result) }
-    ensures memo_2 { Memo (task_in arcs.now.task.now) (sets_of arcs.now.ever.now) memo.new }
+    ensures memo_2 { MemoOf arcs.now memo.new }
     ensures searched { Searched (stage_searches_in arcs.now.task.now arcs.now.ever.now newest.now left.now) result }
 {
     match left {

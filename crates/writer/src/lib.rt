@@ -2,14 +2,14 @@
 // eight starts behind five bits of what was before.
 #![tactic(auto)]
 
-ghost use Rattle.std.specs.Prelude.{◌≡◌, ◌++◌, ℕ, suc, ◌+◌, ◌-◌, ◌*◌, ◌^◌, ◌<◌, ◌≤◌, length, take, get_or};
+ghost use Rattle.std.specs.Prelude.{◌≡◌, ◌++◌, ℕ, suc, ◌+◌, ◌-◌, ◌*◌, ◌^◌, ◌<◌, ◌≤◌, length, take};
 ghost use Rattle.planning.specs.Basics.{done};
 ghost use Rattle.planning.specs.Sheet.{bits_of, packed, step_bits, sheet_size};
 ghost use Rattle.planning.specs.Calls.{write_call, write_bytes};
 ghost use Rattle.answers.specs.Answers.{value_of};
 ghost use Rattle.sheet.specs.Answers.{sheet};
 ghost use Rattle.sheet.specs.Again.{ReadsAs};
-ghost use Rattle.pack.specs.Fields.{eight_bits};
+ghost use Rattle.pack.specs.Fields.{AllSteps, eight_bits};
 
 use answers::Refusal;
 use pack::Eight;
@@ -52,7 +52,7 @@ fn write_entries<const MARK: usize>(
     size: usize,
     bytes: &mut [u8],
 )
-    requires { (MARK ≤ 1) × ((k : ℕ) → get_or list.now k 0 < 1024) × (length list.now ≤ 32768) × (size ≡ sheet_size (suc MARK) (length list.now)) × (size ≤ length bytes.old) }
+    requires { (MARK ≤ 1) × AllSteps list.now × (length list.now ≤ 32768) × (size ≡ sheet_size (suc MARK) (length list.now)) × (size ≤ length bytes.old) }
     ensures { take size bytes.new ≡ take 6 bytes.old ++ packed (size - 6) (bits_of 5 head ++ step_bits (suc MARK) list.now marks.now) }
 {
     let eights = list.len() / 8;
@@ -70,7 +70,7 @@ fn write_entries<const MARK: usize>(
 
 // The same where the bits of a mark are known when it runs.
 fn write_steps(list: &[u16], marks: &[u8], mark: usize, head: u64, size: usize, bytes: &mut [u8])
-    requires { (mark ≤ 1) × ((k : ℕ) → get_or list.now k 0 < 1024) × (length list.now ≤ 32768) × (size ≡ sheet_size (suc mark) (length list.now)) × (size ≤ length bytes.old) }
+    requires { (mark ≤ 1) × AllSteps list.now × (length list.now ≤ 32768) × (size ≡ sheet_size (suc mark) (length list.now)) × (size ≤ length bytes.old) }
     ensures { take size bytes.new ≡ take 6 bytes.old ++ packed (size - 6) (bits_of 5 head ++ step_bits (suc mark) list.now marks.now) }
 {
     if mark == 0 {
