@@ -43,7 +43,7 @@ fn load_facts(
     let mut left = count;
     let mut to = first;
     let mut low = 0;
-    // A `for` over the full windows was slower: most lists have none.
+    // The loop of `record::sound_windows`, which does not store between two windows. A `for` over the full ones was slower: most lists have none.
     while 4 < left {
         let window = bits::window_at(bytes, at);
         low = record::sound_few(window, 4, low, counts)?;

@@ -83,7 +83,7 @@ fn plan_loaded(
     Err(f)
 }
 
-// The same of a caller's list.
+// The same of a caller's list: one function for both would be handed what to call behind the checks, which is longer.
 fn repair_loaded(
     task: &mut [u16],
     list: &[u16],

@@ -34,7 +34,8 @@ pub const FEW: usize = 3072;
 
 pub const ALL: usize = 6144;
 
-// What waits, where a task's actions stand in an order by cost and number, and the ranks that are ready.
+// What waits, where a task's actions stand in an order by cost and number, and the ranks that are ready. The task stays beside it: of a slice
+// in a struct a proof does not know that its numbers have 16 bits.
 #[derive(Drop)]
 pub struct Waits<'a, 'b> {
     pub order: &'a [u16; 1024],
