@@ -4,17 +4,17 @@
 
 ghost use Rattle.std.specs.Prelude.{◌≡◌, ℕ};
 ghost use Rattle.planning.specs.Basics.{code, refused};
-ghost use Rattle.answers.specs.Answers.{number_of, answer_by};
+ghost use Rattle.answers.specs.Answers.{answer_by};
 ghost use Rattle.answers.specs.Plans.{answer_of};
 ghost use Rattle.codes.specs.Plans.{plan_result_of};
 
 use answers::{Plan, Refusal};
 
-// The code of a refusal.
-pub fn code_of(f: Refusal) -> u64
-    ensures { result ≡ code {A = ℕ} (refused (number_of f.reason) f.place) }
+// The code of a refusal by its number, whatever that is, and its place.
+pub fn code_of(number: u8, place: u32) -> u64
+    ensures { result ≡ code {A = ℕ} (refused number place) }
 {
-    32 * u64::from(f.place) + u64::from(u8::from(f.reason))
+    32 * u64::from(place) + u64::from(number)
 }
 
 // The code of an answer: 0, or that of its refusal.
@@ -24,7 +24,7 @@ pub fn code<T: Copy>(answer: Result<T, Refusal>) -> u64
     let Err(f) = answer else {
         return 0;
     };
-    code_of(f)
+    code_of(u8::from(f.reason), f.place)
 }
 
 #[repr(C)]

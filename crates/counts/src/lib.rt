@@ -70,27 +70,27 @@ pub struct Glided {
 }
 
 // The next step of the list, and those behind it as far as their actions are of the set `plain`. For these the values are not looked at,
-// so that they can stay in registers from step to step.
+// so that the loop is small; it is never put into its caller, which would keep its own numbers in the registers of the loop.
+#[inline(never)]
 pub fn glide(task: &[u16], newest: Newest, plan: &[u16], c: Counts, plain: &[u64; 16]) -> Glided
     requires { Loaded task.now × Few c × (c.steps < length plan.now) × (length plan.now ≤ 32768) × Entries (task_in task.now) plan.now }
     ensures { Glides (task_in task.now) plain.now plan.now (length plan.now) (values_of newest.values) c result }
 {
     let i = usize::from(plan[c.steps]);
-    let mut r = Glided {
-        newest: newest.step(task, i),
-        counts: counted(task, &newest.values, i, c),
-    };
+    let mut counts = counted(task, &newest.values, i, c);
+    let mut now = newest.step(task, i);
     for x in &plan[c.steps + 1..] {
         let i = usize::from(*x);
         if !sets::is_listed(plain, i) {
             break;
         }
-        r = Glided {
-            newest: r.newest.step(task, i),
-            counts: passed(task, i, r.counts),
-        };
+        counts = passed(task, i, counts);
+        now = now.step(task, i);
     }
-    r
+    Glided {
+        newest: now,
+        counts,
+    }
 }
 
 // Each precondition of action i is of a black variable.

@@ -9,7 +9,7 @@ use lib.ListN.{length, replicate}
 use Rattle.std.specs.Prelude.{Result, Ok, Err, OnOk}
 use Rattle.std.specs.Result.{is_err}
 use Rattle.answers.specs.declared.Refusal.{Refusal}
-use Rattle.answers.specs.Answers.{answer_by}
+use Rattle.answers.specs.Answers.{number_of, answer_by}
 use Rattle.planning.specs.Basics.{Check, check, refuse, and_then, in_order, Answer, refused, done, answer}
 use Rattle.planning.specs.Record.{Task, task_of, record_check}
 use Rattle.planning.specs.Runs.{State, act, relaxed, run, initial, step, size, run_by}
@@ -53,11 +53,15 @@ module _ {A : Type 0} (t : Task) (l : List ℕ) (m : ℕ) (a : A) where
     unfolding laid
     called_list = lent_same {A = ℕ} (room_check (length l) (capacity m)) 0 a m l ∙ ap (λ x. lent x m l) (sym (called_room h))
 
--- where the code answers with a refusal the list is blank
-pub lent_err : {A B : Type 0} (g : A → B) (r : Result A Refusal) (x : Answer B) (n : ℕ) (l : List ℕ) → is_err r ≡ true → answer_by g r ≡ x → replicate n 65535 ≡ lent x n l
+-- after a refusal the list is blank
+pub lent_refused : {A : Type 0} (x : Answer A) (p q n : ℕ) (l : List ℕ) → x ≡ refused p q → replicate n 65535 ≡ lent x n l
 unfolding lent
+lent_refused x p q n l e = rw e refl
+
+-- so where the code answers with one
+pub lent_err : {A B : Type 0} (g : A → B) (r : Result A Refusal) (x : Answer B) (n : ℕ) (l : List ℕ) → is_err r ≡ true → answer_by g r ≡ x → replicate n 65535 ≡ lent x n l
 lent_err g (Ok a) x n l h e = cc
-lent_err g (Err f) x n l h e = rw (← e) refl
+lent_err g (Err f) x n l h e = lent_refused x (number_of f.reason) f.place n l (sym e)
 
 -- else what holds of a result holds
 pub of_ok : {A P : Type 0} (r : Result A Refusal) → is_err r ≡ false → OnOk r P → P
@@ -79,9 +83,11 @@ module _ (t : Task) (m : ℕ) (b : Bool) (eb : b ≡ reaches_goals t) (f : ℕ) 
   abbrev x : Forward
   x = record { steps = length (forward_run t); reached = facts_reached t }
 
-  pub forward_unsolved : not b ≡ true → refused 10 f ≡ forward_of t m
-  unfolding forward_of
-  forward_unsolved h = rw ef (sym (called_unsolved t (forward_run t) m x (sym eb ∙ not-true b h)))
+  pub forward_unsolved : not b ≡ true → (refused 10 f ≡ forward_of t m) × (replicate m 65535 ≡ forward_in t m)
+  unfolding forward_of forward_in
+  forward_unsolved h =
+      let z = called_unsolved t (forward_run t) m x (sym eb ∙ not-true b h) in
+      (rw ef (sym z), lent_refused (called t (forward_run t) m x) 10 (facts_reached t) m (forward_run t) z)
 
   module _ (h : not b ≡ false) (l : List ℕ) (el : l ≡ forward_run t) where
     solved : reaches_goals t ≡ true
@@ -107,8 +113,10 @@ module _ {A : Type 0} (s : List ℕ) (m : ℕ) (x : Task → A) (l : Task → Li
   abbrev rest : List Check
   rest = goals_check (task_of s) ∷ room_check (length (l (task_of s))) (capacity m) ∷ []
 
-  pub called_refused : (p q : ℕ) → record_check s ≡ refuse p q → refused p q ≡ whole
-  called_refused p q = hit (record_check s) rest p q (x (task_of s))
+  pub called_refused : (p q : ℕ) → refuse p q ≡ record_check s → (refused p q ≡ whole) × (replicate m 65535 ≡ lent whole m (l (task_of s)))
+  called_refused p q e =
+      let z = hit (record_check s) rest p q (x (task_of s)) (sym e) in
+      (z, lent_refused whole p q m (l (task_of s)) (sym z))
 
   pub called_accepts : record_check s ≡ none → (t : Task) → t ≡ task_of s
       → (called t (l t) m (x t) ≡ whole) × (lent (called t (l t) m (x t)) m (l t) ≡ lent whole m (l (task_of s)))
@@ -122,8 +130,8 @@ module _ (s : List ℕ) (m : ℕ) where
   abbrev told : Task → Forward
   told t = record { steps = length (forward_run t); reached = facts_reached t }
 
-  pub forward_refused : (p q : ℕ) → record_check s ≡ refuse p q → refused p q ≡ forward_call s m
-  unfolding forward_call
+  pub forward_refused : (p q : ℕ) → refuse p q ≡ record_check s → (refused p q ≡ forward_call s m) × (replicate m 65535 ≡ forward_list s m)
+  unfolding forward_call forward_list
   forward_refused = called_refused s m told forward_run
 
   pub forward_blank : (r : Result Run Refusal) → is_err r ≡ true → found_of r ≡ forward_call s m → replicate m 65535 ≡ forward_list s m

@@ -71,8 +71,9 @@ pub fn forward(bytes: &[u8], plan: &mut [u16]) -> Result<Run, Refusal>
         &mut [],
         |task, plan, _| forward_loaded(task, plan),
     );
-    if answer.is_err() {
-        lists::blank(plan);
-    }
-    answer
+    let Err(f) = answer else {
+        return answer;
+    };
+    lists::blank(plan);
+    Err(f)
 }

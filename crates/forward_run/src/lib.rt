@@ -30,16 +30,15 @@ pub fn run_by(task: &[u16], order: &[u16; 1024], work: &mut [u16], plan: &mut [u
     let mut s = Relaxed::initial(task);
     let mut waits = Waits {
         order,
-        work,
         ready: [0; ready::SETS],
     };
-    waits.settle_each(&s.sets, task);
+    waits.settle_each(&s.sets, task, work);
     let mut steps: usize = 0;
     let mut g: usize = 0;
     let mut reached: &[u16] = &[];
     // What the state says ends the turns: no range tells them.
     let solved = loop {
-        waits.wake(&s.sets, task, reached);
+        waits.wake(&s.sets, task, work, reached);
         reached = &[];
         g = waiting::unmet(&s.sets, goals, g);
         if g == goals.len() {

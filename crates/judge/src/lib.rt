@@ -69,5 +69,9 @@ pub fn judge(bytes: &[u8], list: &[u16]) -> Result<Verdicts, Refusal>
         requires { Loaded task.old }
         ensures { answer_of result ≡ judged_list (task_in task.old) list.entry.now }
     { judge_loaded(task, list) };
-    loader::with_task(bytes, &mut [], &mut [], run)
+    let answer = loader::with_task(bytes, &mut [], &mut [], run);
+    let Err(f) = answer else {
+        return answer;
+    };
+    Err(f)
 }

@@ -3,10 +3,10 @@ use Rattle.std.specs.Prelude.{◌≡◌, Bool, true, false, not, ◌&&◌, List,
 use Rattle.sets.specs.Sets.{in_set}
 use Rattle.labels.specs.declared.Members.{Members}
 
--- a member came out of a set: what is left is the set without it; or there is none
+-- the least member came out of a set: what is left is the set without it; or there is none
 abbrev pub Next : Members → Option ℕ → Members → Type 0
 Next s None r = s.rest ≡ 0
-Next s (Some c) r = (c < 64) × T (in_set s.rest c) × ((x : ℕ) → in_set r.rest x ≡ (in_set s.rest x && not (eqb x c)))
+Next s (Some c) r = (c < 64) × T (in_set s.rest c) × ((x : ℕ) → in_set r.rest x ≡ (in_set s.rest x && not (eqb x c))) × ((x : ℕ) → x < c → T (in_set s.rest x) → ⊥)
 
 -- the lesser of two numbers where the test holds
 unfoldable pub lower : Bool → ℕ → ℕ → ℕ

@@ -8,7 +8,7 @@ ghost use Rattle.sets.specs.Sets.{in_set};
 ghost use Rattle.labels.specs.Labels.{Next, lower, Nearest};
 
 // The members of a set of values that are still to come, from the least on.
-#[derive(Drop)]
+#[derive(Clone, Copy)]
 struct Members {
     rest: u64,
 }

@@ -21,7 +21,7 @@ pub struct Allowing {
 }
 
 // What one action leaves for those after it: the actions that are kept, and what served last.
-#[derive(Drop)]
+#[derive(Clone, Copy)]
 pub struct Memory {
     pub kept: [Option<Allowing>; KEPT],
     pub last: Last,

@@ -28,7 +28,10 @@ fn reached(bytes: &[u8], list: &mut [u16]) -> u32
 fn relaxed(bytes: &[u8], list: &mut [u16]) -> u32
     ensures { (result ≡ steps_in (relax_call bytes.now (length list.old))) × (list.new ≡ relax_list bytes.now (length list.old)) }
 {
-    relax::relax(bytes, list).unwrap_or(0)
+    let Ok(n) = relax::relax(bytes, list) else {
+        return 0;
+    };
+    n
 }
 
 // The first two lines: the facts reached, and the relaxed plan. The list serves both.

@@ -154,7 +154,9 @@ fn load_actions(
         at += 24 + 12 * n;
         to += n;
     }
-    record::check_end(bytes, at as u32).ok()?;
+    let Ok(()) = record::check_end(bytes, at as u32) else {
+        return None;
+    };
     task[3] = to as u16;
     Some(())
 }
@@ -184,7 +186,10 @@ pub fn read(bytes: &[u8], task: &mut [u16]) -> Result<(), Refusal>
     ensures { (check_of result ≡ record_check bytes.now) × (record_check bytes.now ≡ none → TaskRead bytes.now task.new) }
 {
     let Some(()) = load(bytes, task) else {
-        return record::check(bytes);
+        let Err(f) = record::check(bytes) else {
+            return Ok(());
+        };
+        return Err(f);
     };
     Ok(())
 }
@@ -207,8 +212,8 @@ fn within<const N: usize, R, F: FnOnce(&mut [u16], &mut [u16], &mut [u8]) -> Res
     run(&mut task, list, marks)
 }
 
-// A call on the task of a record, if it is accepted, with a list and marks for it to write; a refusal leaves both as they were. The task of
-// a small record is small, so that little has to be cleared.
+// A call on the task of a record, if it is accepted, with a list and marks for it to write; a record that is refused leaves both as they were.
+// The task of a small record is small, so that little has to be cleared.
 pub fn with_task<R, F: FnOnce(&mut [u16], &mut [u16], &mut [u8]) -> Result<R, Refusal>>(
     bytes: &[u8],
     list: &mut [u16],

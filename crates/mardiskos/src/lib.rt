@@ -9,14 +9,17 @@ ghost use Rattle.std.specs.Prelude.{◌≡◌};
 ghost use Rattle.planning.specs.Calls.{check_code, judge_call};
 ghost use Rattle.mardiskos.specs.Flat.{flat_of};
 
-use codes::code;
+use codes::{code, code_of};
 
 // The check of a record: 0 for accepted, else 32 times the place and the number.
 #[unsafe(no_mangle)]
 pub extern "C" fn mardiskos_check(bytes: &[u8]) -> u64
     ensures { result ≡ check_code bytes.now }
 {
-    code(record::check(bytes))
+    let Err(f) = record::check(bytes) else {
+        return 0;
+    };
+    code_of(u8::from(f.reason), f.place)
 }
 
 // After a refusal every field but the code is zero.

@@ -67,7 +67,11 @@ fn tell(bytes: &[u8], list: &[u16], room: usize) -> Result<Board, Refusal>
         requires { Loaded task.old }
         ensures { Tells (task_in task.old) list.entry.now room result }
     { tell_loaded(task, list, room) };
-    loader::with_task(bytes, &mut [], &mut [], run)
+    let answer = loader::with_task(bytes, &mut [], &mut [], run);
+    let Err(f) = answer else {
+        return answer;
+    };
+    Err(f)
 }
 
 // The newest values, in the front of a list.

@@ -100,6 +100,43 @@ fn repair_loaded(
     Err(f)
 }
 
+// Checks 1 to 6 of a record, then the plan of its task.
+fn plan_record(
+    bytes: &[u8],
+    plan: &mut [u16],
+    work: &[u16],
+    marks: &mut [u8],
+) -> Result<Plan, Refusal>
+    ensures { Called false bytes.now [] (room_in plan.old work.now marks.old) plan.new marks.new result }
+{
+    let answer = loader::with_task(bytes, plan, marks, |task, plan, marks| {
+        plan_loaded(task, plan, work, marks)
+    });
+    let Err(f) = answer else {
+        return answer;
+    };
+    Err(f)
+}
+
+// The same of a caller's list.
+fn repair_record(
+    bytes: &[u8],
+    list: &[u16],
+    plan: &mut [u16],
+    work: &[u16],
+    marks: &mut [u8],
+) -> Result<Plan, Refusal>
+    ensures { Called true bytes.now list.now (room_in plan.old work.now marks.old) plan.new marks.new result }
+{
+    let answer = loader::with_task(bytes, plan, marks, |task, plan, marks| {
+        repair_loaded(task, list, plan, work, marks)
+    });
+    let Err(f) = answer else {
+        return answer;
+    };
+    Err(f)
+}
+
 // The planner: from a record to a repaired plan and its marks. Checks 1 to 8, 10, 11.
 pub fn plan(
     bytes: &[u8],
@@ -116,9 +153,7 @@ pub fn plan(
     ensures ceiling { Ceiling bytes.now (relaxed_plan (task_of bytes.now)) (answer_of result) }
     ensures recovers { Recovers bytes.now (relaxed_plan (task_of bytes.now)) (answer_of result) (plan_in (answer_of result) plan.new) (marks_in (answer_of result) marks.new) }
 {
-    let r = loader::with_task(bytes, plan, marks, |task, plan, marks| {
-        plan_loaded(task, plan, work, marks)
-    });
+    let r = plan_record(bytes, plan, work, marks);
     blanking::finish(r, plan, marks);
     lists::blank(work);
     r
@@ -140,9 +175,7 @@ pub fn repair(
     ensures ceiling { Ceiling bytes.now list.now (answer_of result) }
     ensures recovers { Recovers bytes.now list.now (answer_of result) (plan_in (answer_of result) plan.new) (marks_in (answer_of result) marks.new) }
 {
-    let r = loader::with_task(bytes, plan, marks, |task, plan, marks| {
-        repair_loaded(task, list, plan, work, marks)
-    });
+    let r = repair_record(bytes, list, plan, work, marks);
     blanking::finish(r, plan, marks);
     lists::blank(work);
     r

@@ -11,18 +11,21 @@ use Rattle.std.specs.Result.{is_err}
 use mathlib.Core.Bool.{true}
 use Rattle.planning.specs.Basics.{refuse, refused, done}
 use Rattle.planning.specs.Record.{Task, task_of, record_check}
-use Rattle.planning.specs.Relaxed.{relaxed_plan}
+use Rattle.planning.specs.Relaxed.{facts_reached, relaxed_plan}
 use Rattle.planning.specs.Calls.{capacity, room_check, relax_call, relax_list}
 use Rattle.lists.specs.Lent.{laid}
-use Rattle.forward.proofs.Answers.{called_unsolved, called_whole, called_short, called_list, called_refused, called_accepts, lent_err}
+use Rattle.forward.specs.Answers.{called}
+use Rattle.forward.proofs.Answers.{called_unsolved, called_whole, called_short, called_list, called_refused, called_accepts, lent_refused, lent_err}
 use Rattle.relax.specs.Kept.{Found, Unfound}
 use Rattle.relax.specs.Answers.{relax_of, relax_in}
 
 -- once the record is accepted
 module _ (t : Task) (m : ℕ) where
-  pub relax_unsolved : (f : Refusal) → Unfound t f → refused (number_of f.reason) f.place ≡ relax_of t m
-  unfolding relax_of
-  relax_unsolved f U = rw (U.reason, U.place') (sym (called_unsolved t (relaxed_plan t) m (length (relaxed_plan t)) U.unsolved))
+  pub relax_unsolved : (f : Refusal) → Unfound t f → (refused (number_of f.reason) f.place ≡ relax_of t m) × (replicate m 65535 ≡ relax_in t m)
+  unfolding relax_of relax_in
+  relax_unsolved f U =
+      let z = called_unsolved t (relaxed_plan t) m (length (relaxed_plan t)) U.unsolved in
+      (rw (U.reason, U.place') (sym z), lent_refused (called t (relaxed_plan t) m (length (relaxed_plan t))) 10 (facts_reached t) m (relaxed_plan t) z)
 
   module _ {plan : List ℕ} {n : ℕ} (F : Found t plan n) (l : List ℕ) (el : l ≡ relaxed_plan t) where
     pub relax_whole : none ≡ room_check (length l) (capacity m) → done n ≡ relax_of t m
@@ -39,8 +42,8 @@ module _ (t : Task) (m : ℕ) where
 
 -- and before
 module _ (s : List ℕ) (m : ℕ) where
-  pub relax_refused : (p q : ℕ) → record_check s ≡ refuse p q → refused p q ≡ relax_call s m
-  unfolding relax_call
+  pub relax_refused : (p q : ℕ) → refuse p q ≡ record_check s → (refused p q ≡ relax_call s m) × (replicate m 65535 ≡ relax_list s m)
+  unfolding relax_call relax_list
   relax_refused = called_refused s m (λ t. length (relaxed_plan t)) relaxed_plan
 
   pub relax_blank : (r : Result ℕ Refusal) → is_err r ≡ true → value_of r ≡ relax_call s m → replicate m 65535 ≡ relax_list s m

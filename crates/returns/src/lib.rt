@@ -12,7 +12,7 @@ ghost use Rattle.returns.specs.Returns.{place, mark_all, marked, Spans, Markable
 pub const NO_ACTION: u16 = 65535;
 
 // What served last. Any numbers will do.
-#[derive(Drop)]
+#[derive(Clone, Copy)]
 pub struct Last {
     // the action for each fact, by the fact's number modulo 1,024
     pub served: [u16; 1024],

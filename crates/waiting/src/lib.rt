@@ -34,50 +34,47 @@ pub const FEW: usize = 3072;
 
 pub const ALL: usize = 6144;
 
-// What waits, where a task's actions stand in an order by cost and number, and the ranks that are ready. The task stays beside it: of a slice
-// in a struct a proof does not know that its numbers have 16 bits.
-#[derive(Drop)]
-pub struct Waits<'a, 'b> {
+// A task's actions in an order by cost and number, and the ranks that are ready. The task stays beside it: of a slice
+// in a struct a proof does not know that its numbers have 16 bits; and the list of chains, so that the rest can be copied.
+#[derive(Clone, Copy)]
+pub struct Waits<'a> {
     pub order: &'a [u16; 1024],
-    pub work: &'b mut [u16],
     pub ready: [u64; ready::SETS],
 }
 
-impl<'a, 'b> Waits<'a, 'b> {
-    // Rank j hangs on the chain of fact f, in front.
-    fn hang(&mut self, f: usize, j: u16)
-        requires { (f < 4096) × (2048 + f < length self.old.work.now) × (j < 1024) }
-        ensures hung { self.new.work.now ≡ hung self.old.work.now f j }
-        ensures ready { self.new.ready ≡ self.old.ready }
-        ensures same { self.new.order.now ≡ self.old.order.now }
-    {
-        self.work[usize::from(j)] = self.work[HEAD + f];
-        self.work[HEAD + f] = j;
-    }
+// Rank j hangs on the chain of fact f, in front.
+fn hang(work: &mut [u16], f: usize, j: u16)
+    requires { (f < 4096) × (2048 + f < length work.old) × (j < 1024) }
+    ensures { work.new ≡ hung work.old f j }
+{
+    work[usize::from(j)] = work[HEAD + f];
+    work[HEAD + f] = j;
+}
 
+impl<'a> Waits<'a> {
     // The action of rank j is ready, or waits for a precondition that is not reached. It is looked at from the place on that it reached
     // before.
-    fn settle(&mut self, sets: &[u64; 64], task: &[u16], j: u16)
+    fn settle(&mut self, sets: &[u64; 64], task: &[u16], work: &mut [u16], j: u16)
         requires loaded { Loaded task.now × (j < 1024) × (get_or self.old.order.now j 0 < actions (task_in task.now)) }
-        requires ready { Ready self.old.ready × Looked (sets_of sets.now) task.now (get_or self.old.order.now j 0) (place_at self.old.work.now j) × Room task.now self.old.work.now }
-        ensures settles { Settles (sets_of sets.now) task.now self.old.order.now j self.old.work.now self.old.ready self.new.work.now self.new.ready }
+        requires ready { Ready self.old.ready × Looked (sets_of sets.now) task.now (get_or self.old.order.now j 0) (place_at work.old j) × Room task.now work.old }
+        ensures settles { Settles (sets_of sets.now) task.now self.old.order.now j work.old self.old.ready work.new self.new.ready }
         ensures same { self.new.order.now ≡ self.old.order.now }
     {
         let r = usize::from(j);
         let to = task::eff_start(task, usize::from(self.order[r]));
-        let k = unmet(sets, &task[..to], usize::from(self.work[PLACE + r]));
-        self.work[PLACE + r] = k as u16;
+        let k = unmet(sets, &task[..to], usize::from(work[PLACE + r]));
+        work[PLACE + r] = k as u16;
         if k < to {
-            self.hang(usize::from(task[k]), j);
+            hang(work, usize::from(task[k]), j);
         } else {
             ready::mark(&mut self.ready, r);
         }
     }
 
     // Settles the actions on the chain from h on. The facts that are owed are still to be looked at.
-    fn settle_all(&mut self, sets: &[u64; 64], task: &[u16], h: u16, owed: &[u16])
-        requires { Loaded task.now × Sites task.now self.old.order.now (actions (task_in task.now)) (sets_of sets.now) (has (facts_of owed.now)) self.old.work.now self.old.ready h 1024 }
-        ensures settled { Settled task.now self.old.order.now (sets_of sets.now) (has (facts_of owed.now)) self.new.work.now self.new.ready }
+    fn settle_all(&mut self, sets: &[u64; 64], task: &[u16], work: &mut [u16], h: u16, owed: &[u16])
+        requires { Loaded task.now × Sites task.now self.old.order.now (actions (task_in task.now)) (sets_of sets.now) (has (facts_of owed.now)) work.old self.old.ready h 1024 }
+        ensures settled { Settled task.now self.old.order.now (sets_of sets.now) (has (facts_of owed.now)) work.new self.new.ready }
         ensures same { self.new.order.now ≡ self.old.order.now }
     {
         let mut j = h;
@@ -86,37 +83,37 @@ impl<'a, 'b> Waits<'a, 'b> {
             if 1024 <= j {
                 return;
             }
-            let after = self.work[usize::from(j)];
-            self.settle(sets, task, j);
+            let after = work[usize::from(j)];
+            self.settle(sets, task, work, j);
             j = after;
         }
     }
 
     // The facts are reached: their chains are taken off, and the actions on them settled.
-    pub fn wake(&mut self, sets: &[u64; 64], task: &[u16], facts: &[u16])
-        requires { Loaded task.now × Headed task.now facts.now × Settled task.now self.old.order.now (sets_of sets.now) (has (facts_of facts.now)) self.old.work.now self.old.ready }
-        ensures settled { Settled task.now self.old.order.now (sets_of sets.now) (has []) self.new.work.now self.new.ready }
+    pub fn wake(&mut self, sets: &[u64; 64], task: &[u16], work: &mut [u16], facts: &[u16])
+        requires { Loaded task.now × Headed task.now facts.now × Settled task.now self.old.order.now (sets_of sets.now) (has (facts_of facts.now)) work.old self.old.ready }
+        ensures settled { Settled task.now self.old.order.now (sets_of sets.now) (has []) work.new self.new.ready }
         ensures ready_unchanged { length facts.now ≡ 0 → self.new.ready ≡ self.old.ready }
         ensures same { self.new.order.now ≡ self.old.order.now }
     {
         for (k, f) in facts.iter().enumerate() {
             let f = usize::from(*f);
-            let h = self.work[HEAD + f];
-            self.work[HEAD + f] = 65535;
-            self.settle_all(sets, task, h, &facts[k + 1..]);
+            let h = work[HEAD + f];
+            work[HEAD + f] = 65535;
+            self.settle_all(sets, task, work, h, &facts[k + 1..]);
         }
     }
 
     // Every action is ready, or waits for a precondition that is not reached.
-    pub fn settle_each(&mut self, sets: &[u64; 64], task: &[u16])
-        requires { Loaded task.now × ByCost task.now self.old.order.now × Free task.now self.old.work.now × (self.old.ready ≡ replicate 17 0) }
-        ensures settled { Settled task.now self.old.order.now (sets_of sets.now) (has []) self.new.work.now self.new.ready }
+    pub fn settle_each(&mut self, sets: &[u64; 64], task: &[u16], work: &mut [u16])
+        requires { Loaded task.now × ByCost task.now self.old.order.now × Free task.now work.old × (self.old.ready ≡ replicate 17 0) }
+        ensures settled { Settled task.now self.old.order.now (sets_of sets.now) (has []) work.new self.new.ready }
         ensures same { self.new.order.now ≡ self.old.order.now }
     {
         let n = task::actions(task);
         for j in 0..n {
-            self.work[PLACE + j] = task::pre_start(task, usize::from(self.order[j])) as u16;
-            self.settle(sets, task, j as u16);
+            work[PLACE + j] = task::pre_start(task, usize::from(self.order[j])) as u16;
+            self.settle(sets, task, work, j as u16);
         }
     }
 }

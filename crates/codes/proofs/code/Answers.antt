@@ -8,4 +8,4 @@ returns-in_default g c = rw c.in_default.is refl
 
 pub returns : goal.returns
 unfolding code
-returns g c = rw c.in-Err.is c.code_of.ensures
+returns g c = rw (c.in-Err.is, ← c.from.ensures) c.code_of.ensures

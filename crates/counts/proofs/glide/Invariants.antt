@@ -10,7 +10,7 @@ use Rattle.counts.proofs.glide.Given as goal
 
 abbrev pub invariant-loop-x : goal.invariant-loop-x
 invariant-loop-x l = record {
-  gliding : Gliding (task_in l.task) l.plain l.plan (length l.plan) (values_of l.initial.r.newest.values) l.initial.r.counts (values_of l.r.newest.values) l.r.counts;
-  few : Few l.r.counts;
-  place : l.r.counts.steps ≡ l.fn.c.steps + 1 + l.x-index;
+  gliding : Gliding (task_in l.task) l.plain l.plan (length l.plan) (values_of l.initial.now.values) l.initial.counts (values_of l.now.values) l.counts;
+  few : Few l.counts;
+  place : l.counts.steps ≡ l.fn.c.steps + 1 + l.x-index;
 }

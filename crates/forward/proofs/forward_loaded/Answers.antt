@@ -16,7 +16,7 @@ overflow_cast-reached c = record { fits = omega (arith, reached_is c, facts_reac
 
 pub returns-then-not-ran-clause-answer : goal.returns-then-not-ran-clause-answer
 returns-then-not-ran-clause-answer c =
-    forward_unsolved _ _ _ c.run_forward-ran.ensures.solved _ (reached_is (goal.at.returns-then-not-ran-clause-answer c).After-reached-reached) c.if-not-ran.true
+    (forward_unsolved _ _ _ c.run_forward-ran.ensures.solved _ (reached_is (goal.at.returns-then-not-ran-clause-answer c).After-reached-reached) c.if-not-ran.true).0
 
 pub returns-in_default-clause-answer : goal.returns-in_default-clause-answer
 returns-in_default-clause-answer c =

@@ -5,7 +5,7 @@ use Rattle.forward_run.proofs.Looping.{Looping, left}
 use Rattle.forward_run.proofs.run_by.Given as goal
 
 abbrev pub invariant-loop-g : goal.invariant-loop-g
-invariant-loop-g l = Looping l.task l.order l.goals l.plan l.s.sets l.waits.work.now l.waits.ready l.steps l.g l.reached × (l.waits.order.now ≡ l.order)
+invariant-loop-g l = Looping l.task l.order l.goals l.plan l.s.sets l.work l.waits.ready l.steps l.g l.reached × (l.waits.order.now ≡ l.order)
 
 abbrev pub decreases-loop-g : goal.decreases-loop-g
 decreases-loop-g l = left l.task l.s.sets l.waits.ready l.reached

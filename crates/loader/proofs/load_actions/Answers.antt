@@ -2,7 +2,8 @@ use Rattle.record.proofs.Laws.{header_range, actions_start, action_here, actions
 use Rattle.answers.proofs.Stages.{answer_done}
 use Rattle.loader.proofs.Loading.{loading_start, loading_place, loading_room, loading_turn, action_ends, actions_as}
 use Rattle.loader.proofs.Loading.{end_passes, end_stops, loading_low, loading_size, loading_headed, loading_task, loading_done}
-use mathlib.Core.Path.{refl, sym, ◌∙◌}
+use mathlib.Core.Path.{refl, sym, ap, ◌∙◌}
+use Rattle.std.specs.Result.{is_ok}
 use Prim.Native.Nat.{◌+◌, ◌*◌, ◌<◌, ◌≤◌}
 use native.Mathlib.Omega.{arith}
 use lib.ListN.{length}
@@ -47,9 +48,8 @@ check_end-requires c =
     let b = answer_done _ _ _ (sym (actions_done _ _ _ _ _ c.loop-i.invariant.1 (omega arith))) in
     actions_end_lem _ _ _ P.variables_is P.count_is _ (omega (arith, P.variables_is)) (omega (arith, P.count_is)) b.1
 
-pub returns-in_err-ok : goal.returns-in_err-ok
-returns-in_err-ok c =
-    rw c.from_residual-in_err-ok.ensures (λ e. end_stops _ _ c.check_end.ensures c.in_err-ok.ensures.variant (accepted_parts _ e).end)
+pub returns-in_default : goal.returns-in_default
+returns-in_default c = λ e. end_stops _ _ c.check_end.ensures (sym (ap is_ok c.in_default.is)) (accepted_parts _ e).end
 
 pub overflow_cast-task : goal.overflow_cast-task
 overflow_cast-task c = record { fits = omega (arith, loading_low _ _ _ _ _ _ c.loop-i.invariant.0 (header_range _ c.requires.header).2) }
@@ -58,7 +58,7 @@ pub returns : goal.returns
 returns c =
     let P = c.requires in
     let b = answer_done _ _ _ (sym (actions_done _ _ _ _ _ c.loop-i.invariant.1 (omega arith))) in
-    let a = accepted _ record { header = P.header; variables = P.passed; actions = sym (actions_as _ _ _ P.variables_is P.count_is) ∙ b.0; end = end_passes _ _ c.check_end.ensures c.in_ok-ok.ensures.variant } in
+    let a = accepted _ record { header = P.header; variables = P.passed; actions = sym (actions_as _ _ _ P.variables_is P.count_is) ∙ b.0; end = end_passes _ _ c.check_end.ensures (sym (ap is_ok c.in-Ok.is)) } in
     let l : actions_in c.args.bytes.now ≤ c.loop-i.i = omega (arith, P.count_is) in
     let I = loading_headed _ _ _ _ _ _ c.loop-i.invariant.0 in
     let r : c.loop-i.to + 64 * variables_in c.args.bytes.now ≤ length c.args.task.now =

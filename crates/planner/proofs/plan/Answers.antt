@@ -1,38 +1,28 @@
 -- The record's checks, the painting's and the relaxed plan's decide the answer; the plan and its marks stand in front from then on, and the rest is filled.
-use mathlib.Core.Logic.{inl, inr}
-use mathlib.Core.Bool.{false}
 use mathlib.Core.Path.{◌≡◌}
 use mathlib.Core.List.{[]}
-use borrow.Author.Rules.{rules}
 use lib.ListN.{length}
 use Rattle.planning.specs.Record.{task_of}
 use Rattle.planning.specs.Relaxed.{relaxed_plan}
 use Rattle.planning.specs.Repair.{marks}
 use Rattle.planning.specs.Calls.{plan_call, plan_list, plan_marks, plan_of, plan_in, marks_in}
 use Rattle.planning.specs.Existence.{Demand3, Bounded, Ceiling, Recovers}
-use Rattle.task.specs.Task.{task_in}
 use Rattle.answers.specs.Plans.{answer_of}
-use Rattle.repair.specs.Answers.{room_in}
-use Rattle.planner.specs.Drafts.{Painted}
-use Rattle.planner.proofs.Drafts.{Ended, plan_called, called_stopped, called_ran}
+use Rattle.planner.proofs.Drafts.{Ended, plan_called}
 use Rattle.planner.proofs.Settled.{plan_settled, blanked}
 use Rattle.planner.proofs.plan.Goals as goal
-use Rattle.planner.proofs.plan.Goals.{After-with_task-r, After-finish}
+use Rattle.planner.proofs.plan.Goals.{After-plan_record-r, After-finish}
 
-ended : (c : After-with_task-r) → let s = c.args.bytes.now in let n = length c.args.plan.now in let w = length c.args.work.now in let m = length c.args.marks.now in let t = task_of s in
-    Ended (plan_call s n w m) (plan_of t) (marks t (relaxed_plan t)) c.with_task-r.new.list c.with_task-r.new.marks c.with_task-r.result
+ended : (c : After-plan_record-r) → let s = c.args.bytes.now in let n = length c.args.plan.now in let w = length c.args.work.now in let m = length c.args.marks.now in let t = task_of s in
+    Ended (plan_call s n w m) (plan_of t) (marks t (relaxed_plan t)) c.plan_record-r.new.plan c.plan_record-r.new.marks c.plan_record-r.result
 ended c =
     let n = length c.args.plan.now in
     let w = length c.args.work.now in
     let m = length c.args.marks.now in
-    plan_called c.args.bytes.now [] n w m _ _ _ (elim c.with_task-r.ensures [
-      | inl S ↦ called_stopped false c.args.bytes.now [] _ _ _ _ _ _ S
-      | inr R ↦ let p : Painted false (task_in R.task.now) [] (room_in R.list.now c.args.work.now R.marks.now) R.list'.now R.marks'.now c.with_task-r.result = search rules in
-          called_ran _ _ false c.args.bytes.now [] c.args.work.now _ _ _ _ _ R p
-    ])
+    plan_called c.args.bytes.now [] n w m _ _ _ c.plan_record-r.ensures
 
-settled : (c : After-finish) → let s = c.args.bytes.now in let n = length c.args.plan.now in let w = length c.args.work.now in let m = length c.args.marks.now in let r = c.with_task-r.result in let k = relaxed_plan (task_of s) in
-    Ended (plan_call s n w m) (plan_of (task_of s)) (marks (task_of s) (relaxed_plan (task_of s))) c.with_task-r.new.list c.with_task-r.new.marks r → (c.finish.new.plan ≡ plan_list s n w m) × (c.finish.new.marks ≡ plan_marks s n w m)
+settled : (c : After-finish) → let s = c.args.bytes.now in let n = length c.args.plan.now in let w = length c.args.work.now in let m = length c.args.marks.now in let r = c.plan_record-r.result in let k = relaxed_plan (task_of s) in
+    Ended (plan_call s n w m) (plan_of (task_of s)) (marks (task_of s) (relaxed_plan (task_of s))) c.plan_record-r.new.plan c.plan_record-r.new.marks r → (c.finish.new.plan ≡ plan_list s n w m) × (c.finish.new.marks ≡ plan_marks s n w m)
     × Demand3 s n w m (answer_of r) (plan_in (answer_of r) c.finish.new.plan)
     × Bounded s k (answer_of r) (plan_in (answer_of r) c.finish.new.plan) × Ceiling s k (answer_of r)
     × Recovers s k (answer_of r) (plan_in (answer_of r) c.finish.new.plan) (marks_in (answer_of r) c.finish.new.marks)
@@ -40,28 +30,28 @@ settled c D =
     let n = length c.args.plan.now in
     let w = length c.args.work.now in
     let m = length c.args.marks.now in
-    plan_settled c.args.bytes.now n w m _ _ _ _ c.with_task-r.auto.list c.with_task-r.auto.marks _ D (record { list = c.finish.ensures.plan_after; bytes = c.finish.ensures.marks_after })
+    plan_settled c.args.bytes.now n w m _ _ _ _ c.plan_record-r.auto.plan c.plan_record-r.auto.marks _ D (record { list = c.finish.ensures.plan_after; bytes = c.finish.ensures.marks_after })
 
 pub returns-clause-result_value : goal.returns-clause-result_value
-returns-clause-result_value c = (ended (goal.at.returns-clause-result_value c).After-with_task-r).answer
+returns-clause-result_value c = (ended (goal.at.returns-clause-result_value c).After-plan_record-r).answer
 
 pub returns-clause-work_after : goal.returns-clause-work_after
 returns-clause-work_after c = blanked _ _ c.blank.ensures
 
 pub returns-clause-plan_after : goal.returns-clause-plan_after
-returns-clause-plan_after c = (settled (goal.at.returns-clause-plan_after c).After-finish (ended (goal.at.returns-clause-plan_after c).After-with_task-r)).0
+returns-clause-plan_after c = (settled (goal.at.returns-clause-plan_after c).After-finish (ended (goal.at.returns-clause-plan_after c).After-plan_record-r)).0
 
 pub returns-clause-marks_after : goal.returns-clause-marks_after
-returns-clause-marks_after c = (settled (goal.at.returns-clause-marks_after c).After-finish (ended (goal.at.returns-clause-marks_after c).After-with_task-r)).1
+returns-clause-marks_after c = (settled (goal.at.returns-clause-marks_after c).After-finish (ended (goal.at.returns-clause-marks_after c).After-plan_record-r)).1
 
 pub returns-clause-demand3 : goal.returns-clause-demand3
-returns-clause-demand3 c = (settled (goal.at.returns-clause-demand3 c).After-finish (ended (goal.at.returns-clause-demand3 c).After-with_task-r)).2
+returns-clause-demand3 c = (settled (goal.at.returns-clause-demand3 c).After-finish (ended (goal.at.returns-clause-demand3 c).After-plan_record-r)).2
 
 pub returns-clause-bounded : goal.returns-clause-bounded
-returns-clause-bounded c = (settled (goal.at.returns-clause-bounded c).After-finish (ended (goal.at.returns-clause-bounded c).After-with_task-r)).3
+returns-clause-bounded c = (settled (goal.at.returns-clause-bounded c).After-finish (ended (goal.at.returns-clause-bounded c).After-plan_record-r)).3
 
 pub returns-clause-ceiling : goal.returns-clause-ceiling
-returns-clause-ceiling c = (settled (goal.at.returns-clause-ceiling c).After-finish (ended (goal.at.returns-clause-ceiling c).After-with_task-r)).4
+returns-clause-ceiling c = (settled (goal.at.returns-clause-ceiling c).After-finish (ended (goal.at.returns-clause-ceiling c).After-plan_record-r)).4
 
 pub returns-clause-recovers : goal.returns-clause-recovers
-returns-clause-recovers c = (settled (goal.at.returns-clause-recovers c).After-finish (ended (goal.at.returns-clause-recovers c).After-with_task-r)).5
+returns-clause-recovers c = (settled (goal.at.returns-clause-recovers c).After-finish (ended (goal.at.returns-clause-recovers c).After-plan_record-r)).5

@@ -1,61 +1,51 @@
 -- As the planner, with the caller's list for the relaxed plan.
-use mathlib.Core.Logic.{inl, inr}
-use mathlib.Core.Bool.{true}
 use mathlib.Core.Path.{◌≡◌}
-use borrow.Author.Rules.{rules}
 use lib.ListN.{length}
 use Rattle.planning.specs.Record.{task_of}
 use Rattle.planning.specs.Repair.{repaired, marks}
 use Rattle.planning.specs.Calls.{repair_call, repair_list, repair_marks, plan_in, marks_in}
 use Rattle.planning.specs.Existence.{Bounded, Ceiling, Recovers}
-use Rattle.task.specs.Task.{task_in}
 use Rattle.answers.specs.Plans.{answer_of}
-use Rattle.repair.specs.Answers.{room_in}
-use Rattle.planner.specs.Drafts.{Painted}
-use Rattle.planner.proofs.Drafts.{Ended, repair_called, called_stopped, called_ran}
+use Rattle.planner.proofs.Drafts.{Ended, repair_called}
 use Rattle.planner.proofs.Settled.{repair_settled, blanked}
 use Rattle.planner.proofs.repair.Goals as goal
-use Rattle.planner.proofs.repair.Goals.{After-with_task-r, After-finish}
+use Rattle.planner.proofs.repair.Goals.{After-repair_record-r, After-finish}
 
-ended : (c : After-with_task-r) → let s = c.args.bytes.now in let n = length c.args.plan.now in let w = length c.args.work.now in let m = length c.args.marks.now in let t = task_of s in
-    Ended (repair_call s c.args.list.now n w m) (repaired t c.args.list.now) (marks t c.args.list.now) c.with_task-r.new.list c.with_task-r.new.marks c.with_task-r.result
+ended : (c : After-repair_record-r) → let s = c.args.bytes.now in let n = length c.args.plan.now in let w = length c.args.work.now in let m = length c.args.marks.now in let t = task_of s in
+    Ended (repair_call s c.args.list.now n w m) (repaired t c.args.list.now) (marks t c.args.list.now) c.repair_record-r.new.plan c.repair_record-r.new.marks c.repair_record-r.result
 ended c =
     let n = length c.args.plan.now in
     let w = length c.args.work.now in
     let m = length c.args.marks.now in
-    repair_called c.args.bytes.now c.args.list.now n w m _ _ _ (elim c.with_task-r.ensures [
-      | inl S ↦ called_stopped true c.args.bytes.now c.args.list.now _ _ _ _ _ _ S
-      | inr R ↦ let p : Painted true (task_in R.task.now) c.args.list.now (room_in R.list.now c.args.work.now R.marks.now) R.list'.now R.marks'.now c.with_task-r.result = search rules in
-          called_ran _ _ true c.args.bytes.now c.args.list.now c.args.work.now _ _ _ _ _ R p
-    ])
+    repair_called c.args.bytes.now c.args.list.now n w m _ _ _ c.repair_record-r.ensures
 
-settled : (c : After-finish) → let s = c.args.bytes.now in let n = length c.args.plan.now in let w = length c.args.work.now in let m = length c.args.marks.now in let r = c.with_task-r.result in let k = c.args.list.now in
-    Ended (repair_call s c.args.list.now n w m) (repaired (task_of s) c.args.list.now) (marks (task_of s) c.args.list.now) c.with_task-r.new.list c.with_task-r.new.marks r → (c.finish.new.plan ≡ repair_list s k n w m) × (c.finish.new.marks ≡ repair_marks s k n w m)
+settled : (c : After-finish) → let s = c.args.bytes.now in let n = length c.args.plan.now in let w = length c.args.work.now in let m = length c.args.marks.now in let r = c.repair_record-r.result in let k = c.args.list.now in
+    Ended (repair_call s c.args.list.now n w m) (repaired (task_of s) c.args.list.now) (marks (task_of s) c.args.list.now) c.repair_record-r.new.plan c.repair_record-r.new.marks r → (c.finish.new.plan ≡ repair_list s k n w m) × (c.finish.new.marks ≡ repair_marks s k n w m)
     × Bounded s k (answer_of r) (plan_in (answer_of r) c.finish.new.plan) × Ceiling s k (answer_of r)
     × Recovers s k (answer_of r) (plan_in (answer_of r) c.finish.new.plan) (marks_in (answer_of r) c.finish.new.marks)
 settled c D =
     let n = length c.args.plan.now in
     let w = length c.args.work.now in
     let m = length c.args.marks.now in
-    repair_settled c.args.bytes.now c.args.list.now n w m _ _ _ _ c.with_task-r.auto.list c.with_task-r.auto.marks _ D (record { list = c.finish.ensures.plan_after; bytes = c.finish.ensures.marks_after })
+    repair_settled c.args.bytes.now c.args.list.now n w m _ _ _ _ c.repair_record-r.auto.plan c.repair_record-r.auto.marks _ D (record { list = c.finish.ensures.plan_after; bytes = c.finish.ensures.marks_after })
 
 pub returns-clause-result_value : goal.returns-clause-result_value
-returns-clause-result_value c = (ended (goal.at.returns-clause-result_value c).After-with_task-r).answer
+returns-clause-result_value c = (ended (goal.at.returns-clause-result_value c).After-repair_record-r).answer
 
 pub returns-clause-work_after : goal.returns-clause-work_after
 returns-clause-work_after c = blanked _ _ c.blank.ensures
 
 pub returns-clause-plan_after : goal.returns-clause-plan_after
-returns-clause-plan_after c = (settled (goal.at.returns-clause-plan_after c).After-finish (ended (goal.at.returns-clause-plan_after c).After-with_task-r)).0
+returns-clause-plan_after c = (settled (goal.at.returns-clause-plan_after c).After-finish (ended (goal.at.returns-clause-plan_after c).After-repair_record-r)).0
 
 pub returns-clause-marks_after : goal.returns-clause-marks_after
-returns-clause-marks_after c = (settled (goal.at.returns-clause-marks_after c).After-finish (ended (goal.at.returns-clause-marks_after c).After-with_task-r)).1
+returns-clause-marks_after c = (settled (goal.at.returns-clause-marks_after c).After-finish (ended (goal.at.returns-clause-marks_after c).After-repair_record-r)).1
 
 pub returns-clause-bounded : goal.returns-clause-bounded
-returns-clause-bounded c = (settled (goal.at.returns-clause-bounded c).After-finish (ended (goal.at.returns-clause-bounded c).After-with_task-r)).2
+returns-clause-bounded c = (settled (goal.at.returns-clause-bounded c).After-finish (ended (goal.at.returns-clause-bounded c).After-repair_record-r)).2
 
 pub returns-clause-ceiling : goal.returns-clause-ceiling
-returns-clause-ceiling c = (settled (goal.at.returns-clause-ceiling c).After-finish (ended (goal.at.returns-clause-ceiling c).After-with_task-r)).3
+returns-clause-ceiling c = (settled (goal.at.returns-clause-ceiling c).After-finish (ended (goal.at.returns-clause-ceiling c).After-repair_record-r)).3
 
 pub returns-clause-recovers : goal.returns-clause-recovers
-returns-clause-recovers c = (settled (goal.at.returns-clause-recovers c).After-finish (ended (goal.at.returns-clause-recovers c).After-with_task-r)).4
+returns-clause-recovers c = (settled (goal.at.returns-clause-recovers c).After-finish (ended (goal.at.returns-clause-recovers c).After-repair_record-r)).4

@@ -7,7 +7,7 @@ use Rattle.relax.proofs.relax_loaded.Goals as goal
 pub returns-in_err-n-clause-answer : goal.returns-in_err-n-clause-answer
 returns-in_err-n-clause-answer c =
     let p = err_from_is_err_and c.from_residual.result c.from_residual.ensures.1 in
-    rw (p.1, p.2) (relax_unsolved _ _ _ c.in_err-n.ensures)
+    rw (p.1, p.2) (relax_unsolved _ _ _ c.in_err-n.ensures).0
 
 pub returns-in_default-clause-answer : goal.returns-in_default-clause-answer
 returns-in_default-clause-answer c =

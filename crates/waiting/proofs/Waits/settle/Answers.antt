@@ -17,8 +17,8 @@ listed : (c : After-from-2) → let a = c.args in Listed a.task.now (get_or a.se
 listed c = loaded_listed _ c.requires.loaded.0 _ c.requires.loaded.2
 
 -- where the search starts and ends
-from_is : (c : After-from-2) → let a = c.args in c.from-2.result ≡ place_at a.self.now.work.now a.j
-from_is c = c.from-2.ensures ∙ ap (place_at c.args.self.now.work.now) c.from-r.ensures
+from_is : (c : After-from-2) → let a = c.args in c.from-2.result ≡ place_at a.work.now a.j
+from_is c = c.from-2.ensures ∙ ap (place_at c.args.work.now) c.from-r.ensures
 
 to_is : (c : After-from-2) → let a = c.args in c.eff_start-to.result ≡ eff_at a.task.now (get_or a.self.now.order.now a.j 0)
 to_is c = let a = c.args in c.eff_start-to.ensures ∙ ap (eff_at a.task.now) (c.from.ensures ∙ ap (λ r. get_or a.self.now.order.now r 0) c.from-r.ensures)
@@ -41,7 +41,7 @@ unmet-k-requires c =
 abbrev Searched : After-from-2 → ℕ → Type 0
 Searched d k = let a = d.args in let l = take d.eff_start-to.result a.task.now in Unmet (sets_of a.sets.now) l d.from-2.result (length l) k
 
-found : (d : After-from-2) (k : ℕ) → Searched d k → let a = d.args in Unmet (sets_of a.sets.now) a.task.now (place_at a.self.now.work.now a.j) (eff_at a.task.now (get_or a.self.now.order.now a.j 0)) k
+found : (d : After-from-2) (k : ℕ) → Searched d k → let a = d.args in Unmet (sets_of a.sets.now) a.task.now (place_at a.work.now a.j) (eff_at a.task.now (get_or a.self.now.order.now a.j 0)) k
 found d k U = rw (← from_is d, ← to_is d) (unmet_taken _ _ _ _ _ (within d) U)
 
 looked : (d : After-from-2) (k : ℕ) → Searched d k → let a = d.args in Looked (sets_of a.sets.now) a.task.now (get_or a.self.now.order.now a.j 0) k
@@ -65,7 +65,7 @@ returns-then-k-to-clause-settles c =
     let U = c.unmet-k.ensures in
     let W = waiting d _ U c.if-k-to.true _ c.from-then-k-to.ensures in
     let e = c.from-r.ensures in
-    waits _ (looked d _ U) _ W.small W.needs W.open' (rw e at c.hang.ensures.hung) c.hang.ensures.ready
+    waits _ (looked d _ U) _ W.small W.needs W.open' (rw e at c.hang.ensures) refl
 
 pub returns-else-k-to-clause-settles : goal.returns-else-k-to-clause-settles
 returns-else-k-to-clause-settles c =

@@ -9,4 +9,4 @@ use Rattle.waiting.proofs.Waits.settle_all.Given as goal
 
 abbrev pub invariant-loop : goal.invariant-loop
 invariant-loop l =
-    Sites l.task l.initial.self.order.now (actions (task_in l.task)) (sets_of l.sets) (has (facts_of l.owed)) l.self.work.now l.self.ready l.j (1024 - l.counter) × (l.self.order.now ≡ l.initial.self.order.now)
+    Sites l.task l.initial.self.order.now (actions (task_in l.task)) (sets_of l.sets) (has (facts_of l.owed)) l.work l.self.ready l.j (1024 - l.counter) × (l.self.order.now ≡ l.initial.self.order.now)

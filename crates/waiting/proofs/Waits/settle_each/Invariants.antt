@@ -8,4 +8,4 @@ use Rattle.waiting.proofs.Waits.settle_each.Given as goal
 
 abbrev pub invariant-loop-j : goal.invariant-loop-j
 invariant-loop-j l =
-    Entered l.task l.initial.self.order.now (sets_of l.sets) (has []) l.self.work.now l.self.ready l.j × (l.self.order.now ≡ l.initial.self.order.now)
+    Entered l.task l.initial.self.order.now (sets_of l.sets) (has []) l.work l.self.ready l.j × (l.self.order.now ≡ l.initial.self.order.now)

@@ -9,5 +9,5 @@ use Rattle.waiting.proofs.Waits.wake.Given as goal
 
 abbrev pub invariant-loop-k : goal.invariant-loop-k
 invariant-loop-k l =
-    Settled l.task l.initial.self.order.now (sets_of l.sets) (has (facts_of (drop l.k l.facts))) l.self.work.now l.self.ready
+    Settled l.task l.initial.self.order.now (sets_of l.sets) (has (facts_of (drop l.k l.facts))) l.work l.self.ready
     × (length l.facts ≡ 0 → l.self.ready ≡ l.initial.self.ready) × (l.self.order.now ≡ l.initial.self.order.now)
