@@ -13,7 +13,7 @@ ghost use Rattle.entries.specs.Entries.{Entries};
 ghost use Rattle.answers.specs.Plans.{answer_of};
 ghost use Rattle.counts.specs.Marks.{marks_for};
 ghost use Rattle.counts.specs.Counting.{Small, Few, Onward, judged_by};
-ghost use Rattle.counts.specs.Plain.{all_black, Plain, passed_by, Glides};
+ghost use Rattle.counts.specs.Plain.{all_black, Plain, passed_by, Gliding, Glides};
 
 use answers::{Plan, Reason, Refusal};
 use state::{Goals, Newest};
@@ -69,17 +69,16 @@ pub struct Glided {
     pub counts: Counts,
 }
 
-// The next step of the list, and those behind it as far as their actions are of the set `plain`. For these the values are not looked at,
-// so that the loop is small; it is never put into its caller, which would keep its own numbers in the registers of the loop.
+// The steps of the list from place c.steps on as far as their actions are of the set `plain`. For these the values are not looked at, so that
+// the loop is small; it is never put into its caller, whose own numbers would be moved about in each turn.
 #[inline(never)]
-pub fn glide(task: &[u16], newest: Newest, plan: &[u16], c: Counts, plain: &[u64; 16]) -> Glided
-    requires { Loaded task.now × Few c × (c.steps < length plan.now) × (length plan.now ≤ 32768) × Entries (task_in task.now) plan.now }
-    ensures { Glides (task_in task.now) plain.now plan.now (length plan.now) (values_of newest.values) c result }
+fn glide_on(task: &[u16], newest: Newest, plan: &[u16], c: Counts, plain: &[u64; 16]) -> Glided
+    requires { Loaded task.now × Few c × (c.steps ≤ length plan.now) × (length plan.now ≤ 32768) × Entries (task_in task.now) plan.now }
+    ensures { Gliding (task_in task.now) plain.now plan.now (length plan.now) (values_of newest.values) c (values_of result.newest.values) result.counts }
 {
-    let i = usize::from(plan[c.steps]);
-    let mut counts = counted(task, &newest.values, i, c);
-    let mut now = newest.step(task, i);
-    for x in &plan[c.steps + 1..] {
+    let mut counts = c;
+    let mut now = newest;
+    for x in &plan[c.steps..] {
         let i = usize::from(*x);
         if !sets::is_listed(plain, i) {
             break;
@@ -91,6 +90,24 @@ pub fn glide(task: &[u16], newest: Newest, plan: &[u16], c: Counts, plain: &[u64
         newest: now,
         counts,
     }
+}
+
+// The next step of the list, and those behind it as far as their actions are of the set `plain`. Often there is none behind it, in a caller's
+// list for one.
+pub fn glide(task: &[u16], newest: Newest, plan: &[u16], c: Counts, plain: &[u64; 16]) -> Glided
+    requires { Loaded task.now × Few c × (c.steps < length plan.now) × (length plan.now ≤ 32768) × Entries (task_in task.now) plan.now }
+    ensures { Glides (task_in task.now) plain.now plan.now (length plan.now) (values_of newest.values) c result }
+{
+    let i = usize::from(plan[c.steps]);
+    let counts = counted(task, &newest.values, i, c);
+    let now = newest.step(task, i);
+    if counts.steps == plan.len() {
+        return Glided {
+            newest: now,
+            counts,
+        };
+    }
+    glide_on(task, now, plan, counts, plain)
 }
 
 // Each precondition of action i is of a black variable.

@@ -1,4 +1,4 @@
--- Every step behind the first is by an action of the set; values and counts are those behind it.
+-- Every step is by an action of the set; values and counts are those behind it.
 use mathlib.Core.Path.{◌≡◌}
 use Prim.Native.Nat.{◌+◌}
 use lib.ListN.{length}
@@ -6,11 +6,11 @@ use Rattle.task.specs.Task.{task_in}
 use Rattle.sets.specs.Sets.{values_of}
 use Rattle.counts.specs.Counting.{Few}
 use Rattle.counts.specs.Plain.{Gliding}
-use Rattle.counts.proofs.glide.Given as goal
+use Rattle.counts.proofs.glide_on.Given as goal
 
 abbrev pub invariant-loop-x : goal.invariant-loop-x
 invariant-loop-x l = record {
   gliding : Gliding (task_in l.task) l.plain l.plan (length l.plan) (values_of l.initial.now.values) l.initial.counts (values_of l.now.values) l.counts;
   few : Few l.counts;
-  place : l.counts.steps ≡ l.fn.c.steps + 1 + l.x-index;
+  place : l.counts.steps ≡ l.fn.c.steps + l.x-index;
 }
