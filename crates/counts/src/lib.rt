@@ -99,15 +99,14 @@ pub fn glide(task: &[u16], newest: Newest, plan: &[u16], c: Counts, plain: &[u64
     ensures { Glides (task_in task.now) plain.now plan.now (length plan.now) (values_of newest.values) c result }
 {
     let i = usize::from(plan[c.steps]);
-    let counts = counted(task, &newest.values, i, c);
-    let now = newest.step(task, i);
-    if counts.steps == plan.len() {
-        return Glided {
-            newest: now,
-            counts,
-        };
+    let first = Glided {
+        counts: counted(task, &newest.values, i, c),
+        newest: newest.step(task, i),
+    };
+    if first.counts.steps == plan.len() {
+        return first;
     }
-    glide_on(task, now, plan, counts, plain)
+    glide_on(task, first.newest, plan, first.counts, plain)
 }
 
 // Each precondition of action i is of a black variable.
